@@ -1,0 +1,5 @@
+pub mod Numbers
+pub mod Packets
+pub mod Faults
+pub mod Names
+pub mod Built

@@ -1,0 +1,72 @@
+//! The packets that are built here.
+
+ghost use Rattle.std.specs.Prelude.{◌≡◌, ◌≤◌, ◌<◌, true, length};
+ghost use Rattle.packet_forms.specs.Packets.{is_command_id};
+ghost use Rattle.packet_forms.specs.Built.{command_of, telemetry_of, event_of, event_payload, primary_header, IsCommandOf, IsTelemetryOf};
+
+use crate::draft::Draft;
+use crate::name::Name;
+use crate::packet::{Packet, exclusive_or};
+
+/// A command of at most 248 payload bytes: sequence count 0, its checksum right.
+pub fn command(mid: u16, code: u8, payload: &[u8]) -> Packet
+    requires version { mid < 8192 }
+    requires kind { is_command_id mid ≡ true }
+    requires code { code ≤ 127 }
+    requires size { length payload.now ≤ 248 }
+    ensures bytes { result ≡ command_of mid code payload.now }
+    ensures reads_back { IsCommandOf mid code payload.now result }
+{
+    let mut draft = Draft::new();
+    begin(&mut draft, mid, payload.len() + 8);
+    draft.append(&[code]);
+    let sum = exclusive_or(draft.bytes());
+    draft.append(&[0xFF ^ (sum ^ exclusive_or(payload))]);
+    draft.append(payload);
+    draft.finish()
+}
+
+/// Telemetry of at most 244 payload bytes: subseconds 0, sequence count 0.
+pub fn telemetry(mid: u16, secs: u32, payload: &[u8]) -> Packet
+    requires version { mid < 8192 }
+    requires size { length payload.now ≤ 244 }
+    ensures bytes { result ≡ telemetry_of mid secs payload.now }
+    ensures reads_back { IsTelemetryOf mid payload.now result }
+{
+    let mut draft = Draft::new();
+    begin(&mut draft, mid, payload.len() + 12);
+    draft.append(&secs.to_be_bytes());
+    draft.append(&[0, 0]);
+    draft.append(payload);
+    draft.finish()
+}
+
+/// An event message of an application: `kind` is 2 for information and 3 for an error.
+pub fn event(name: Name, id: u16, kind: u16, secs: u32) -> Packet
+    ensures bytes { result ≡ event_of name id kind secs }
+    ensures reads_back { IsTelemetryOf 0x0808 (event_payload name id kind) result }
+{
+    let mut draft = Draft::new();
+    begin(&mut draft, 0x0808, 44);
+    draft.append(&secs.to_be_bytes());
+    draft.append(&[0, 0]);
+    draft.append(name.bytes());
+    draft.append(&id.to_be_bytes());
+    draft.append(&kind.to_be_bytes());
+    draft.append(&[0, 0, 0, 66, 0, 0, 0, 1]);
+    draft.finish()
+}
+
+#[tactic(auto, unfolding(crate::specs::Built::primary_header, crate::specs::Numbers::be16_bytes))]
+/// Begins a packet of `size` bytes with its header of six bytes.
+fn begin(draft: &mut Draft, mid: u16, size: usize)
+    requires fresh { length draft.old ≡ 0 }
+    requires long { 7 < size }
+    requires short { size ≤ 256 }
+    ensures header { draft.new ≡ primary_header mid size }
+    ensures six { length draft.new ≡ 6 }
+{
+    draft.append(&mid.to_be_bytes());
+    draft.append(&[0xC0, 0]);
+    draft.append(&((size - 7) as u16).to_be_bytes());
+}

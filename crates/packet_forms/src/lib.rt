@@ -1,0 +1,14 @@
+//! Space packets: their bytes, what they say, and the packets that are built here.
+#![tactic(auto)]
+
+mod build;
+mod draft;
+mod name;
+mod numbers;
+mod packet;
+mod pieces;
+
+pub use build::{command, event, telemetry};
+pub use name::{Counter, Name};
+pub use numbers::{be16, be32};
+pub use packet::{Packet, PacketFault};

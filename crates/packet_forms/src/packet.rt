@@ -1,0 +1,177 @@
+//! A space packet of 8 to 256 bytes.
+
+ghost use Rattle.std.specs.Prelude.{◌≡◌, ◌≤◌, ◌<◌, ◌==◌, length, take, IfOk, MatchResult, Some, None};
+ghost use Rattle.packet_forms.specs.Packets.{IsPacket, HoldsPacket, message_id, is_command, function_code, is_checksum_right, payload_of, checksum_of};
+ghost use Rattle.packet_forms.specs.Faults.{fault_of};
+ghost use Rattle.packet_forms.specs.Built.{with_sequence, IsRecounted};
+
+use crate::draft::Draft;
+use crate::numbers::be16;
+use crate::pieces::behind;
+use std::marker::Model;
+
+/// Why a list of bytes is no packet. The faults are asked in this order.
+#[derive(Clone, Copy, Debug, PartialEq, Eq)]
+pub enum PacketFault {
+    /// Under 8 bytes.
+    Short,
+    /// Over 256 bytes.
+    Long,
+    /// The top three bits aren't 0.
+    Version,
+    /// The sequence flags aren't 3.
+    Segmented,
+    /// The data length field plus 7 isn't the number of bytes.
+    Length,
+}
+
+/// A space packet, seen as the list of its 8 to 256 bytes.
+#[derive(Clone, Copy, Debug, PartialEq, Eq)]
+pub struct Packet {
+    len: u16,
+    bytes: [u8; 256],
+}
+
+impl Model for Packet {
+    ghost use Rattle.std.specs.Prelude.{List, ℕ, ◌-◌, ◌++◌, length, take, replicate};
+    ghost use Rattle.packet_forms.specs.Packets.{HoldsPacket};
+
+    ghost Value = { List ℕ };
+
+    ghost view = { λ a. take a.len a.bytes };
+
+    ghost invariant = { λ a. HoldsPacket a.len a.bytes };
+
+    ghost inverse = { λ p. record { len = length p; bytes = p ++ replicate (256 - length p) 0 } };
+}
+
+impl Packet {
+    /// The packet of these bytes, or the first of the faults.
+    pub fn from_bytes(bytes: &[u8]) -> Result<Packet, PacketFault>
+        ensures packet { IfOk result (λ packet. packet ≡ bytes.now) }
+        ensures fault { MatchResult result (λ _. fault_of bytes.now ≡ None) (λ fault. fault_of bytes.now ≡ Some fault) }
+    {
+        if let Some(fault) = find_fault(bytes) {
+            return Err(fault);
+        }
+        let mut draft = Draft::new();
+        draft.append(bytes);
+        Ok(draft.finish())
+    }
+
+    /// The packet in the first `len` places, which have zeros behind it.
+    pub(crate) fn of_places(len: u16, bytes: [u8; 256]) -> Packet
+        requires { HoldsPacket len bytes }
+        ensures { result ≡ take len bytes }
+    {
+        Packet { len, bytes }
+    }
+
+    /// The bytes of the packet.
+    pub fn bytes(&self) -> &[u8]
+        ensures value { result.now ≡ self.now }
+        ensures packet { IsPacket self.now }
+        ensures long { 8 ≤ length result.now }
+        ensures short { length result.now ≤ 256 }
+    {
+        &self.bytes[..self.len as usize]
+    }
+
+    /// The message id.
+    #[tactic(auto, unfolding(crate::specs::Packets::message_id))]
+    pub fn mid(&self) -> u16
+        ensures { result ≡ message_id self.now }
+    {
+        be16(self.bytes(), 0)
+    }
+
+    /// Whether type bit and secondary header flag are 1.
+    #[tactic(auto, unfolding(crate::specs::Packets::is_command, crate::specs::Packets::is_command_id))]
+    pub fn is_command(&self) -> bool
+        ensures { result ≡ is_command self.now }
+    {
+        self.mid() / 2048 % 4 == 3
+    }
+
+    /// The function code: the low seven bits of byte 6.
+    #[tactic(auto, unfolding(crate::specs::Packets::function_code))]
+    pub fn code(&self) -> u8
+        ensures { result ≡ function_code self.now }
+    {
+        self.bytes()[6] % 128
+    }
+
+    /// Whether the exclusive or of all bytes is 0xFF.
+    #[tactic(auto, unfolding(crate::specs::Packets::is_checksum_right))]
+    pub fn checksum_ok(&self) -> bool
+        ensures { result ≡ is_checksum_right self.now }
+    {
+        exclusive_or(self.bytes()) == 0xFF
+    }
+
+    /// The bytes from byte 8 of a command on, from byte 12 of any other packet on; none where it is shorter.
+    #[tactic(auto, unfolding(crate::specs::Packets::payload_of))]
+    pub fn payload(&self) -> &[u8]
+        ensures { result.now ≡ payload_of self.now }
+    {
+        if self.is_command() {
+            behind(self.bytes(), 8)
+        } else {
+            behind(self.bytes(), 12)
+        }
+    }
+
+    /// The packet with the sequence count `n`, which is under 16,384.
+    pub fn with_sequence(self, n: u16) -> Packet
+        requires { n < 16384 }
+        ensures bytes { result ≡ with_sequence n self }
+        ensures recounted { IsRecounted n self result }
+    {
+        let bytes = self.bytes();
+        let mut draft = Draft::new();
+        draft.append(&bytes[..2]);
+        draft.append(&(0xC000 + n).to_be_bytes());
+        draft.append(behind(bytes, 4));
+        draft.finish()
+    }
+}
+
+/// The first fault of these bytes.
+#[tactic(auto, unfolding(crate::specs::Faults::fault_of, crate::specs::Packets::version_of, crate::specs::Packets::sequence_flags, crate::specs::Packets::length_field))]
+fn find_fault(bytes: &[u8]) -> Option<PacketFault>
+    ensures { result ≡ fault_of bytes.now }
+{
+    if bytes.len() < 8 {
+        return Some(PacketFault::Short);
+    }
+    if bytes.len() > 256 {
+        return Some(PacketFault::Long);
+    }
+    if bytes[0] / 32 != 0 {
+        return Some(PacketFault::Version);
+    }
+    if bytes[2] / 64 != 3 {
+        return Some(PacketFault::Segmented);
+    }
+    if be16(bytes, 4) as usize + 7 != bytes.len() {
+        return Some(PacketFault::Length);
+    }
+    None
+}
+
+/// The exclusive or of all these bytes.
+#[tactic(auto, unfolding(crate::specs::Packets::checksum_of))]
+pub fn exclusive_or(bytes: &[u8]) -> u8
+    ensures { result ≡ checksum_of bytes.now }
+{
+    bytes.iter().fold(0, |sum, byte| sum ^ *byte)
+}
+
+impl Default for Packet {
+    /// The shortest packet: id 0 and two zero bytes behind the header.
+    fn default() -> Packet {
+        let mut draft = Draft::new();
+        draft.append(&[0, 0, 0xC0, 0, 0, 1, 0, 0]);
+        draft.finish()
+    }
+}
