@@ -27,7 +27,7 @@ impl Model for Name {
 }
 
 /// The execution counter of an application.
-#[derive(Clone, Copy, Debug, PartialEq, Eq)]
+#[derive(Clone, Copy, Debug, Default, PartialEq, Eq)]
 pub struct Counter {
     pub name: Name,
     pub value: u32,
@@ -135,4 +135,14 @@ fn is_name_byte(byte: u8) -> bool
         || (65 <= byte && byte <= 90)
         || (97 <= byte && byte <= 122)
         || byte == 95
+}
+
+impl Default for Name {
+    /// The name `A`.
+    #[tactic(auto, unfolding(crate::specs::Names::is_name, crate::specs::Names::is_name_text, crate::specs::Names::name_text))]
+    fn default() -> Name {
+        let mut bytes = [0; 20];
+        bytes[0] = b'A';
+        Name { bytes }
+    }
 }
