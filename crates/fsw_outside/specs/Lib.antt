@@ -3,3 +3,9 @@ pub mod Causes
 pub mod Files
 pub mod Bytes
 pub mod Written
+pub mod Memory
+pub mod Closed
+pub mod MemShelf
+pub mod MemSink
+pub mod FileShelf
+pub mod StdSink

@@ -1,4 +1,4 @@
-ghost use Rattle.std.specs.Prelude.{◌≡◌, ℕ, ◌<◌, ◌≤◌, Bool, List, length, Option, IsTrue, IfOk, is_ok};
+ghost use Rattle.std.specs.Prelude.{◌≡◌, ℕ, ◌<◌, ◌≤◌, Bool, List, [], length, Option, Some, IsTrue, IsFalse, IfOk, is_ok};
 ghost use Rattle.fsw_outside.specs.Told.{WhereTold};
 ghost use Rattle.fsw_outside.specs.Causes.{HasCause};
 ghost use Rattle.fsw_outside.specs.Files.{Content, Opens, Reads};
@@ -56,6 +56,9 @@ pub trait Shelf {
         ensures cause { HasCause (told self.new) (faults self.old) (faults self.new) result }
         ensures is_open { IsTrue (is_open self.new) }
         ensures mark { mark self.new ≡ mark self.old };
+
+    /// Nothing is left to read where no file is open.
+    ghost nothing_left: { (shelf : Self) → (content : Content) → told shelf ≡ Some content → IsFalse (is_open shelf) → content.rest ≡ [] };
 }
 
 /// Where bytes go.
