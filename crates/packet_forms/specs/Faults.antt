@@ -14,3 +14,11 @@ fault_of bytes =
     else if not (sequence_flags bytes == 3) then Some Segmented
     else if not (length_field bytes + 7 == length bytes) then Some Length
     else None
+
+-- the number of a fault, by the order in which they are asked
+abbrev pub fault_number : PacketFault → ℕ
+fault_number Short = 1
+fault_number Long = 2
+fault_number Version = 3
+fault_number Segmented = 4
+fault_number Length = 5

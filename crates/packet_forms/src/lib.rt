@@ -3,6 +3,7 @@
 
 mod build;
 mod draft;
+pub mod laws;
 mod name;
 mod numbers;
 mod packet;
@@ -12,3 +13,6 @@ pub use build::{command, event, telemetry};
 pub use name::{Counter, Name};
 pub use numbers::{be16, be32};
 pub use packet::{Packet, PacketFault};
+
+#[cfg(test)]
+mod tests;

@@ -2,7 +2,7 @@
 
 ghost use Rattle.std.specs.Prelude.{◌≡◌, ◌≤◌, ◌<◌, ◌==◌, length, take, IfOk, MatchResult, Some, None};
 ghost use Rattle.packet_forms.specs.Packets.{IsPacket, HoldsPacket, message_id, is_command, function_code, is_checksum_right, payload_of, checksum_of};
-ghost use Rattle.packet_forms.specs.Faults.{fault_of};
+ghost use Rattle.packet_forms.specs.Faults.{fault_of, fault_number};
 ghost use Rattle.packet_forms.specs.Built.{with_sequence, IsRecounted};
 
 use crate::draft::Draft;
@@ -23,6 +23,21 @@ pub enum PacketFault {
     Segmented,
     /// The data length field plus 7 isn't the number of bytes.
     Length,
+}
+
+impl PacketFault {
+    /// The number of the fault, from 1 to 5.
+    pub fn number(self) -> u8
+        ensures { result ≡ fault_number self }
+    {
+        match self {
+            PacketFault::Short => 1,
+            PacketFault::Long => 2,
+            PacketFault::Version => 3,
+            PacketFault::Segmented => 4,
+            PacketFault::Length => 5,
+        }
+    }
 }
 
 /// A space packet, seen as the list of its 8 to 256 bytes.

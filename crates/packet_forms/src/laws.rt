@@ -1,0 +1,25 @@
+//! Laws of the definitions, as contracts of functions that do nothing.
+
+ghost use Rattle.std.specs.Prelude.{◌≡◌, ◌≤◌, ◌<◌, ◌↔◌, ℕ, List, [], ◌∷◌, length, true, None, codes};
+ghost use Rattle.packet_forms.specs.Packets.{IsPacket, is_command_id};
+ghost use Rattle.packet_forms.specs.Faults.{fault_of};
+ghost use Rattle.packet_forms.specs.Names.{name_of};
+ghost use Rattle.packet_forms.specs.Built.{command_of, telemetry_of, event_of, with_sequence, IsCommandOf, IsTelemetryOf, IsRecounted};
+
+/// A list of bytes has no fault exactly where it is a packet.
+pub fn faultless_lists_are_packets()
+    ensures { (bytes : List ℕ) → (fault_of bytes ≡ None) ↔ IsPacket bytes }
+{}
+
+/// What is built reads back as what it was built from.
+pub fn built_packets_read_back()
+    ensures commands { (id code : ℕ) (payload : List ℕ) → id < 8192 → is_command_id id ≡ true → code ≤ 127 → length payload ≤ 248 → IsCommandOf id code payload (command_of id code payload) }
+    ensures telemetry { (id secs : ℕ) (payload : List ℕ) → id < 8192 → length payload ≤ 244 → IsTelemetryOf id payload (telemetry_of id secs payload) }
+    ensures recounted { (n : ℕ) (p : List ℕ) → n < 16384 → IsPacket p → IsRecounted n p (with_sequence n p) }
+{}
+
+/// The no-op of MM, and the event that answers it one second after the epoch 1000.
+pub fn worked_packets()
+    ensures noop { command_of 0x1888 0 [] ≡ 0x18 ∷ 0x88 ∷ 0xC0 ∷ 0x00 ∷ 0x00 ∷ 0x01 ∷ 0x00 ∷ 0xAE ∷ [] }
+    ensures event { event_of (name_of (codes "MM")) 16 2 1001 ≡ 0x08 ∷ 0x08 ∷ 0xC0 ∷ 0x00 ∷ 0x00 ∷ 0x25 ∷ 0x00 ∷ 0x00 ∷ 0x03 ∷ 0xE9 ∷ 0x00 ∷ 0x00 ∷ 0x4D ∷ 0x4D ∷ 0 ∷ 0 ∷ 0 ∷ 0 ∷ 0 ∷ 0 ∷ 0 ∷ 0 ∷ 0 ∷ 0 ∷ 0 ∷ 0 ∷ 0 ∷ 0 ∷ 0 ∷ 0 ∷ 0 ∷ 0 ∷ 0x00 ∷ 0x10 ∷ 0x00 ∷ 0x02 ∷ 0x00 ∷ 0x00 ∷ 0x00 ∷ 0x42 ∷ 0x00 ∷ 0x00 ∷ 0x00 ∷ 0x01 ∷ [] }
+{}
