@@ -1,17 +1,15 @@
 -- What the definitions of packets give: when there is no fault, and how what is built reads back.
-use Rattle.std.proofs.Common.{◌≡◌, ◌≤◌, ◌<◌, ℕ, ◌+◌, ◌-◌, ◌*◌, ◌/◌, ◌%◌, Bool, true, false, not, cond, List, [], ◌∷◌, ◌++◌, length, take, drop, refl, sym, ap, ◌∙◌, subst, arith, eq-eqb, eqb, ltb, lit<, lit≤, length-append, append_assoc}
+use Rattle.std.proofs.Common.{◌≡◌, ◌≤◌, ◌<◌, ℕ, ◌+◌, Bool, true, false, cond, List, [], ◌∷◌, ◌++◌, length, drop, refl, sym, ap, ◌∙◌, arith, eq-eqb, lit<, lit≤, length-append, append_assoc}
 use Rattle.std.proofs.lemmas.Bool.Decides.{nat_tests}
-use Rattle.std.specs.Prelude.{Option, Some, None, bit_xor}
+use Rattle.std.specs.Prelude.{None, bit_xor}
 use Rattle.std.specs.List.{fold}
 use Rattle.std.specs.Int.Bits.{xor_assoc, xor_self, xor_zero_r, xor_zero_l}
 use Rattle.std.proofs.lemmas.Nat.{xor_comm}
 use Rattle.std.proofs.lemmas.List.Sums.{fold-append}
-use Rattle.packet_forms.specs.Numbers.{be16_at, be32_at, be16_bytes, be32_bytes}
+use Rattle.packet_forms.specs.Numbers.{be16_at, be16_bytes, be32_bytes}
 use Rattle.packet_forms.specs.Packets.{IsPacket, message_id, version_of, sequence_flags, sequence_count, length_field, is_command, is_command_id, function_code, checksum_of, is_checksum_right, payload_of}
 use Rattle.packet_forms.specs.Faults.{fault_of}
 use Rattle.packet_forms.specs.Built.{primary_header, with_checksum, command_of, telemetry_of, event_payload, event_of, with_sequence, IsCommandOf, IsTelemetryOf, IsRecounted}
-use Rattle.packet_forms.specs.declared.packet.PacketFault.{PacketFault}
-use Rattle.packet_forms.specs.declared.packet.PacketFault.TheVariants.{Short, Long, Version, Segmented, Length}
 
 faultless_long : (bytes : List ℕ) → fault_of bytes ≡ None → 8 ≤ length bytes
 unfolding fault_of

@@ -1,7 +1,7 @@
 -- The text of a name, and the name of a text.
-use Rattle.std.proofs.Common.{◌≡◌, ◌≤◌, ◌<◌, ℕ, ◌+◌, ◌-◌, Bool, true, false, not, cond, ◌&&◌, List, [], ◌∷◌, ◌++◌, length, take, drop, refl, sym, ap, ◌∙◌, subst, arith, ltb, length-append, eq-eqb, append-nil, zero, suc}
-use Rattle.std.specs.Prelude.{Option, Some, None, ◌==◌, nat_le, replicate, position}
-use Rattle.std.specs.List.{list_all, before_first, position_or_len, prefix_len}
+use Rattle.std.proofs.Common.{◌≡◌, ◌≤◌, ◌<◌, ℕ, ◌+◌, ◌-◌, Bool, true, false, not, cond, ◌&&◌, List, [], ◌∷◌, ◌++◌, length, take, drop, refl, sym, ap, ◌∙◌, arith, length-append, eq-eqb, append-nil, zero, suc}
+use Rattle.std.specs.Prelude.{Some, None, ◌==◌, replicate, position}
+use Rattle.std.specs.List.{list_all, prefix_len}
 use Rattle.std.specs.Str.{IsAscii, IsUtf8}
 use Rattle.std.proofs.lemmas.Bool.{ltb-false}
 use Rattle.std.proofs.lemmas.Bool.Decides.{nat_tests}

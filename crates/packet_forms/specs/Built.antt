@@ -1,5 +1,5 @@
 -- The packets that are built here, byte by byte, and how they read back.
-use Rattle.std.specs.Prelude.{◌≡◌, ℕ, ◌+◌, ◌-◌, ◌/◌, ◌%◌, Bool, true, false, List, [], ◌∷◌, ◌++◌, length, take, drop, bit_xor}
+use Rattle.std.specs.Prelude.{◌≡◌, ℕ, ◌+◌, ◌-◌, true, false, List, [], ◌∷◌, ◌++◌, length, take, drop, bit_xor}
 use Rattle.packet_forms.specs.Numbers.{be16_bytes, be32_bytes}
 use Rattle.packet_forms.specs.Packets.{IsPacket, message_id, is_command, is_command_id, function_code, is_checksum_right, payload_of, sequence_count, checksum_of}
 

@@ -1,5 +1,5 @@
 -- What the bytes of a space packet say (CCSDS 133.0-B, with a command header made after the cFE's).
-use Rattle.std.specs.Prelude.{◌≡◌, ◌≤◌, ℕ, ◌+◌, ◌-◌, ◌*◌, ◌/◌, ◌%◌, ◌==◌, Bool, if◌then◌else◌, List, ◌++◌, length, take, drop, replicate, slice_index, bit_xor}
+use Rattle.std.specs.Prelude.{◌≡◌, ◌≤◌, ℕ, ◌+◌, ◌-◌, ◌/◌, ◌%◌, ◌==◌, Bool, if◌then◌else◌, List, ◌++◌, length, take, drop, replicate, slice_index, bit_xor}
 use Rattle.std.specs.List.{fold}
 use Rattle.packet_forms.specs.Numbers.{be16_at}
 
@@ -24,7 +24,7 @@ unfoldable pub length_field : List ℕ → ℕ
 length_field p = be16_at p 4
 
 -- an id whose type bit and secondary header flag are 1
-unfoldable pub is_command_id : ℕ → Bool
+abbrev pub is_command_id : ℕ → Bool
 is_command_id id = id / 2048 % 4 == 3
 
 -- a packet with the id of a command

@@ -101,7 +101,7 @@ impl Packet {
     }
 
     /// Whether type bit and secondary header flag are 1.
-    #[tactic(auto, unfolding(crate::specs::Packets::is_command, crate::specs::Packets::is_command_id))]
+    #[tactic(auto, unfolding(crate::specs::Packets::is_command))]
     pub fn is_command(&self) -> bool
         ensures { result ≡ is_command self.now }
     {

@@ -1,4 +1,4 @@
-use Rattle.std.proofs.Common.{◌≡◌, ◌++◌, ◌∷◌, [], ◌∙◌, ap, length, subst, sym, arith, refl}
+use Rattle.std.proofs.Common.{◌≡◌, ◌∙◌, ap, subst, sym, refl}
 use Rattle.packet_forms.specs.Built.{command_of, IsCommandOf}
 use Rattle.packet_forms.specs.Packets.{IsPacket, checksum_of}
 use Rattle.packet_forms.proofs.Forms.{command_reads_back, command_is}

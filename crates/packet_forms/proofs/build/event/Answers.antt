@@ -1,4 +1,4 @@
-use Rattle.std.proofs.Common.{◌≡◌, ◌++◌, ◌∙◌, ap, length, subst, sym, arith}
+use Rattle.std.proofs.Common.{◌≡◌, ◌∙◌, ap, length, subst, sym}
 use Rattle.packet_forms.specs.Built.{event_of, event_payload, IsTelemetryOf}
 use Rattle.packet_forms.specs.Numbers.{be16_bytes, be32_bytes}
 use Rattle.packet_forms.specs.Packets.{IsPacket}

@@ -1,5 +1,4 @@
-use Rattle.std.proofs.Common.{◌≡◌, ◌≤◌, ◌∙◌, length, sym, ap, true, arith, refl}
-use Rattle.std.specs.Prelude.{Some}
+use Rattle.std.proofs.Common.{◌≡◌, ◌∙◌, length, sym, ap, true, arith, refl}
 use Rattle.packet_forms.specs.Names.{is_name}
 use Rattle.packet_forms.proofs.NameForms.{twenty, put_name}
 use Rattle.packet_forms.proofs.name.Name.from_bytes.Goals as goal

@@ -1,4 +1,4 @@
-use Rattle.std.proofs.Common.{◌≡◌, ◌∙◌, sym, ap, true, subst}
+use Rattle.std.proofs.Common.{◌∙◌, sym, ap, subst}
 use Rattle.std.specs.Str.{IsUtf8}
 use Rattle.packet_forms.specs.Names.{is_name_text, name_text}
 use Rattle.packet_forms.proofs.NameForms.{text_in, text_utf8}

@@ -1,5 +1,4 @@
-use Rattle.std.proofs.Common.{◌≡◌, ◌≤◌, ◌+◌, ◌++◌, ◌∙◌, length, subst, sym, arith}
-use Rattle.packet_forms.specs.Packets.{IsPacket}
+use Rattle.std.proofs.Common.{◌≤◌, ◌∙◌, length, sym, arith}
 use Rattle.packet_forms.proofs.Forms.{packet_of_none}
 use Rattle.packet_forms.proofs.packet.Packet.from_bytes.Goals as goal
 

@@ -1,4 +1,4 @@
-use Rattle.std.proofs.Common.{◌≡◌, ◌++◌, ◌∙◌, length, subst, sym, arith, take, drop, refl}
+use Rattle.std.proofs.Common.{◌≡◌, ◌∙◌, subst, sym, refl}
 use Rattle.packet_forms.specs.Built.{with_sequence, IsRecounted}
 use Rattle.packet_forms.specs.Numbers.{be16_bytes}
 use Rattle.packet_forms.specs.Packets.{IsPacket}

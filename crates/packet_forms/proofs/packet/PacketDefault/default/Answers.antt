@@ -1,4 +1,4 @@
-use Rattle.std.proofs.Common.{◌≡◌, ◌++◌, [], ◌∷◌, ◌∙◌, ap, length, subst, sym, refl, lit≤, List, ℕ}
+use Rattle.std.proofs.Common.{[], ◌∷◌, refl, lit≤}
 use Rattle.packet_forms.specs.Numbers.{be16_at}
 use Rattle.packet_forms.specs.Packets.{IsPacket, version_of, sequence_flags, length_field}
 use Rattle.packet_forms.proofs.packet.PacketDefault.default.Goals as goal
