@@ -1,0 +1,20 @@
+-- A frame, as four lists.
+use Rattle.std.specs.Prelude.{ℕ, ◌+◌, List, [], length}
+use Rattle.packet_forms.specs.declared.name.Counter.{Counter}
+use Rattle.scenario.specs.declared.frame.App.{App}
+use Rattle.scenario.specs.declared.frame.Upset.{Upset}
+
+-- the four lists of a frame, each in the order of its lines
+pub record Frame : Type 0 where
+  pub sends : List (List ℕ)
+  pub counters : List Counter
+  pub upsets : List Upset
+  pub held : List App
+
+-- a frame of no items
+abbrev pub no_items : Frame
+no_items = record { sends = []; counters = []; upsets = []; held = [] }
+
+-- how many items a frame has
+abbrev pub items_in : Frame → ℕ
+items_in f = length f.sends + length f.counters + length f.upsets + length f.held

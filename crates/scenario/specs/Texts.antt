@@ -1,0 +1,117 @@
+-- What a text is, and what it gives: items, and then an ending.
+use Rattle.std.specs.Prelude.{◌≡◌, ℕ, ◌+◌, ◌==◌, Bool, true, false, ◌&&◌, ◌||◌, if◌then◌else◌, nat_lt, List, [], ◌∷◌, ◌++◌, length, Option, Some, None, Result, Ok, Err, ◌⊎◌}
+use Rattle.std.specs.List.{slice_split}
+use Rattle.memory_window.specs.declared.regions.Region.{Region as MemRegion}
+use Rattle.scenario.specs.declared.reason.Reason.{Reason}
+use Rattle.scenario.specs.declared.reason.Reason.TheVariants as reasons
+use Rattle.scenario.specs.declared.sentence.Place.TheVariants as places
+use Rattle.scenario.specs.declared.sentence.Sentence.{Sentence}
+use Rattle.scenario.specs.declared.sentence.Sentence.TheVariants as says
+use Rattle.scenario.specs.Sentences.{line_says}
+use Rattle.scenario.specs.FrameLists.{Frame}
+use Rattle.scenario.specs.Frames.{place_after, epoch_of, regions_of, frame_of, refusal}
+
+-- a text: its bytes so far, and whether its end was reached
+pub record Text : Type 0 where
+  pub bytes : List ℕ
+  pub closed : Bool
+
+-- a whole line without its LF, and how many bytes of the text it takes with it
+pub record Line : Type 0 where
+  pub bytes : List ℕ
+  pub takes : ℕ
+
+-- The lines that are whole, of the parts between LFs. Behind the last LF bytes are a line where the text is closed, or where there are 641 of them.
+abbrev pub whole_lines : Bool → List (List ℕ) → List Line
+whole_lines closed [] = []
+whole_lines closed (last ∷ []) =
+    if nat_lt 640 (length last) || (closed && nat_lt 0 (length last)) then record { bytes = last; takes = length last } ∷ [] else []
+whole_lines closed (part ∷ next ∷ more) = record { bytes = part; takes = length part + 1 } ∷ whole_lines closed (next ∷ more)
+
+-- what stood before a line: the sentences of good lines, the newest first, and the numbers of lines and of bytes
+pub record Before : Type 0 where
+  pub sentences : List Sentence
+  pub lines : ℕ
+  pub bytes : ℕ
+
+-- nothing stands before the first line
+abbrev pub nothing : Before
+nothing = record { sentences = []; lines = 0; bytes = 0 }
+
+-- a line has over 640 bytes, or ends past byte 16,777,216 of the text
+abbrev pub is_too_long : Before → Line → Bool
+is_too_long old line = nat_lt 640 (length line.bytes) || nat_lt 16777216 (old.bytes + line.takes)
+
+-- what a line says, unless that is refused behind what stood before
+abbrev pub unless_refused : List Sentence → Option Sentence → Result (Option Sentence) Reason
+unless_refused old None = Ok None
+unless_refused old (Some s) = elim (refusal old s) [ None ↦ Ok (Some s) | Some reason ↦ Err reason ]
+
+-- the same, where the line says anything
+abbrev pub then_unless : List Sentence → Result (Option Sentence) Reason → Result (Option Sentence) Reason
+then_unless old (Ok said) = unless_refused old said
+then_unless old (Err reason) = Err reason
+
+-- what a line says after what stood before it, or the first reason why it is bad
+unfoldable pub reads : Before → Line → Result (Option Sentence) Reason
+reads old line =
+    if is_too_long old line then Err reasons.TooLong
+    else then_unless old.sentences (line_says (place_after old.sentences) line.bytes)
+
+-- a good line is added to what stood before
+abbrev pub passed : Before → Line → Option Sentence → Before
+passed old line None = record old { lines = old.lines + 1; bytes = old.bytes + line.takes }
+passed old line (Some s) = record { sentences = s ∷ old.sentences; lines = old.lines + 1; bytes = old.bytes + line.takes }
+
+-- what a text gives, one after another: the header, by its epoch and its regions, and then whole frames
+pub data Given : Type 0 where
+  Head : ℕ → List MemRegion → Given
+  Whole : Frame → Given
+
+-- the `start` line gives the header, each `tick` line a frame
+abbrev pub given : List Sentence → Option Sentence → List Given
+given old None = []
+given old (Some says.Start) = Head (epoch_of old) (regions_of old) ∷ []
+given old (Some says.Tick) = Whole (frame_of old) ∷ []
+given old (Some _) = []
+
+-- how a text ends: at a bad line, with its number and its first reason; well; without `end`, after so many lines; or it is open
+pub data Ending : Type 0 where
+  Bad : ℕ → Reason → Ending
+  Ended : Ending
+  Unended : ℕ → Ending
+  Open : Ending
+
+-- how a text ends that has no bad line
+abbrev pub ending_at : Bool → Before → Ending
+ending_at false old = Open
+ending_at true old = elim (place_after old.sentences) [ places.Ended ↦ Ended | _ ↦ Unended old.lines ]
+
+-- the items of a text, and its ending
+pub record Reading : Type 0 where
+  pub items : List Given
+  pub ending : Ending
+
+-- a reading with items in front
+abbrev pub with_items : List Given → Reading → Reading
+with_items front r = record r { items = front ++ r.items }
+
+-- what whole lines give, after what stood before them
+unfoldable pub read : Bool → Before → List Line → Reading
+read closed old [] = record { items = []; ending = ending_at closed old }
+read closed old (line ∷ more) = elim (reads old line) [
+  | Ok said ↦ with_items (given old.sentences said) (read closed (passed old line said) more)
+  | Err reason ↦ record { items = []; ending = Bad (old.lines + 1) reason }
+]
+
+-- what bytes give, after what stood before them
+unfoldable pub read_bytes : Bool → Before → List ℕ → Reading
+read_bytes closed old bytes = read closed old (whole_lines closed (slice_split (λ b. b == 10) bytes))
+
+-- what a text gives: its items and its ending
+unfoldable pub reading : Text → Reading
+reading t = read_bytes t.closed nothing t.bytes
+
+-- what an open text gave, and what it gives when it has grown: the same items and more, or the same bad line
+abbrev pub Grows : Reading → Reading → Type 0
+Grows r q = ((r.ending ≡ Open) × ((rest : List Given) × (q.items ≡ r.items ++ rest))) ⊎ (q ≡ r)

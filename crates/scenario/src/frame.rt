@@ -1,0 +1,133 @@
+ghost use Rattle.std.specs.Prelude.{◌≡◌, ◌≤◌, ◌<◌, length};
+ghost use Rattle.arrayvec.specs.ArrayVec.{array_vec_len};
+ghost use Rattle.scenario.specs.FrameLists.{no_items, items_in};
+ghost use Rattle.scenario.specs.Frames.{with_item};
+
+use crate::sentence::Sentence;
+use arrayvec::ArrayVec;
+use packet_forms::{Counter, Packet};
+use std::marker::Model;
+
+/// One of the five applications.
+#[derive(Clone, Copy, Debug, Default, PartialEq, Eq)]
+pub enum App {
+    /// Health and Safety.
+    #[default]
+    Hs,
+    /// Checksum.
+    Cs,
+    /// Stored Command.
+    Sc,
+    /// Memory Manager.
+    Mm,
+    /// Memory Dwell.
+    Md,
+}
+
+/// A byte of memory that is set.
+#[derive(Clone, Copy, Debug, Default, PartialEq, Eq)]
+pub struct Upset {
+    /// The address.
+    pub at: u32,
+    /// The byte's new value.
+    pub value: u8,
+}
+
+/// What one frame is given, as four lists in the order of their lines: at most 64 items together.
+#[derive(Drop)]
+pub struct FrameInput {
+    sends: ArrayVec<Packet, 64>,
+    counters: ArrayVec<Counter, 64>,
+    upsets: ArrayVec<Upset, 64>,
+    held: ArrayVec<App, 64>,
+}
+
+impl Model for FrameInput {
+    ghost use Rattle.std.specs.Prelude.{◌≤◌, ◌+◌, length};
+    ghost use Rattle.scenario.specs.FrameLists.{Frame};
+
+    ghost Value = { Frame };
+
+    ghost view = { λ f. record { sends = f.sends.items; counters = f.counters.items; upsets = f.upsets.items; held = f.held.items } };
+
+    ghost invariant = { λ f. length f.sends.items + length f.counters.items + length f.upsets.items + length f.held.items ≤ 64 };
+}
+
+impl FrameInput {
+    pub(crate) fn new() -> Self
+        ensures { result ≡ no_items }
+    {
+        FrameInput {
+            sends: ArrayVec::new(),
+            counters: ArrayVec::new(),
+            upsets: ArrayVec::new(),
+            held: ArrayVec::new(),
+        }
+    }
+
+    pub(crate) fn clear(&mut self)
+        ensures { self.new ≡ no_items }
+    {
+        self.sends.clear();
+        self.counters.clear();
+        self.upsets.clear();
+        self.held.clear();
+    }
+
+    pub(crate) fn len(&self) -> usize
+        ensures value { result ≡ items_in self.now }
+        ensures limit { result ≤ 64 }
+    {
+        self.sends.len() + self.counters.len() + self.upsets.len() + self.held.len()
+    }
+
+    /// The packets that are sent.
+    pub fn sends(&self) -> &[Packet]
+        ensures value { result.now ≡ self.now.sends }
+        ensures limit { items_in self.now ≤ 64 }
+    {
+        self.sends.as_slice()
+    }
+
+    /// The execution counters.
+    pub fn counters(&self) -> &[Counter]
+        ensures value { result.now ≡ self.now.counters }
+        ensures limit { items_in self.now ≤ 64 }
+    {
+        self.counters.as_slice()
+    }
+
+    /// The bytes of memory that are set.
+    pub fn upsets(&self) -> &[Upset]
+        ensures value { result.now ≡ self.now.upsets }
+        ensures limit { items_in self.now ≤ 64 }
+    {
+        self.upsets.as_slice()
+    }
+
+    /// The applications that aren't woken.
+    pub fn held(&self) -> &[App]
+        ensures value { result.now ≡ self.now.held }
+        ensures limit { items_in self.now ≤ 64 }
+    {
+        self.held.as_slice()
+    }
+
+    /// Adds the item of a line; a line that is no item begins the frame anew.
+    pub(crate) fn add(&mut self, said: Sentence)
+        requires { items_in self.old < 64 }
+        ensures { self.new ≡ with_item self.old said }
+    {
+        match said {
+            Sentence::Send(packet) => self.sends.push(packet),
+            Sentence::Count(counter) => self.counters.push(counter),
+            Sentence::Upset(upset) => self.upsets.push(upset),
+            Sentence::Hold(app) => self.held.push(app),
+            Sentence::Epoch(_) => self.clear(),
+            Sentence::Region(_) => self.clear(),
+            Sentence::Start => self.clear(),
+            Sentence::Tick => self.clear(),
+            Sentence::End => self.clear(),
+        }
+    }
+}

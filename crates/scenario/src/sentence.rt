@@ -1,0 +1,312 @@
+ghost use Rattle.std.specs.Prelude.{◌≡◌, ◌≤◌, ◌∷◌, [], length, IfOk, Some, true};
+ghost use Rattle.scenario.specs.Words.{words};
+ghost use Rattle.scenario.specs.Sentences.{Gives, IsPlaced, verb_of, verb_said, stands_at, none, one, two, three, number_or_bad, epoch_line, region_line, send_line, app_line, upset_line, hold_line, bare_line, sentence_of, line_says, packet_of, verb_at};
+
+use crate::frame::{App, Upset};
+use crate::reason::Reason;
+use crate::words::{app, hex, kind, name, number, split_word};
+use memory_window::Region;
+use packet_forms::{Counter, Packet};
+
+/// Where a line stands.
+#[derive(Clone, Copy, Debug, PartialEq, Eq)]
+pub(crate) enum Place {
+    /// Nothing but skipped lines came before.
+    Opening,
+    /// Behind `epoch` and before `start`.
+    Header,
+    /// Directly behind `start` or a `tick`.
+    Between,
+    /// Behind an item of a frame.
+    Inside,
+    /// Behind `end`.
+    Ended,
+}
+
+/// The first word of a line.
+#[derive(Clone, Copy, Debug, PartialEq, Eq)]
+pub(crate) enum Verb {
+    Epoch,
+    Region,
+    Start,
+    Send,
+    App,
+    Upset,
+    Hold,
+    Tick,
+    End,
+}
+
+/// What a line says.
+#[derive(Drop)]
+pub(crate) enum Sentence {
+    Epoch(u32),
+    Region(Region),
+    Start,
+    Send(Packet),
+    Count(Counter),
+    Upset(Upset),
+    Hold(App),
+    Tick,
+    End,
+}
+
+#[tactic(auto, unfolding(crate::specs::Sentences::verb_of))]
+fn known_verb(word: &[u8]) -> Option<Verb>
+    ensures { result ≡ verb_of word.now }
+{
+    if word == b"epoch".as_slice() {
+        Some(Verb::Epoch)
+    } else if word == b"region".as_slice() {
+        Some(Verb::Region)
+    } else if word == b"start".as_slice() {
+        Some(Verb::Start)
+    } else if word == b"send".as_slice() {
+        Some(Verb::Send)
+    } else if word == b"app".as_slice() {
+        Some(Verb::App)
+    } else if word == b"upset".as_slice() {
+        Some(Verb::Upset)
+    } else if word == b"hold".as_slice() {
+        Some(Verb::Hold)
+    } else if word == b"tick".as_slice() {
+        Some(Verb::Tick)
+    } else if word == b"end".as_slice() {
+        Some(Verb::End)
+    } else {
+        None
+    }
+}
+
+fn may_stand(place: Place, verb: Verb) -> bool
+    ensures { result ≡ stands_at place verb }
+{
+    match place {
+        Place::Opening => matches!(verb, Verb::Epoch),
+        Place::Header => matches!(verb, Verb::Region | Verb::Start),
+        Place::Between => !matches!(verb, Verb::Epoch | Verb::Region | Verb::Start),
+        Place::Inside => !matches!(verb, Verb::Epoch | Verb::Region | Verb::Start | Verb::End),
+        Place::Ended => false,
+    }
+}
+
+fn no_word(rest: &[u8]) -> Result<(), Reason>
+    ensures { Gives (λ w. w) result (none (words rest.now)) }
+{
+    match split_word(rest) {
+        Some(_) => Err(Reason::Word),
+        None => Ok(()),
+    }
+}
+
+fn one_word(rest: &[u8]) -> Result<&[u8], Reason>
+    ensures word { Gives (λ w. w.now) result (one (words rest.now)) }
+    ensures size { IfOk result (λ w. length w.now ≤ length rest.now) }
+{
+    match split_word(rest) {
+        Some((word, rest)) => {
+            no_word(rest)?;
+            Ok(word)
+        }
+        None => Err(Reason::Word),
+    }
+}
+
+fn two_words(rest: &[u8]) -> Result<(&[u8], &[u8]), Reason>
+    ensures { Gives (λ pair. (pair.0.now, pair.1.now)) result (two (words rest.now)) }
+{
+    match split_word(rest) {
+        Some((first, rest)) => {
+            let second = one_word(rest)?;
+            Ok((first, second))
+        }
+        None => Err(Reason::Word),
+    }
+}
+
+fn three_words(rest: &[u8]) -> Result<(&[u8], &[u8], &[u8]), Reason>
+    ensures { Gives (λ parts. (parts.0.now, parts.1.now, parts.2.now)) result (three (words rest.now)) }
+{
+    match split_word(rest) {
+        Some((first, rest)) => {
+            let (second, third) = two_words(rest)?;
+            Ok((first, second, third))
+        }
+        None => Err(Reason::Word),
+    }
+}
+
+#[tactic(auto, unfolding(crate::specs::Sentences::number_or_bad))]
+fn number_or_bad(most: u32, word: &[u8]) -> Result<u32, Reason>
+    ensures value { result ≡ number_or_bad most word.now }
+    ensures bound { IfOk result (λ n. n ≤ most) }
+{
+    match number(most, word) {
+        Some(number) => Ok(number),
+        None => Err(Reason::Number),
+    }
+}
+
+/// `epoch N`
+#[tactic(auto, unfolding(crate::specs::Sentences::epoch_line))]
+fn epoch_line(rest: &[u8]) -> Result<Sentence, Reason>
+    ensures value { result ≡ epoch_line (words rest.now) }
+    ensures verb { IfOk result (λ said. verb_said said ≡ Verb.Epoch) }
+{
+    let word = one_word(rest)?;
+    let time = number_or_bad(4_294_000_000, word)?;
+    Ok(Sentence::Epoch(time))
+}
+
+/// `region KIND START LEN`
+#[tactic(auto, unfolding(crate::specs::Sentences::region_line))]
+fn region_line(rest: &[u8]) -> Result<Sentence, Reason>
+    ensures value { result ≡ region_line (words rest.now) }
+    ensures verb { IfOk result (λ said. verb_said said ≡ Verb.Region) }
+{
+    let (kind_word, start_word, len_word) = three_words(rest)?;
+    let kind = kind(kind_word).ok_or(Reason::Word)?;
+    let start = number_or_bad(u32::MAX, start_word)?;
+    let len = number_or_bad(u32::MAX, len_word)?;
+    Ok(Sentence::Region(Region { kind, start, len }))
+}
+
+fn packet(bytes: &[u8]) -> Result<Packet, Reason>
+    ensures { result ≡ packet_of bytes.now }
+{
+    match Packet::from_bytes(bytes) {
+        Ok(packet) => Ok(packet),
+        Err(_) => Err(Reason::Packet),
+    }
+}
+
+/// `send HEX`
+#[tactic(auto, unfolding(crate::specs::Sentences::send_line))]
+fn send_line(rest: &[u8]) -> Result<Sentence, Reason>
+    requires { length rest.now ≤ 640 }
+    ensures value { result ≡ send_line (words rest.now) }
+    ensures verb { IfOk result (λ said. verb_said said ≡ Verb.Send) }
+{
+    let word = one_word(rest)?;
+    let bytes = hex(word).ok_or(Reason::Packet)?;
+    let packet = packet(bytes.as_slice())?;
+    Ok(Sentence::Send(packet))
+}
+
+/// `app NAME N`
+#[tactic(auto, unfolding(crate::specs::Sentences::app_line))]
+fn app_line(rest: &[u8]) -> Result<Sentence, Reason>
+    ensures value { result ≡ app_line (words rest.now) }
+    ensures verb { IfOk result (λ said. verb_said said ≡ Verb.App) }
+{
+    let (name_word, value_word) = two_words(rest)?;
+    let name = name(name_word).ok_or(Reason::Word)?;
+    let value = number_or_bad(u32::MAX, value_word)?;
+    Ok(Sentence::Count(Counter { name, value }))
+}
+
+/// `upset ADDR VALUE`
+#[tactic(auto, unfolding(crate::specs::Sentences::upset_line))]
+fn upset_line(rest: &[u8]) -> Result<Sentence, Reason>
+    ensures value { result ≡ upset_line (words rest.now) }
+    ensures verb { IfOk result (λ said. verb_said said ≡ Verb.Upset) }
+{
+    let (at_word, value_word) = two_words(rest)?;
+    let at = number_or_bad(u32::MAX, at_word)?;
+    let value = number_or_bad(255, value_word)?;
+    Ok(Sentence::Upset(Upset {
+        at,
+        value: value as u8,
+    }))
+}
+
+/// `hold APP`
+#[tactic(auto, unfolding(crate::specs::Sentences::hold_line))]
+fn hold_line(rest: &[u8]) -> Result<Sentence, Reason>
+    ensures value { result ≡ hold_line (words rest.now) }
+    ensures verb { IfOk result (λ said. verb_said said ≡ Verb.Hold) }
+{
+    let word = one_word(rest)?;
+    let app = app(word).ok_or(Reason::Word)?;
+    Ok(Sentence::Hold(app))
+}
+
+fn start_line(rest: &[u8]) -> Result<Sentence, Reason>
+    ensures value { result ≡ bare_line Sentence.Start (words rest.now) }
+    ensures verb { IfOk result (λ said. verb_said said ≡ Verb.Start) }
+{
+    no_word(rest)?;
+    Ok(Sentence::Start)
+}
+
+fn tick_line(rest: &[u8]) -> Result<Sentence, Reason>
+    ensures value { result ≡ bare_line Sentence.Tick (words rest.now) }
+    ensures verb { IfOk result (λ said. verb_said said ≡ Verb.Tick) }
+{
+    no_word(rest)?;
+    Ok(Sentence::Tick)
+}
+
+fn end_line(rest: &[u8]) -> Result<Sentence, Reason>
+    ensures value { result ≡ bare_line Sentence.End (words rest.now) }
+    ensures verb { IfOk result (λ said. verb_said said ≡ Verb.End) }
+{
+    no_word(rest)?;
+    Ok(Sentence::End)
+}
+
+#[tactic(auto, unfolding(crate::specs::Sentences::sentence_of))]
+fn read_sentence(verb: Verb, rest: &[u8]) -> Result<Sentence, Reason>
+    requires { length rest.now ≤ 640 }
+    ensures value { result ≡ sentence_of verb (words rest.now) }
+    ensures verb { IfOk result (λ said. verb_said said ≡ verb) }
+{
+    match verb {
+        Verb::Epoch => epoch_line(rest),
+        Verb::Region => region_line(rest),
+        Verb::Start => start_line(rest),
+        Verb::Send => send_line(rest),
+        Verb::App => app_line(rest),
+        Verb::Upset => upset_line(rest),
+        Verb::Hold => hold_line(rest),
+        Verb::Tick => tick_line(rest),
+        Verb::End => end_line(rest),
+    }
+}
+
+#[tactic(auto, unfolding(crate::specs::Sentences::verb_at))]
+fn verb_at(place: Place, word: &[u8]) -> Result<Verb, Reason>
+    ensures value { result ≡ verb_at place word.now }
+    ensures placed { IfOk result (λ verb. stands_at place verb ≡ true) }
+{
+    match known_verb(word) {
+        Some(verb) => {
+            if may_stand(place, verb) {
+                Ok(verb)
+            } else {
+                Err(Reason::Word)
+            }
+        }
+        None => Err(Reason::Word),
+    }
+}
+
+/// What a line says that stands at a place: nothing where it is skipped.
+#[tactic(auto, unfolding(crate::specs::Sentences::line_says, crate::specs::Sentences::said))]
+pub(crate) fn line_says(place: Place, line: &[u8]) -> Result<Option<Sentence>, Reason>
+    requires { length line.now ≤ 640 }
+    ensures value { result ≡ line_says place line.now }
+    ensures placed { IfOk result (λ said. IsPlaced place said) }
+{
+    match split_word(line) {
+        Some((first, rest)) => {
+            if first[0] == b'#' {
+                return Ok(None);
+            }
+            let verb = verb_at(place, first)?;
+            let sentence = read_sentence(verb, rest)?;
+            Ok(Some(sentence))
+        }
+        None => Ok(None),
+    }
+}

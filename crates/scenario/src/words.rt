@@ -1,0 +1,207 @@
+ghost use Rattle.std.specs.Prelude.{◌≡◌, ◌≤◌, ◌<◌, ◌+◌, ◌*◌, ◌==◌, ◌∷◌, [], ℕ, Some, None, take, drop, length, not, option_map, MatchOption, IfSome, IsTrue, codes, nat_eq, ◌&&◌};
+ghost use Rattle.std.specs.List.{position, position_or_len, list_all, starts_with};
+ghost use Rattle.std.specs.Char.{is_digit, digit_value};
+ghost use Rattle.scenario.specs.Words.{words, digits, any_number, number, hex, name_said, app_of, kind_of};
+
+use crate::frame::App;
+use arrayvec::ArrayVec;
+use memory_window::Kind;
+use packet_forms::Name;
+
+/// The place of the first byte that is no space.
+fn first_other(bytes: &[u8]) -> Option<usize>
+    ensures { result ≡ position (λ b. not (b == 32)) bytes.now }
+{
+    bytes.iter().position(|b| !(*b == b' '))
+}
+
+/// The place of the first space.
+fn first_space(bytes: &[u8]) -> Option<usize>
+    ensures { result ≡ position (λ b. b == 32) bytes.now }
+{
+    bytes.iter().position(|b| *b == b' ')
+}
+
+/// How many bytes come before the first space.
+fn word_len(bytes: &[u8]) -> usize
+    ensures value { result ≡ position_or_len (λ b. b == 32) bytes.now }
+    ensures bound { result ≤ length bytes.now }
+{
+    match first_space(bytes) {
+        Some(len) => len,
+        None => bytes.len(),
+    }
+}
+
+/// The first word, and what comes behind it.
+pub(crate) fn split_word(line: &[u8]) -> Option<(&[u8], &[u8])>
+    ensures words { MatchOption result (words line.now ≡ []) (λ parts. words line.now ≡ parts.0.now ∷ words parts.1.now) }
+    ensures size { IfSome result (λ parts. length parts.0.now + length parts.1.now ≤ length line.now) }
+    ensures filled { IfSome result (λ parts. 0 < length parts.0.now) }
+{
+    match first_other(line) {
+        Some(start) => {
+            let (_, rest) = line.split_at(start);
+            Some(rest.split_at(word_len(rest)))
+        }
+        None => None,
+    }
+}
+
+/// The value of a digit or a letter, from 0 for `0` to 35 for `Z` and `z`, and 36 for any other byte.
+fn digit(byte: u8) -> u8
+    ensures value { result ≡ digit_value byte }
+    ensures bound { result ≤ 36 }
+{
+    if byte < b'0' {
+        36
+    } else if byte <= b'9' {
+        byte - b'0'
+    } else if byte < b'A' {
+        36
+    } else if byte <= b'Z' {
+        byte - b'A' + 10
+    } else if byte < b'a' {
+        36
+    } else if byte <= b'z' {
+        byte - b'a' + 10
+    } else {
+        36
+    }
+}
+
+/// The number that 1 to `room` digits write.
+#[tactic(auto, unfolding(crate::specs::Words::digits))]
+fn digits(base: u8, room: usize, word: &[u8]) -> Option<u64>
+    requires base { base ≤ 16 }
+    requires room { room ≤ 10 }
+    ensures { result ≡ digits base room word.now }
+{
+    if word.is_empty() || word.len() > room {
+        return None;
+    }
+    let mut value: u64 = 0;
+    for byte in word {
+        let digit = digit(*byte);
+        if digit >= base {
+            return None;
+        }
+        value = value * u64::from(base) + u64::from(digit);
+    }
+    Some(value)
+}
+
+fn is_hex_number(word: &[u8]) -> bool
+    ensures value { result ≡ starts_with nat_eq word.now (codes "0x") }
+    ensures long { IsTrue result → 2 ≤ length word.now }
+{
+    word.starts_with(b"0x")
+}
+
+fn any_number(word: &[u8]) -> Option<u64>
+    ensures { result ≡ any_number word.now }
+{
+    if is_hex_number(word) {
+        return digits(16, 8, &word[2..]);
+    }
+    digits(10, 10, word)
+}
+
+/// The number that a word writes, where it is at most `most`.
+#[tactic(auto, unfolding(crate::specs::Words::number))]
+pub(crate) fn number(most: u32, word: &[u8]) -> Option<u32>
+    ensures value { result ≡ number most word.now }
+    ensures bound { IfSome result (λ n. n ≤ most) }
+{
+    let number = any_number(word)?;
+    if number <= u64::from(most) {
+        return Some(number as u32);
+    }
+    None
+}
+
+fn is_hex_pair(high: u8, low: u8) -> bool
+    ensures { result ≡ (is_digit high 16 && is_digit low 16) }
+{
+    digit(high) < 16 && digit(low) < 16
+}
+
+fn hex_pair(high: u8, low: u8) -> u8
+    requires high { digit_value high < 16 }
+    requires low { digit_value low < 16 }
+    ensures { result ≡ 16 * digit_value high + digit_value low }
+{
+    16 * digit(high) + digit(low)
+}
+
+/// The bytes that pairs of hexadecimal digits write.
+pub(crate) fn hex(word: &[u8]) -> Option<ArrayVec<u8, 320>>
+    requires { length word.now ≤ 640 }
+    ensures { option_map (λ bytes. bytes.items) result ≡ hex word.now }
+{
+    let mut bytes = ArrayVec::new();
+    'pairs: for i in 0..word.len() / 2 {
+        let high = word[2 * i];
+        let low = word[2 * i + 1];
+        if !is_hex_pair(high, low) {
+            return None;
+        }
+        bytes.push(hex_pair(high, low));
+    }
+    if word.len() % 2 == 0 {
+        Some(bytes)
+    } else {
+        None
+    }
+}
+
+/// The name that a word writes.
+#[tactic(auto, unfolding(crate::specs::Words::name_said))]
+pub(crate) fn name(word: &[u8]) -> Option<Name>
+    ensures { result ≡ name_said word.now }
+{
+    match str::from_utf8(word) {
+        Ok(text) => Name::from_text(text),
+        Err(_) => None,
+    }
+}
+
+/// The application that a word names.
+#[tactic(auto, unfolding(crate::specs::Words::app_of))]
+pub(crate) fn app(word: &[u8]) -> Option<App>
+    ensures { result ≡ app_of word.now }
+{
+    if word == b"HS".as_slice() {
+        Some(App::Hs)
+    } else if word == b"CS".as_slice() {
+        Some(App::Cs)
+    } else if word == b"SC".as_slice() {
+        Some(App::Sc)
+    } else if word == b"MM".as_slice() {
+        Some(App::Mm)
+    } else if word == b"MD".as_slice() {
+        Some(App::Md)
+    } else {
+        None
+    }
+}
+
+/// The kind of memory that a word names.
+#[tactic(auto, unfolding(crate::specs::Words::kind_of))]
+pub(crate) fn kind(word: &[u8]) -> Option<Kind>
+    ensures { result ≡ kind_of word.now }
+{
+    if word == b"RAM".as_slice() {
+        Some(Kind::Ram)
+    } else if word == b"EEPROM".as_slice() {
+        Some(Kind::Eeprom)
+    } else if word == b"MEM8".as_slice() {
+        Some(Kind::Mem8)
+    } else if word == b"MEM16".as_slice() {
+        Some(Kind::Mem16)
+    } else if word == b"MEM32".as_slice() {
+        Some(Kind::Mem32)
+    } else {
+        None
+    }
+}
