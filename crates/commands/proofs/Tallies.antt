@@ -1,0 +1,75 @@
+-- The two counts at one more verdict.
+use Rattle.std.proofs.Common.{◌≡◌, ℕ, ◌+◌, ◌-◌, ◌%◌, ◌<◌, Bool, true, false, cond, not, List, [], ◌∷◌, ◌++◌, length, reverse, refl, sym, ap, ◌∙◌, length-append, arith, eq-eqb, ne_eqb, ◌≢◌}
+use Rattle.std.specs.Prelude.{count_by}
+use Rattle.std.specs.List.{after_last, prefix_len}
+use Rattle.std.proofs.lemmas.List.{reverse-append, drop-append-le}
+use Rattle.std.proofs.Math.ListN.{drop_of_length-le}
+use Rattle.histories.proofs.Fronts.{count_more}
+use Rattle.commands.specs.Verdicts.{is_accepted, is_refused, is_reset}
+use Rattle.commands.specs.Counting.{accepted_count, error_count, counts_of}
+use Rattle.commands.specs.declared.verdicts.Verdict.{Verdict}
+use Rattle.commands.specs.declared.verdicts.Verdict.TheVariants.{Refused, Accepted}
+use Rattle.commands.specs.declared.counting.Counts.{Counts}
+
+-- what stands after the last element that passes, at one more element
+pub after_last_passes : {A : Type 0} (p : A → Bool) (xs : List A) (x : A) → p x ≡ true → after_last p (xs ++ x ∷ []) ≡ []
+after_last_passes {A} p xs x passes = rw (reverse-append xs (x ∷ []), passes) (drop_of_length-le (xs ++ x ∷ []) (omega arith))
+
+pub after_last_other : {A : Type 0} (p : A → Bool) (xs : List A) (x : A) → p x ≡ false → after_last p (xs ++ x ∷ []) ≡ after_last p xs ++ x ∷ []
+after_last_other {A} p xs x other =
+    let behind : ℕ = prefix_len (λ (y : A). not (p y)) (reverse xs) in
+    let same : length xs + 1 - (1 + behind) ≡ length xs - behind = omega arith in
+    rw (reverse-append xs (x ∷ []), other, length-append xs (x ∷ []), same) (drop-append-le (length xs - behind) xs (x ∷ []) (omega arith))
+
+-- a count since the last reset, modulo 256
+more : (count here : ℕ) → (count + here) % 256 ≡ (count % 256 + here) % 256
+more count here = omega arith
+
+-- after an accepted reset
+pub counts_reset : (verdicts : List Verdict) (verdict : Verdict) → is_reset verdict ≡ true → counts_of (verdicts ++ verdict ∷ []) ≡ record { accepted = 0; errors = 0 }
+unfolding accepted_count error_count
+counts_reset verdicts verdict reset = rw (after_last_passes is_reset verdicts verdict reset) refl
+
+-- after every other verdict
+pub counts_other : (verdicts : List Verdict) (verdict : Verdict) → is_reset verdict ≡ false
+    → counts_of (verdicts ++ verdict ∷ []) ≡ record { accepted = (accepted_count verdicts + cond (is_accepted verdict) 1 0) % 256; errors = (error_count verdicts + cond (is_refused verdict) 1 0) % 256 }
+unfolding accepted_count error_count
+counts_other verdicts verdict other =
+    let since = after_last is_reset verdicts in
+    rw (after_last_other is_reset verdicts verdict other, count_more is_accepted since verdict, count_more is_refused since verdict, more (count_by is_accepted since) (cond (is_accepted verdict) 1 0), more (count_by is_refused since) (cond (is_refused verdict) 1 0)) refl
+
+-- no verdict yet
+pub counts_none : counts_of [] ≡ record { accepted = 0; errors = 0 }
+unfolding accepted_count error_count
+counts_none = refl
+
+-- a count is below 256
+pub few_counted : (verdicts : List Verdict) → (accepted_count verdicts < 256) × (error_count verdicts < 256)
+unfolding accepted_count error_count
+few_counted verdicts = (omega arith, omega arith)
+
+-- the counts that are kept, at each kind of verdict
+pub note_reset : (verdicts : List Verdict) (code : ℕ) → code ≡ 1 → ◌≡◌ {A = Counts} (record { accepted = 0; errors = 0 }) (counts_of (verdicts ++ Accepted code ∷ []))
+note_reset verdicts code one = sym (counts_reset verdicts (Accepted code) (eq-eqb code 1 one))
+
+pub note_accepted : (counts : Counts) (verdicts : List Verdict) (code : ℕ) → counts ≡ counts_of verdicts → code ≢ 1
+    → ◌≡◌ {A = Counts} (record { accepted = (counts.accepted + 1) % 256; errors = counts.errors }) (counts_of (verdicts ++ Accepted code ∷ []))
+note_accepted counts verdicts code counted other =
+    let few = few_counted verdicts in
+    let same : (error_count verdicts + 0) % 256 ≡ error_count verdicts = omega arith in
+    rw counted (sym (counts_other verdicts (Accepted code) (ne_eqb code 1 other) ∙ ap (λ (n : ℕ). let all : Counts = record { accepted = (accepted_count verdicts + 1) % 256; errors = n } in all) same))
+
+pub note_refused : (counts : Counts) (verdicts : List Verdict) (reason : ℕ) → counts ≡ counts_of verdicts
+    → ◌≡◌ {A = Counts} (record { accepted = counts.accepted; errors = (counts.errors + 1) % 256 }) (counts_of (verdicts ++ Refused reason ∷ []))
+note_refused counts verdicts reason counted =
+    let few = few_counted verdicts in
+    let same : (accepted_count verdicts + 0) % 256 ≡ accepted_count verdicts = omega arith in
+    rw counted (sym (counts_other verdicts (Refused reason) refl ∙ ap (λ (n : ℕ). let all : Counts = record { accepted = n; errors = (error_count verdicts + 1) % 256 } in all) same))
+
+pub note_neither : (counts : Counts) (verdicts : List Verdict) (verdict : Verdict) → counts ≡ counts_of verdicts → is_reset verdict ≡ false → is_accepted verdict ≡ false → is_refused verdict ≡ false
+    → counts ≡ counts_of (verdicts ++ verdict ∷ [])
+note_neither counts verdicts verdict counted not_reset not_accepted not_refused =
+    let few = few_counted verdicts in
+    let same_accepted : (accepted_count verdicts + 0) % 256 ≡ accepted_count verdicts = omega arith in
+    let same_errors : (error_count verdicts + 0) % 256 ≡ error_count verdicts = omega arith in
+    counted ∙ sym (counts_other verdicts verdict not_reset ∙ rw (not_accepted, not_refused, same_accepted, same_errors) refl)

@@ -1,0 +1,44 @@
+-- `along` and `decided` at one more element.
+use Rattle.std.proofs.Common.{◌≡◌, List, [], ◌∷◌, ◌++◌, refl, sym, ◌∙◌, ap, append_assoc, append-nil}
+use Rattle.std.proofs.lemmas.List.Sums.{fold_push}
+use Rattle.histories.specs.Words.{along, along_after, decided}
+
+-- behind some elements, at one more
+along_after_more : {A B : Type 0} (f : List A → A → B) (before xs : List A) (x : A) → along_after f before (xs ++ x ∷ []) ≡ along_after f before xs ++ f (before ++ xs) x ∷ []
+unfolding along_after
+along_after_more f before [] x = ap (λ front. f front x ∷ []) (sym (append-nil before))
+along_after_more f before (y ∷ ys) x =
+    ap (λ more. f before y ∷ more) (along_after_more f (before ++ y ∷ []) ys x
+    ∙ ap (λ front. along_after f (before ++ y ∷ []) ys ++ f front x ∷ []) (append_assoc before (y ∷ []) ys))
+
+-- at one more element
+pub along_more : {A B : Type 0} (f : List A → A → B) (xs : List A) (x : A) → along f (xs ++ x ∷ []) ≡ along f xs ++ f xs x ∷ []
+unfolding along
+along_more f xs x = along_after_more f [] xs x
+
+-- of no elements
+pub along_none : {A B : Type 0} (f : List A → A → B) → along f [] ≡ []
+unfolding along along_after
+along_none f = refl
+
+-- of as many elements
+along_after_same : {A B : Type 0} (f g : List A → A → B) → ((before : List A) (x : A) → f before x ≡ g before x) → (before xs : List A) → along_after f before xs ≡ along_after g before xs
+unfolding along_after
+along_after_same f g same before [] = refl
+along_after_same f g same before (x ∷ xs) =
+    ap (λ y. y ∷ along_after f (before ++ x ∷ []) xs) (same before x) ∙ ap (λ ys. g before x ∷ ys) (along_after_same f g same (before ++ x ∷ []) xs)
+
+-- two functions that agree at each element
+pub along_same : {A B : Type 0} (f g : List A → A → B) → ((before : List A) (x : A) → f before x ≡ g before x) → (xs : List A) → along f xs ≡ along g xs
+unfolding along
+along_same f g same xs = along_after_same f g same [] xs
+
+-- decisions at one more element
+pub decided_more : {A B : Type 0} (f : List (A × B) → A → B) (xs : List A) (x : A) → decided f (xs ++ x ∷ []) ≡ decided f xs ++ (x, f (decided f xs) x) ∷ []
+unfolding decided
+decided_more {A} {B} f xs x = fold_push (λ (earlier : List (A × B)) (y : A). earlier ++ (y, f earlier y) ∷ []) [] xs x
+
+-- decisions on no elements
+pub decided_none : {A B : Type 0} (f : List (A × B) → A → B) → decided f [] ≡ []
+unfolding decided
+decided_none f = refl
