@@ -1,0 +1,91 @@
+-- One pipe, and the six pipes of the bus.
+use Rattle.std.specs.Prelude.{◌≡◌, ℕ, ◌==◌, ◌||◌, if◌then◌else◌, List, [], ◌∷◌, ◌++◌, length, count_by, nat_le, Option, Some, None}
+use Rattle.packet_forms.specs.Packets.{message_id}
+use Rattle.bus_pipes.specs.declared.names.PipeName.{PipeName}
+use Rattle.bus_pipes.specs.declared.names.PipeName.TheVariants.{Hs, HsEv, Cs, Sc, Mm, Md}
+use Rattle.bus_pipes.specs.declared.names.Offer.{Offer}
+use Rattle.bus_pipes.specs.declared.names.Offer.TheVariants as offers
+
+-- a pipe: the packets that it holds, the first one first, and how many packets and how many of one id it holds at most
+pub record PipeState : Type 0 where
+  pub packets : List (List ℕ)
+  pub depth : ℕ
+  pub limit : ℕ
+
+-- how many of these packets have an id
+unfoldable pub count_of_id : ℕ → List (List ℕ) → ℕ
+count_of_id id packets = count_by (λ p. message_id p == id) packets
+
+-- what becomes of a packet that is offered to a pipe: the limit for its id is asked first, then the depth
+unfoldable pub offered : PipeState → List ℕ → Offer
+offered pipe p =
+    if nat_le pipe.limit (count_of_id (message_id p) pipe.packets) then offers.Limit
+    else if nat_le pipe.depth (length pipe.packets) then offers.Full
+    else offers.Kept
+
+-- the packets that a pipe holds after an offer: one that is kept becomes the last one
+abbrev pub held_after : List (List ℕ) → List ℕ → Offer → List (List ℕ)
+held_after packets p offers.Kept = packets ++ p ∷ []
+held_after packets p offers.Limit = packets
+held_after packets p offers.Full = packets
+
+-- the packets of the six pipes
+pub record Pipes : Type 0 where
+  pub hs : List (List ℕ)
+  pub hs_ev : List (List ℕ)
+  pub cs : List (List ℕ)
+  pub sc : List (List ℕ)
+  pub mm : List (List ℕ)
+  pub md : List (List ℕ)
+
+-- six pipes that hold nothing
+abbrev pub empty_pipes : Pipes
+empty_pipes = record { hs = []; hs_ev = []; cs = []; sc = []; mm = []; md = [] }
+
+-- the packets of a pipe
+abbrev pub packets_in : PipeName → Pipes → List (List ℕ)
+packets_in Hs pipes = pipes.hs
+packets_in HsEv pipes = pipes.hs_ev
+packets_in Cs pipes = pipes.cs
+packets_in Sc pipes = pipes.sc
+packets_in Mm pipes = pipes.mm
+packets_in Md pipes = pipes.md
+
+-- the pipes, where one has other packets
+abbrev pub with_packets : PipeName → List (List ℕ) → Pipes → Pipes
+with_packets Hs packets pipes = record pipes { hs = packets }
+with_packets HsEv packets pipes = record pipes { hs_ev = packets }
+with_packets Cs packets pipes = record pipes { cs = packets }
+with_packets Sc packets pipes = record pipes { sc = packets }
+with_packets Mm packets pipes = record pipes { mm = packets }
+with_packets Md packets pipes = record pipes { md = packets }
+
+-- how many packets a pipe holds at most, all together as well as of one id
+abbrev pub depth_of : PipeName → ℕ
+depth_of HsEv = 32
+depth_of _ = 16
+
+-- the pipe to which packets of an id go, if any
+unfoldable pub pipe_of : ℕ → Option PipeName
+pipe_of id =
+    if (id == 0x18AE) || (id == 0x18AF) then Some Hs
+    else if id == 0x0808 then Some HsEv
+    else if (id == 0x189F) || (id == 0x18A0) then Some Cs
+    else if (id == 0x18A9) || (id == 0x18AA) then Some Sc
+    else if (id == 0x1888) || (id == 0x1889) then Some Mm
+    else if (id == 0x1890) || (id == 0x1891) then Some Md
+    else None
+
+-- a pipe of this depth, which is its limit too
+pub record IsSized (size : ℕ) (pipe : PipeState) : Type 0 where
+  pub depth : pipe.depth ≡ size
+  pub limit : pipe.limit ≡ size
+
+-- each pipe of the bus has its depth
+pub record AreSized (hs hs_ev cs sc mm md : PipeState) : Type 0 where
+  pub hs_size : IsSized 16 hs
+  pub hs_ev_size : IsSized 32 hs_ev
+  pub cs_size : IsSized 16 cs
+  pub sc_size : IsSized 16 sc
+  pub mm_size : IsSized 16 mm
+  pub md_size : IsSized 16 md

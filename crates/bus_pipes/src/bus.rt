@@ -1,0 +1,163 @@
+//! The six pipes of the bus, and the routes to them.
+
+ghost use Rattle.std.specs.Prelude.{◌≡◌, ◌<◌, ◌≤◌, ◌+◌, ◌++◌, [], drop, length, slice_get, IfOk};
+ghost use Rattle.packet_forms.specs.Packets.{message_id};
+ghost use Rattle.bus_pipes.specs.Pipes.{empty_pipes, packets_in, with_packets, pipe_of, offered};
+ghost use Rattle.bus_pipes.specs.Held.{adding};
+ghost use Rattle.bus_pipes.specs.Delivery.{pipe_in, after_offer_to, after_offer, drop_of, after_offers, drops_from};
+
+use crate::batch::Batch;
+use crate::drops::Drops;
+use crate::names::{Dropped, Offer, PipeName};
+use crate::pipe::Pipe;
+use fsw_outside::NoMemory;
+use packet_forms::Packet;
+use std::alloc::Global;
+use std::marker::Model;
+
+/// The six pipes, seen as the packets of each.
+#[derive(Drop)]
+pub struct Bus {
+    hs: Pipe,
+    hs_ev: Pipe,
+    cs: Pipe,
+    sc: Pipe,
+    mm: Pipe,
+    md: Pipe,
+}
+
+impl Model for Bus {
+    ghost use Rattle.bus_pipes.specs.Pipes.{Pipes, AreSized};
+
+    ghost Value = { Pipes };
+
+    ghost view = { λ a. record { hs = a.hs.packets; hs_ev = a.hs_ev.packets; cs = a.cs.packets; sc = a.sc.packets; mm = a.mm.packets; md = a.md.packets } };
+
+    ghost invariant = { λ a. AreSized a.hs a.hs_ev a.cs a.sc a.mm a.md };
+}
+
+impl Bus {
+    /// Six empty pipes.
+    pub fn open(alloc: Global) -> Result<Bus, NoMemory>
+        ensures { IfOk result (λ bus. bus ≡ empty_pipes) }
+    {
+        let hs = Pipe::open(alloc, 16, 16)?;
+        let hs_ev = Pipe::open(alloc, 32, 32)?;
+        let cs = Pipe::open(alloc, 16, 16)?;
+        let sc = Pipe::open(alloc, 16, 16)?;
+        let mm = Pipe::open(alloc, 16, 16)?;
+        let md = Pipe::open(alloc, 16, 16)?;
+        Ok(Bus {
+            hs,
+            hs_ev,
+            cs,
+            sc,
+            mm,
+            md,
+        })
+    }
+
+    /// Offers a packet to the pipe of its id, if there is one. A packet that the pipe refuses is appended to `drops`.
+    pub fn route(&mut self, packet: Packet, drops: &mut Drops)
+        requires { length drops.old.items < drops.old.room }
+        ensures after { self.new ≡ after_offer self.old packet }
+        ensures drops { drops.new ≡ adding drops.old (drop_of self.old packet) }
+    {
+        let Some(pipe) = pipe_of(packet.mid()) else {
+            return;
+        };
+        match self.offer(pipe, packet) {
+            Offer::Kept => {}
+            Offer::Limit => drops.push(Dropped {
+                pipe,
+                full: false,
+                packet,
+            }),
+            Offer::Full => drops.push(Dropped {
+                pipe,
+                full: true,
+                packet,
+            }),
+        }
+    }
+
+    /// Takes the first packet of a pipe, or None where it is empty.
+    pub fn take(&mut self, pipe: PipeName) -> Option<Packet>
+        ensures first { result ≡ slice_get (packets_in pipe self.old) 0 }
+        ensures after { self.new ≡ with_packets pipe (drop 1 (packets_in pipe self.old)) self.old }
+    {
+        match pipe {
+            PipeName::Hs => self.hs.take(),
+            PipeName::HsEv => self.hs_ev.take(),
+            PipeName::Cs => self.cs.take(),
+            PipeName::Sc => self.sc.take(),
+            PipeName::Mm => self.mm.take(),
+            PipeName::Md => self.md.take(),
+        }
+    }
+
+    /// Takes all packets of a pipe.
+    pub fn take_all(&mut self, pipe: PipeName, batch: &mut Batch)
+        ensures taken { batch.new ≡ packets_in pipe self.old }
+        ensures after { self.new ≡ with_packets pipe [] self.old }
+    {
+        match pipe {
+            PipeName::Hs => self.hs.take_all(batch),
+            PipeName::HsEv => self.hs_ev.take_all(batch),
+            PipeName::Cs => self.cs.take_all(batch),
+            PipeName::Sc => self.sc.take_all(batch),
+            PipeName::Mm => self.mm.take_all(batch),
+            PipeName::Md => self.md.take_all(batch),
+        }
+    }
+
+    /// Routes packets in their order.
+    pub fn deliver(&mut self, packets: &[Packet], drops: &mut Drops)
+        requires { length drops.old.items + length packets.now ≤ drops.old.room }
+        ensures after { self.new ≡ after_offers self.old packets.now }
+        ensures drops { drops.new ≡ adding drops.old (drops_from self.old packets.now) }
+        ensures few { length drops.new.items ≤ length drops.old.items + length packets.now }
+    {
+        for packet in packets {
+            self.route(*packet, drops);
+        }
+    }
+
+    /// Offers a packet to a pipe.
+    #[tactic(auto, unfolding(crate::specs::Delivery::after_offer_to))]
+    fn offer(&mut self, pipe: PipeName, packet: Packet) -> Offer
+        ensures answer { result ≡ offered (pipe_in pipe self.old) packet }
+        ensures after { self.new ≡ after_offer_to pipe self.old packet }
+    {
+        match pipe {
+            PipeName::Hs => self.hs.offer(packet),
+            PipeName::HsEv => self.hs_ev.offer(packet),
+            PipeName::Cs => self.cs.offer(packet),
+            PipeName::Sc => self.sc.offer(packet),
+            PipeName::Mm => self.mm.offer(packet),
+            PipeName::Md => self.md.offer(packet),
+        }
+    }
+}
+
+/// The pipe to which packets of an id go, if any.
+#[tactic(auto, unfolding(crate::specs::Pipes::pipe_of))]
+fn pipe_of(id: u16) -> Option<PipeName>
+    ensures { result ≡ pipe_of id }
+{
+    if id == 0x18AE || id == 0x18AF {
+        Some(PipeName::Hs)
+    } else if id == 0x0808 {
+        Some(PipeName::HsEv)
+    } else if id == 0x189F || id == 0x18A0 {
+        Some(PipeName::Cs)
+    } else if id == 0x18A9 || id == 0x18AA {
+        Some(PipeName::Sc)
+    } else if id == 0x1888 || id == 0x1889 {
+        Some(PipeName::Mm)
+    } else if id == 0x1890 || id == 0x1891 {
+        Some(PipeName::Md)
+    } else {
+        None
+    }
+}

@@ -1,0 +1,16 @@
+//! Bounded pipes of packets, the bus that routes to them, and the lists that applications fill.
+#![tactic(auto)]
+
+mod batch;
+mod bus;
+mod drops;
+mod names;
+mod outbox;
+mod pipe;
+
+pub use batch::Batch;
+pub use bus::Bus;
+pub use drops::Drops;
+pub use names::{Counts, Dropped, Offer, Out, PipeName};
+pub use outbox::Outbox;
+pub use pipe::Pipe;
