@@ -1,1 +1,5 @@
 pub mod Regions
+pub mod Operations
+pub mod Memory
+pub mod Landing
+pub mod Access

@@ -1,6 +1,15 @@
-//! The memory of the bench: the map of its regions.
+//! The memory of the bench: the map of its regions, the operations on it and the faults of an access.
 #![tactic(auto)]
 
+mod access;
+mod chunk;
+mod landing;
+mod operations;
+mod ops;
 mod regions;
 
+pub use access::AccessFault;
+pub use chunk::Chunk;
+pub use operations::{MemOp, is_size};
+pub use ops::Ops;
 pub use regions::{Kind, Map, MapFault, Region, is_mapped};

@@ -1,0 +1,73 @@
+//! Operations on memory.
+ghost use Rattle.std.specs.Prelude.{◌≡◌, ◌-◌, ◌*◌, ◌/◌, ◌%◌, ◌^◌, ◌<◌, ◌≤◌, []};
+ghost use Rattle.memory_window.specs.Operations.{is_size, op_at, op_len, op_byte, IsSound};
+
+use crate::Chunk;
+
+/// A change of memory that is made at a frame's end.
+#[derive(Clone, Copy, Debug)]
+pub enum MemOp {
+    /// Writes the low `size` bits (8, 16 or 32) of `value`, the most significant byte first.
+    Poke { size: u8, at: u32, value: u32 },
+    /// Writes `len` times the byte.
+    Fill { at: u32, len: u32, byte: u8 },
+    /// Writes the bytes of `part`.
+    Bytes { at: u32, part: Chunk },
+    /// Protects an EEPROM region, or takes its protection away. Regions are counted from 1.
+    Protect { region: u32, on: bool },
+}
+
+/// Whether a poke or a peek may have this many bits: 8, 16 or 32.
+pub fn is_size(size: u8) -> bool
+    ensures { result ≡ is_size size }
+{
+    size == 8 || size == 16 || size == 32
+}
+
+impl MemOp {
+    /// The first address that the operation writes.
+    pub(crate) fn at(&self) -> u32
+        ensures { result ≡ op_at self.now }
+    {
+        match self {
+            MemOp::Poke { at, .. } => *at,
+            MemOp::Fill { at, .. } => *at,
+            MemOp::Bytes { at, .. } => *at,
+            MemOp::Protect { .. } => 0,
+        }
+    }
+
+    /// How many bytes it writes.
+    pub(crate) fn len(&self) -> u32
+        ensures { result ≡ op_len self.now }
+    {
+        match self {
+            MemOp::Poke { size, .. } => u32::from(*size / 8),
+            MemOp::Fill { len, .. } => *len,
+            MemOp::Bytes { part, .. } => part.len(),
+            MemOp::Protect { .. } => 0,
+        }
+    }
+
+    /// The `j`-th byte that it writes, counted from 0.
+    pub(crate) fn byte(&self, j: u32) -> u8
+        requires sound { IsSound self.now }
+        requires within { j < op_len self.now }
+        ensures { result ≡ op_byte [] self.now j }
+    {
+        match self {
+            MemOp::Poke { size, value, .. } => byte_of(*size, *value, j),
+            MemOp::Fill { byte, .. } => *byte,
+            MemOp::Bytes { part, .. } => part.bytes()[j as usize],
+            MemOp::Protect { .. } => 0,
+        }
+    }
+}
+
+// The j-th byte of a value of `size` bits, from the most significant one on.
+fn byte_of(size: u8, value: u32, j: u32) -> u8
+    requires { (size ≤ 32) × (j < size / 8) }
+    ensures { result ≡ value / 2 ^ (8 * (size / 8 - 1 - j)) % 256 }
+{
+    (value >> (8 * (u32::from(size / 8) - 1 - j)) & 0xff) as u8
+}
