@@ -9,7 +9,7 @@ use Rattle.commands.specs.Verdicts.{is_accepted, is_refused, is_reset}
 use Rattle.commands.specs.Counting.{accepted_count, error_count, counts_of}
 use Rattle.commands.specs.declared.verdicts.Verdict.{Verdict}
 use Rattle.commands.specs.declared.verdicts.Verdict.TheVariants.{Refused, Accepted}
-use Rattle.commands.specs.declared.counting.Counts.{Counts}
+use Rattle.bus_pipes.specs.declared.names.Counts.{Counts}
 
 -- what stands after the last element that passes, at one more element
 pub after_last_passes : {A : Type 0} (p : A → Bool) (xs : List A) (x : A) → p x ≡ true → after_last p (xs ++ x ∷ []) ≡ []

@@ -3,7 +3,7 @@ use Rattle.std.specs.Prelude.{ℕ, ◌%◌, List, count_by}
 use Rattle.std.specs.List.{after_last}
 use Rattle.commands.specs.Verdicts.{is_accepted, is_refused, is_reset}
 use Rattle.commands.specs.declared.verdicts.Verdict.{Verdict}
-use Rattle.commands.specs.declared.counting.Counts.{Counts}
+use Rattle.bus_pipes.specs.declared.names.Counts.{Counts}
 
 -- The accepted commands since the last accepted reset, that one not counted, modulo 256.
 unfoldable pub accepted_count : List Verdict → ℕ

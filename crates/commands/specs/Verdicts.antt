@@ -13,14 +13,19 @@ row_of rows code = find (λ row. row.code == code) rows
 abbrev pub is_length_allowed : CodeRow → List ℕ → Bool
 is_length_allowed row payload = nat_le row.least (length payload) && nat_le (length payload) row.most
 
--- The verdict on a command by its row alone: 2 where its code isn't listed, 3 where its payload has another length.
-abbrev pub verdict_by_row : Option CodeRow → List ℕ → Verdict
-verdict_by_row None p = Refused 2
-verdict_by_row (Some row) p = if is_length_allowed row (payload_of p) then Accepted row.code else Refused 3
+-- Whether a code is listed and allows a payload of this length.
+abbrev pub is_allowed : Option CodeRow → List ℕ → Bool
+is_allowed None payload = false
+is_allowed (Some row) payload = is_length_allowed row payload
+
+-- The verdict on a command by the row of its code alone: 2 where it isn't listed, 3 where its payload has another length.
+abbrev pub verdict_by_row : Option CodeRow → ℕ → List ℕ → Verdict
+verdict_by_row None code payload = Refused 2
+verdict_by_row (Some row) code payload = if is_length_allowed row payload then Accepted code else Refused 3
 
 -- The verdict on a command by the first three refusals alone: 1 where its checksum isn't right, then 2 and 3.
 unfoldable pub command_verdict : List CodeRow → List ℕ → Verdict
-command_verdict rows p = if is_checksum_right p then verdict_by_row (row_of rows (function_code p)) p else Refused 1
+command_verdict rows p = if is_checksum_right p then verdict_by_row (row_of rows (function_code p)) (function_code p) (payload_of p) else Refused 1
 
 -- The verdict on a packet by its id and the first three refusals: a request for housekeeping, a command, or neither.
 unfoldable pub first_verdict : ℕ → ℕ → List CodeRow → List ℕ → Verdict

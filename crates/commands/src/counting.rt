@@ -3,13 +3,7 @@ ghost use Rattle.commands.specs.Counting.{counts_of};
 ghost use Rattle.commands.specs.declared.verdicts.Verdict.{Verdict};
 
 use crate::verdicts::Verdict;
-
-/// How many commands were accepted and how many refused since both counts were last reset, modulo 256.
-#[derive(Clone, Copy, Debug, Default, PartialEq, Eq)]
-pub struct Counts {
-    pub accepted: u8,
-    pub errors: u8,
-}
+use bus_pipes::Counts;
 
 /// Counts one more verdict: an accepted code 1 sets both counts to 0 and isn't counted.
 pub fn note(counts: &mut Counts, verdict: Verdict)

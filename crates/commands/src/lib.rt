@@ -6,7 +6,7 @@ mod counting;
 mod verdicts;
 
 pub use answers::{answer, named};
-pub use counting::{Counts, note};
+pub use counting::note;
 pub use verdicts::{CodeRow, Verdict, first_verdict};
 
 #[cfg(test)]

@@ -1,5 +1,7 @@
-use crate::{CodeRow, Counts, Verdict, answer, first_verdict, named, note};
+use crate::{CodeRow, Verdict, answer, first_verdict, named, note};
+use bus_pipes::{Counts, Out, Outbox};
 use packet_forms::{Packet, command, event};
+use std::test::Fail;
 
 const ROWS: [CodeRow; 3] = [
     CodeRow {
@@ -79,14 +81,17 @@ fn counts_go_up_and_are_reset(rt: HostRuntime) {
 
 #[test]
 #[tactic(auto, unfolding(packet_forms::specs::Names::is_name_text))]
-fn commands_are_answered(rt: HostRuntime) {
+fn commands_are_answered(rt: HostRuntime) -> Result<(), Fail> {
     let name = named("MM");
-    for (verdict, want) in [
-        (Verdict::Accepted(1), Some(event(name, 17, 2, 1001))),
-        (Verdict::Refused(3), Some(event(name, 3, 3, 1001))),
-        (Verdict::Request, None),
-        (Verdict::Other, None),
-    ] {
-        assert!(rt; answer(name, verdict, 1001) == want);
-    }
+    let mut out = Outbox::open(rt.alloc(), 4)?;
+    answer(name, Verdict::Accepted(1), 1001, &mut out);
+    answer(name, Verdict::Request, 1001, &mut out);
+    answer(name, Verdict::Other, 1001, &mut out);
+    answer(name, Verdict::Refused(3), 1001, &mut out);
+    let want = [
+        Out::Made(event(name, 17, 2, 1001)),
+        Out::Made(event(name, 3, 3, 1001)),
+    ];
+    assert_eq!(rt; out.items(), want.as_slice());
+    Ok(())
 }

@@ -1,6 +1,6 @@
-ghost use Rattle.std.specs.Prelude.{◌≡◌, ◌&&◌, Option, length, nat_le};
+ghost use Rattle.std.specs.Prelude.{◌≡◌, ◌&&◌, ℕ, true, Option, length, nat_le};
 ghost use Rattle.packet_forms.specs.Packets.{payload_of};
-ghost use Rattle.commands.specs.Verdicts.{row_of, is_length_allowed, command_verdict, first_verdict};
+ghost use Rattle.commands.specs.Verdicts.{row_of, is_allowed, is_length_allowed, command_verdict, first_verdict};
 
 use packet_forms::Packet;
 
@@ -29,7 +29,8 @@ pub enum Verdict {
 /// one of the rows, 3 its payload's length isn't the row's.
 #[tactic(auto, unfolding(crate::specs::Verdicts::first_verdict))]
 pub fn first_verdict(packet: &Packet, command_id: u16, request_id: u16, rows: &[CodeRow]) -> Verdict
-    ensures { result ≡ first_verdict command_id request_id rows.now packet.now }
+    ensures verdict { result ≡ first_verdict command_id request_id rows.now packet.now }
+    ensures allowed { (code : ℕ) → result ≡ Verdict.Accepted code → is_allowed (row_of rows.now code) (payload_of packet.now) ≡ true }
 {
     let id = packet.mid();
     if id == request_id {
@@ -44,16 +45,18 @@ pub fn first_verdict(packet: &Packet, command_id: u16, request_id: u16, rows: &[
 // The verdict on a command by the first three refusals.
 #[tactic(auto, unfolding(crate::specs::Verdicts::command_verdict))]
 fn command_verdict(packet: &Packet, rows: &[CodeRow]) -> Verdict
-    ensures { result ≡ command_verdict rows.now packet.now }
+    ensures verdict { result ≡ command_verdict rows.now packet.now }
+    ensures allowed { (code : ℕ) → result ≡ Verdict.Accepted code → is_allowed (row_of rows.now code) (payload_of packet.now) ≡ true }
 {
     if !packet.checksum_ok() {
         return Verdict::Refused(1);
     }
-    match row_of(rows, packet.code()) {
+    let code = packet.code();
+    match row_of(rows, code) {
         None => Verdict::Refused(2),
         Some(row) => {
             if is_length_allowed(&row, packet.payload()) {
-                Verdict::Accepted(row.code)
+                Verdict::Accepted(code)
             } else {
                 Verdict::Refused(3)
             }
