@@ -1,30 +1,13 @@
 -- Access: what a read or an operation meets, and the fault that it has.
 use Rattle.std.specs.Prelude.{◌≡◌, ℕ, zero, suc, ◌+◌, ◌*◌, ◌/◌, ◌%◌, ◌^◌, ◌<◌, Bool, true, false, not, ◌&&◌, ◌||◌, nat_eq, IsTrue, List, [], ◌∷◌, length, fold, Option, None, Some, IsSome, Result, Ok, Err, slice_get, if◌then◌else◌}
-use Rattle.memory_window.specs.declared.regions.Kind.{Kind}
-use Rattle.memory_window.specs.declared.regions.Kind.TheVariants.{Eeprom, Ram, Mem8, Mem16, Mem32}
 use Rattle.memory_window.specs.declared.access.AccessFault.{AccessFault}
 use Rattle.memory_window.specs.declared.access.AccessFault.TheVariants.{Outside, Unaligned, WrongSize, Protected}
 use Rattle.memory_window.specs.declared.operations.MemOp.{MemOp}
 use Rattle.memory_window.specs.declared.operations.MemOp.TheVariants.{Poke, Fill, Bytes, Protect}
+use Rattle.memory_window.specs.Numbers.{number_of}
 use Rattle.memory_window.specs.Operations.{is_size}
-use Rattle.memory_window.specs.Memory.{Area, Memory, home, part_of, spans, is_eeprom}
-
--- whether memory of a kind may be read and written in units of so many bits
-abbrev pub allows : Kind → ℕ → Bool
-allows Mem8 size = nat_eq size 8
-allows Mem16 size = nat_eq size 16
-allows Mem32 size = nat_eq size 32
-allows _ size = true
-
--- of how many bytes the address and the length of a range of a kind must be multiples
-abbrev pub unit_of : Kind → ℕ
-unit_of Mem16 = 2
-unit_of Mem32 = 4
-unit_of _ = 1
-
--- the number that bytes spell, the most significant first
-abbrev pub number_of : List ℕ → ℕ
-number_of bytes = fold (λ n b. n * 256 + b) 0 bytes
+use Rattle.memory_window.specs.Regions.{allows, unit_of, spans, is_eeprom}
+use Rattle.memory_window.specs.Memory.{Area, Memory, home, part_of}
 
 -- a read of so many bits at an address, in the area in which its bytes lie
 abbrev pub read_in : ℕ → ℕ → Option Area → Result ℕ AccessFault

@@ -2,9 +2,7 @@
 use Rattle.std.specs.Prelude.{ℕ, ◌+◌, ◌-◌, Bool, true, false, ◌&&◌, nat_eq, nat_le, List, [], ◌∷◌, map, take, drop, find, Option, None, Some, option_map, slice_index, if◌then◌else◌}
 use Rattle.memory_block.specs.Zeros.{zeros}
 use Rattle.memory_window.specs.declared.regions.Region.{Region}
-use Rattle.memory_window.specs.declared.regions.Kind.{Kind}
-use Rattle.memory_window.specs.declared.regions.Kind.TheVariants.{Eeprom, Ram, Mem8, Mem16, Mem32}
-use Rattle.memory_window.specs.Regions.{total_of}
+use Rattle.memory_window.specs.Regions.{spans, is_eeprom, total_of}
 
 -- a region and its bytes
 pub record Area : Type 0 where
@@ -19,10 +17,6 @@ pub record Memory : Type 0 where
 -- the regions of areas
 abbrev pub regions_of : List Area → List Region
 regions_of areas = map (λ r. r.region) areas
-
--- whether a range of n bytes that begins at an address lies in a region
-abbrev pub spans : ℕ → ℕ → Region → Bool
-spans at n r = nat_le r.start at && nat_le (at + n) (r.start + r.len)
 
 -- the area in which a range of n bytes lies
 abbrev pub home : List Area → ℕ → ℕ → Option Area
@@ -53,11 +47,6 @@ upset_at m at value = record { areas = changed (λ a x. if nat_eq a at then valu
 abbrev pub cut : List Region → List ℕ → List Area
 cut [] xs = []
 cut (r ∷ rest) xs = record { region = r; bytes = take r.len xs } ∷ cut rest (drop r.len xs)
-
--- whether a region is EEPROM, which alone can be protected
-abbrev pub is_eeprom : Kind → Bool
-is_eeprom Eeprom = true
-is_eeprom _ = false
 
 -- memory at the start: all bytes are 0, and every EEPROM region is protected
 abbrev pub start_memory : List Region → Memory

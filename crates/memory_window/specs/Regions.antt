@@ -1,10 +1,35 @@
 -- Regions of memory: which addresses they have, and which lists of regions are a map.
-use Rattle.std.specs.Prelude.{◌≡◌, ℕ, ◌+◌, ◌<◌, ◌≤◌, ◌%◌, ◌^◌, Bool, false, not, ◌&&◌, ◌||◌, nat_eq, nat_le, nat_lt, List, [], ◌∷◌, length, sum_by, Option, None, Some, if◌then◌else◌}
+use Rattle.std.specs.Prelude.{◌≡◌, ℕ, ◌+◌, ◌<◌, ◌≤◌, ◌%◌, ◌^◌, Bool, true, false, not, ◌&&◌, ◌||◌, nat_eq, nat_le, nat_lt, List, [], ◌∷◌, length, sum_by, Option, None, Some, if◌then◌else◌}
 use Rattle.std.specs.List.{list_any}
 use Rattle.memory_window.specs.declared.regions.Region.{Region}
-use Rattle.memory_window.specs.declared.regions.Kind.TheVariants.{Ram}
+use Rattle.memory_window.specs.declared.regions.Kind.{Kind}
+use Rattle.memory_window.specs.declared.regions.Kind.TheVariants.{Ram, Eeprom, Mem8, Mem16, Mem32}
 use Rattle.memory_window.specs.declared.regions.MapFault.{MapFault}
 use Rattle.memory_window.specs.declared.regions.MapFault.TheVariants.{Empty, Overlap, TooBig, TooMany, Alignment}
+
+-- whether a region is EEPROM, which alone can be protected
+abbrev pub is_eeprom : Kind → Bool
+is_eeprom Ram = false
+is_eeprom Eeprom = true
+is_eeprom Mem8 = false
+is_eeprom Mem16 = false
+is_eeprom Mem32 = false
+
+-- whether memory of a kind may be read and written in units of so many bits
+abbrev pub allows : Kind → ℕ → Bool
+allows Ram size = true
+allows Eeprom size = true
+allows Mem8 size = nat_eq size 8
+allows Mem16 size = nat_eq size 16
+allows Mem32 size = nat_eq size 32
+
+-- of how many bytes the address and the length of a range of a kind must be multiples
+abbrev pub unit_of : Kind → ℕ
+unit_of Ram = 1
+unit_of Eeprom = 1
+unit_of Mem8 = 1
+unit_of Mem16 = 2
+unit_of Mem32 = 4
 
 -- whether a region has an address
 abbrev pub holds : ℕ → Region → Bool
@@ -13,6 +38,10 @@ holds at r = nat_le r.start at && nat_lt at (r.start + r.len)
 -- whether one of the regions has an address
 abbrev pub is_mapped : List Region → ℕ → Bool
 is_mapped regions at = list_any (holds at) regions
+
+-- whether a range of n bytes that begins at an address lies in a region
+abbrev pub spans : ℕ → ℕ → Region → Bool
+spans at n r = nat_le r.start at && nat_le (at + n) (r.start + r.len)
 
 -- whether two regions share an address: each begins before the other ends
 abbrev pub meet : Region → Region → Bool

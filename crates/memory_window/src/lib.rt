@@ -7,9 +7,11 @@ mod landing;
 mod operations;
 mod ops;
 mod regions;
+mod window;
 
 pub use access::AccessFault;
 pub use chunk::Chunk;
 pub use operations::{MemOp, is_size};
 pub use ops::Ops;
 pub use regions::{Kind, Map, MapFault, Region, is_mapped};
+pub use window::Window;

@@ -1,7 +1,7 @@
 //! The regions of memory, and the map that holds them.
-ghost use Rattle.std.specs.Prelude.{◌≡◌, ◌+◌, ◌-◌, ◌≤◌, ◌++◌, length, replicate, IfErr, IfOk, IfNone, None, Some, nat_lt};
+ghost use Rattle.std.specs.Prelude.{◌≡◌, ◌+◌, ◌-◌, ◌<◌, ◌≤◌, ◌++◌, length, replicate, IfErr, IfOk, IfNone, None, Some, nat_lt};
 ghost use Rattle.std.specs.List.{list_any};
-ghost use Rattle.memory_window.specs.Regions.{blank, holds, is_mapped, map_fault_of, meet, is_empty, has_blank, has_overlap, ends_late, are_too_big, is_unaligned, total_of};
+ghost use Rattle.memory_window.specs.Regions.{blank, holds, is_mapped, map_fault_of, meet, spans, is_eeprom, allows, unit_of, is_empty, has_blank, has_overlap, ends_late, are_too_big, is_unaligned, total_of};
 
 use std::marker::Model;
 use thiserror::Error;
@@ -45,10 +45,46 @@ pub enum MapFault {
 }
 
 /// The most regions that a map may have.
-const MOST_REGIONS: usize = 8;
+pub(crate) const MOST_REGIONS: usize = 8;
 
 /// The most bytes that the regions of a map may have together.
 const MOST_BYTES: u64 = 4_194_304;
+
+impl Kind {
+    /// Whether memory of this kind may be read and written in units of so many bits.
+    pub(crate) fn allows(self, size: u8) -> bool
+        ensures { result ≡ allows self size }
+    {
+        match self {
+            Kind::Mem8 => size == 8,
+            Kind::Mem16 => size == 16,
+            Kind::Mem32 => size == 32,
+            Kind::Ram | Kind::Eeprom => true,
+        }
+    }
+
+    /// Of how many bytes the address and the length of a range must be multiples.
+    pub(crate) fn unit(self) -> u32
+        ensures unit { result ≡ unit_of self }
+        ensures some { 0 < result }
+    {
+        match self {
+            Kind::Mem16 => 2,
+            Kind::Mem32 => 4,
+            Kind::Ram | Kind::Eeprom | Kind::Mem8 => 1,
+        }
+    }
+
+    /// Whether it is EEPROM, which alone can be protected.
+    pub fn is_eeprom(self) -> bool
+        ensures { result ≡ is_eeprom self }
+    {
+        match self {
+            Kind::Eeprom => true,
+            Kind::Ram | Kind::Mem8 | Kind::Mem16 | Kind::Mem32 => false,
+        }
+    }
+}
 
 impl Region {
     /// What stands behind the regions of a map.
@@ -70,6 +106,13 @@ impl Region {
         ensures { result ≡ holds at self }
     {
         self.start <= at && u64::from(at) < self.end()
+    }
+
+    /// Whether a range of `len` bytes that begins at `at` lies in the region.
+    pub(crate) fn spans(self, at: u32, len: u32) -> bool
+        ensures { result ≡ spans at len self }
+    {
+        self.start <= at && u64::from(at) + u64::from(len) <= self.end()
     }
 
     fn is_empty(self) -> bool

@@ -1,0 +1,13 @@
+-- What a window shows.
+use Rattle.std.specs.Prelude.{map, take}
+use Rattle.memory_window.specs.declared.window.Part.{Part}
+use Rattle.memory_window.specs.declared.window.Window.{Window}
+use Rattle.memory_window.specs.Memory.{Area, Memory}
+
+-- a region that a window shows, with its bytes
+abbrev pub area_of : Part → Area
+area_of p = record { region = p.region; bytes = p.bytes.now }
+
+-- the memory that a window shows
+abbrev pub seen : Window → Memory
+seen w = record { areas = map area_of (take w.count w.parts); guarded = map (λ p. p.guarded) (take w.count w.parts) }
