@@ -1,3 +1,4 @@
 pub mod Held
 pub mod Pipes
 pub mod Delivery
+pub mod Counted

@@ -1,0 +1,10 @@
+//! The lines of the log, the sequence counts, and the writing of a whole text.
+#![tactic(auto)]
+
+mod counts;
+mod lines;
+mod writing;
+
+pub use counts::Log;
+pub use lines::{Line, drop_line, line_of};
+pub use writing::put_text;
