@@ -2,9 +2,11 @@
 #![tactic(auto)]
 
 mod counts;
+mod items;
 mod lines;
 mod writing;
 
 pub use counts::Log;
+pub use items::{item_line, request_line};
 pub use lines::{Line, drop_line, line_of};
 pub use writing::put_text;

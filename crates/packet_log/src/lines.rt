@@ -39,7 +39,7 @@ pub fn drop_line(frame: u32, lost: &Dropped) -> Line
 }
 
 /// A line that begins with the number of a frame.
-fn begin(frame: u32) -> Line
+pub(crate) fn begin(frame: u32) -> Line
     ensures value { result.bytes ≡ decimal frame }
     ensures short { length result.bytes ≤ 40 }
 {
