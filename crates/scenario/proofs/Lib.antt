@@ -1,1 +1,4 @@
 pub mod WordsLemmas
+pub mod LineLemmas
+pub mod StandingLemmas
+pub mod NextLemmas

@@ -30,7 +30,7 @@ position_or_len-le p (x ∷ xs) = elim (p x) as (λ v. cond (not v) (1 + positio
 drop_more : (n x : ℕ) (xs : List ℕ) → drop (1 + n) (x ∷ xs) ≡ drop n xs
 drop_more n x xs = let e : 1 + n ≡ suc n = omega arith in rw e refl
 
-take_more : (n x : ℕ) (xs : List ℕ) → take (1 + n) (x ∷ xs) ≡ x ∷ take n xs
+pub take_more : (n x : ℕ) (xs : List ℕ) → take (1 + n) (x ∷ xs) ≡ x ∷ take n xs
 take_more n x xs = let e : 1 + n ≡ suc n = omega arith in rw e refl
 
 -- spaces in front are skipped

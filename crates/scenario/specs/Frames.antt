@@ -8,6 +8,7 @@ use Rattle.scenario.specs.declared.sentence.Place.{Place}
 use Rattle.scenario.specs.declared.sentence.Place.TheVariants as places
 use Rattle.scenario.specs.declared.sentence.Sentence.{Sentence}
 use Rattle.scenario.specs.declared.sentence.Sentence.TheVariants.{Epoch, Region, Start, Send, Count, Upset, Hold, Tick, End}
+use Rattle.scenario.specs.declared.progress.Header.{Header}
 use Rattle.scenario.specs.FrameLists.{Frame, no_items, items_in}
 
 -- where the line behind a good one stands
@@ -38,6 +39,12 @@ abbrev pub regions_of : List Sentence → List MemRegion
 regions_of [] = []
 regions_of (Region r ∷ old) = regions_of old ++ r ∷ []
 regions_of (_ ∷ old) = regions_of old
+
+-- the header, once `start` was said
+abbrev pub header_of : List Sentence → Option Header
+header_of [] = None
+header_of (Start ∷ old) = Some (record { epoch = epoch_of old; map = regions_of old })
+header_of (_ ∷ old) = header_of old
 
 -- how many frames were ended
 abbrev pub ticks_of : List Sentence → ℕ

@@ -4,4 +4,6 @@ pub mod Sentences
 pub mod FrameLists
 pub mod Frames
 pub mod Texts
+pub mod Following
 pub mod Answers
+pub mod Standing

@@ -1,6 +1,6 @@
 -- What a text is, and what it gives: items, and then an ending.
-use Rattle.std.specs.Prelude.{◌≡◌, ℕ, ◌+◌, ◌==◌, Bool, true, false, ◌&&◌, ◌||◌, if◌then◌else◌, nat_lt, List, [], ◌∷◌, ◌++◌, length, Option, Some, None, Result, Ok, Err, ◌⊎◌}
-use Rattle.std.specs.List.{slice_split}
+use Rattle.std.specs.Prelude.{◌≡◌, ℕ, ◌+◌, ◌==◌, ◌≤◌, min, map, Bool, true, false, ◌&&◌, ◌||◌, if◌then◌else◌, nat_lt, List, [], ◌∷◌, ◌++◌, length, Option, Some, None, Result, Ok, Err, ◌⊎◌}
+use Rattle.std.specs.List.{slice_split, AllByRecursion}
 use Rattle.memory_window.specs.declared.regions.Region.{Region as MemRegion}
 use Rattle.scenario.specs.declared.reason.Reason.{Reason}
 use Rattle.scenario.specs.declared.reason.Reason.TheVariants as reasons
@@ -8,7 +8,9 @@ use Rattle.scenario.specs.declared.sentence.Place.TheVariants as places
 use Rattle.scenario.specs.declared.sentence.Sentence.{Sentence}
 use Rattle.scenario.specs.declared.sentence.Sentence.TheVariants as says
 use Rattle.scenario.specs.Sentences.{line_says}
-use Rattle.scenario.specs.FrameLists.{Frame}
+use Rattle.memory_window.specs.Regions.{map_fault_of, is_mapped}
+use Rattle.scenario.specs.declared.frame.Upset.{Upset as UpsetByte}
+use Rattle.scenario.specs.FrameLists.{Frame, items_in}
 use Rattle.scenario.specs.Frames.{place_after, epoch_of, regions_of, frame_of, refusal}
 
 -- a text: its bytes so far, and whether its end was reached
@@ -87,31 +89,51 @@ abbrev pub ending_at : Bool → Before → Ending
 ending_at false old = Open
 ending_at true old = elim (place_after old.sentences) [ places.Ended ↦ Ended | _ ↦ Unended old.lines ]
 
--- the items of a text, and its ending
+-- the items of a text, its ending, and its stops: how many bytes lie before the end of each line that gives an item, and then of the bad line
 pub record Reading : Type 0 where
   pub items : List Given
   pub ending : Ending
+  pub stops : List ℕ
 
--- a reading with items in front
-abbrev pub with_items : List Given → Reading → Reading
-with_items front r = record r { items = front ++ r.items }
+-- a reading with items in front, and their stops
+abbrev pub with_items : List Given → List ℕ → Reading → Reading
+with_items front ends r = record { items = front ++ r.items; ending = r.ending; stops = ends ++ r.stops }
+
+-- the bytes up to the end of a line
+abbrev pub end_of : Before → Line → ℕ
+end_of old line = old.bytes + line.takes
+
+-- the bytes up to the end of a bad line, or to its 641st byte where it is longer
+abbrev pub bad_end_of : Before → Line → ℕ
+bad_end_of old line = old.bytes + min 641 line.takes
 
 -- what whole lines give, after what stood before them
 unfoldable pub read : Bool → Before → List Line → Reading
-read closed old [] = record { items = []; ending = ending_at closed old }
+read closed old [] = record { items = []; ending = ending_at closed old; stops = [] }
 read closed old (line ∷ more) = elim (reads old line) [
-  | Ok said ↦ with_items (given old.sentences said) (read closed (passed old line said) more)
-  | Err reason ↦ record { items = []; ending = Bad (old.lines + 1) reason }
+  | Ok said ↦ with_items (given old.sentences said) (map (λ _. end_of old line) (given old.sentences said)) (read closed (passed old line said) more)
+  | Err reason ↦ record { items = []; ending = Bad (old.lines + 1) reason; stops = bad_end_of old line ∷ [] }
 ]
 
 -- what bytes give, after what stood before them
 unfoldable pub read_bytes : Bool → Before → List ℕ → Reading
 read_bytes closed old bytes = read closed old (whole_lines closed (slice_split (λ b. b == 10) bytes))
 
--- what a text gives: its items and its ending
+-- what a text gives: its items, its ending and its stops
 unfoldable pub reading : Text → Reading
 reading t = read_bytes t.closed nothing t.bytes
 
--- what an open text gave, and what it gives when it has grown: the same items and more, or the same bad line
+-- What an open text gave, and what it gives when it has grown: the same items and stops, and more, or the same bad line
 abbrev pub Grows : Reading → Reading → Type 0
-Grows r q = ((r.ending ≡ Open) × ((rest : List Given) × (q.items ≡ r.items ++ rest))) ⊎ (q ≡ r)
+Grows r q = ((r.ending ≡ Open) × ((more : Reading) × (q ≡ with_items r.items r.stops more))) ⊎ (q ≡ r)
+
+-- a frame of at most 64 items, whose upsets lie in the regions
+abbrev pub IsGoodFrame : List MemRegion → Given → Type 0
+IsGoodFrame regions (Head epoch others) = ⊥
+IsGoodFrame regions (Whole frame) = (items_in frame ≤ 64) × AllByRecursion (λ (u : UpsetByte). is_mapped regions u.at ≡ true) frame.upsets
+
+-- The first item is the header, with an epoch of at most 4,294,000,000 and regions that make a map. Behind it stand at most 100,000 frames, each of at most 64 items, whose upsets lie in the map.
+abbrev pub AreGood : List Given → Type 0
+AreGood [] = Unit {0}
+AreGood (Head epoch regions ∷ frames) = (epoch ≤ 4294000000) × (map_fault_of regions ≡ None) × (length frames ≤ 100000) × AllByRecursion (IsGoodFrame regions) frames
+AreGood (Whole frame ∷ more) = ⊥

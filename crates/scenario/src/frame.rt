@@ -1,7 +1,5 @@
-ghost use Rattle.std.specs.Prelude.{◌≡◌, ◌≤◌, ◌<◌, length};
-ghost use Rattle.arrayvec.specs.ArrayVec.{array_vec_len};
+ghost use Rattle.std.specs.Prelude.{◌≡◌, ◌≤◌, ◌<◌, ◌++◌, ◌∷◌, []};
 ghost use Rattle.scenario.specs.FrameLists.{no_items, items_in};
-ghost use Rattle.scenario.specs.Frames.{with_item};
 
 use crate::sentence::Sentence;
 use arrayvec::ArrayVec;
@@ -113,21 +111,31 @@ impl FrameInput {
         self.held.as_slice()
     }
 
-    /// Adds the item of a line; a line that is no item begins the frame anew.
-    pub(crate) fn add(&mut self, said: Sentence)
+    pub(crate) fn send(&mut self, packet: Packet)
         requires { items_in self.old < 64 }
-        ensures { self.new ≡ with_item self.old said }
+        ensures { self.new ≡ record self.old { sends = self.old.sends ++ packet ∷ [] } }
     {
-        match said {
-            Sentence::Send(packet) => self.sends.push(packet),
-            Sentence::Count(counter) => self.counters.push(counter),
-            Sentence::Upset(upset) => self.upsets.push(upset),
-            Sentence::Hold(app) => self.held.push(app),
-            Sentence::Epoch(_) => self.clear(),
-            Sentence::Region(_) => self.clear(),
-            Sentence::Start => self.clear(),
-            Sentence::Tick => self.clear(),
-            Sentence::End => self.clear(),
-        }
+        self.sends.push(packet);
+    }
+
+    pub(crate) fn count(&mut self, counter: Counter)
+        requires { items_in self.old < 64 }
+        ensures { self.new ≡ record self.old { counters = self.old.counters ++ counter ∷ [] } }
+    {
+        self.counters.push(counter);
+    }
+
+    pub(crate) fn upset(&mut self, upset: Upset)
+        requires { items_in self.old < 64 }
+        ensures { self.new ≡ record self.old { upsets = self.old.upsets ++ upset ∷ [] } }
+    {
+        self.upsets.push(upset);
+    }
+
+    pub(crate) fn hold(&mut self, app: App)
+        requires { items_in self.old < 64 }
+        ensures { self.new ≡ record self.old { held = self.old.held ++ app ∷ [] } }
+    {
+        self.held.push(app);
     }
 }

@@ -3,10 +3,15 @@
 
 mod frame;
 mod item;
+mod progress;
+mod reader;
 mod reason;
+mod regions;
 mod sentence;
 mod words;
 
 pub use frame::{App, FrameInput, Upset};
 pub use item::Item;
+pub use progress::Header;
+pub use reader::Reader;
 pub use reason::Reason;

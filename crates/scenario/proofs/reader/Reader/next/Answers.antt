@@ -1,0 +1,57 @@
+use Rattle.std.proofs.Common.{ap, sym, ◌∙◌, refl}
+use Rattle.scenario.specs.Texts.{reads}
+use Rattle.scenario.proofs.StandingLemmas.{stands_begun, at_the_end, at_bad}
+use Rattle.scenario.proofs.NextLemmas.{LooksGood, same_line, good_header, good_frame, good_last, good_stop}
+use Rattle.scenario.proofs.reader.Reader.next.Goals as goal
+
+pub returns-then-not-has_line-clause-last : goal.returns-then-not-has_line-clause-last
+returns-then-not-has_line-clause-last c = λ _ t gave s.
+    let m = stands_begun c.args.self.now _ refl refl refl c.begin.ensures.follows c.begin.ensures.hidden t gave s in
+    let e = at_the_end _ t gave m (sym c.if-not-has_line.ensures) in
+    (m, e.gave_all, c.at_end.ensures ∙ e.answer)
+
+pub returns-then-not-has_line-clause-bad : goal.returns-then-not-has_line-clause-bad
+returns-then-not-has_line-clause-bad c = λ line reason t gave _ s e.
+    let m = stands_begun c.args.self.now _ refl refl refl c.begin.ensures.follows c.begin.ensures.hidden t gave s in
+    absurd ((at_the_end _ t gave m (sym c.if-not-has_line.ensures)).not_bad line reason e)
+
+looks_good : (c : goal.After-pass) → LooksGood (record c.args.self.now { progress = c.begin.new.self }) c.pass.new.self c.in-Ok.said c.pass.result
+looks_good c = record {
+  passes = c.pass.ensures;
+  hidden = c.begin.ensures.hidden;
+  some = sym c.if-not-has_line.ensures;
+  placed = c.in-Ok.ensures.placed;
+  good = λ old f. c.in-Ok.ensures.value old f ∙ ap (reads old) (same_line _ _ _ _ (c.as_slice.ensures.value ∙ ap (λ v. v.items) c.deref.ensures) c.takes.ensures.value);
+}
+
+pub returns-in-Ok-clause-header : goal.returns-in-Ok-clause-header
+returns-in-Ok-clause-header c = λ h t gave s.
+    good_header _ _ _ _ (looks_good c) h t gave (stands_begun c.args.self.now _ refl refl refl c.begin.ensures.follows c.begin.ensures.hidden t gave s)
+
+pub returns-in-Ok-clause-frame : goal.returns-in-Ok-clause-frame
+returns-in-Ok-clause-frame c = λ h t gave s.
+    good_frame _ _ _ _ (looks_good c) h t gave (stands_begun c.args.self.now _ refl refl refl c.begin.ensures.follows c.begin.ensures.hidden t gave s)
+
+pub returns-in-Ok-clause-last : goal.returns-in-Ok-clause-last
+returns-in-Ok-clause-last c = λ h t gave s.
+    let l = good_last _ _ _ _ (looks_good c) h t gave (stands_begun c.args.self.now _ refl refl refl c.begin.ensures.follows c.begin.ensures.hidden t gave s) in
+    (l.0, l.1.gave_all, l.2 ∙ l.1.answer)
+
+pub returns-in-Ok-clause-stop : goal.returns-in-Ok-clause-stop
+returns-in-Ok-clause-stop c = λ h t gave s.
+    good_stop _ _ _ _ (looks_good c) h t gave (stands_begun c.args.self.now _ refl refl refl c.begin.ensures.follows c.begin.ensures.hidden t gave s)
+
+pub returns-in-Ok-clause-bad : goal.returns-in-Ok-clause-bad
+returns-in-Ok-clause-bad c = λ line reason t gave h s e.
+    absurd ((good_last _ _ _ _ (looks_good c) h t gave (stands_begun c.args.self.now _ refl refl refl c.begin.ensures.follows c.begin.ensures.hidden t gave s)).1.not_bad line reason e)
+
+pub returns-in-Err-clause-last : goal.returns-in-Err-clause-last
+returns-in-Err-clause-last c = λ _ t gave s.
+    let m = stands_begun c.args.self.now _ refl refl refl c.begin.ensures.follows c.begin.ensures.hidden t gave s in
+    let b = at_bad _ t gave c.in-Err.reason m (sym c.if-not-has_line.ensures) (λ old f. c.in-Err.ensures.value old f ∙ ap (reads old) (same_line _ _ _ _ (c.as_slice.ensures.value ∙ ap (λ v. v.items) c.deref.ensures) c.takes.ensures.value)) in
+    (m, b.gave_all, rw (b.ending, c.number.ensures) refl)
+
+pub returns-in-Err-clause-bad : goal.returns-in-Err-clause-bad
+returns-in-Err-clause-bad c = λ line reason t gave _ s e.
+    let m = stands_begun c.args.self.now _ refl refl refl c.begin.ensures.follows c.begin.ensures.hidden t gave s in
+    (at_bad _ t gave c.in-Err.reason m (sym c.if-not-has_line.ensures) (λ old f. c.in-Err.ensures.value old f ∙ ap (reads old) (same_line _ _ _ _ (c.as_slice.ensures.value ∙ ap (λ v. v.items) c.deref.ensures) c.takes.ensures.value))).stop

@@ -1,0 +1,255 @@
+ghost use Rattle.std.specs.Prelude.{◌≡◌, ◌≤◌, ◌<◌, ◌+◌, ◌∷◌, false, if◌then◌else◌, is_none, ℕ, List, length, min, nat_lt, nat_le, ◌||◌, IfOk, Some, None};
+
+use crate::frame::FrameInput;
+use crate::reason::Reason;
+use crate::regions::RegionList;
+use crate::sentence::{Place, Sentence, line_says};
+use fsw_outside::NoMemory;
+use memory_window::{Map, is_mapped};
+use std::alloc::{AllocFailed, Global};
+
+/// The longest line, in bytes without its LF.
+const LINE_BYTES: usize = 640;
+
+/// The longest text, in bytes.
+const TEXT_BYTES: u32 = 16_777_216;
+
+/// The most items of a frame.
+const FRAME_ITEMS: usize = 64;
+
+/// The most frames of a text.
+const FRAMES: u32 = 100_000;
+
+/// The header of a scenario.
+#[derive(Clone, Copy, Debug)]
+pub struct Header {
+    /// The time of the first frame, in seconds, at most 4,294,000,000.
+    pub epoch: u32,
+    /// The regions of memory.
+    pub map: Map,
+}
+
+/// What the good lines so far come to.
+#[derive(Drop)]
+pub(crate) struct Progress {
+    pub(crate) place: Place,
+    pub(crate) epoch: u32,
+    pub(crate) regions: RegionList,
+    pub(crate) header: Option<Header>,
+    pub(crate) frame: Box<FrameInput>,
+    // The frame was ended and is still held, to be looked at.
+    pub(crate) shown: bool,
+    pub(crate) ticks: u32,
+    pub(crate) lines: u32,
+    pub(crate) bytes: u32,
+    ghost few: { ticks ≤ 100000 },
+    ghost numbered: { lines ≤ bytes },
+    ghost small: { bytes ≤ 16777216 },
+}
+
+impl Progress {
+    ghost use Rattle.scenario.specs.declared.reason.Reason.{Reason};
+    ghost use Rattle.scenario.specs.Frames.{refusal, room_for_item};
+    ghost use Rattle.scenario.specs.FrameLists.{items_in};
+    ghost use Rattle.memory_window.specs.Regions.{map_fault_of};
+    ghost use Rattle.scenario.specs.Sentences.{IsPlaced};
+    ghost use Rattle.scenario.specs.Texts.{Before, nothing, reads, passed, is_too_long};
+    ghost use Rattle.scenario.specs.Following.{Follows, HasRoom, HasRoomFor, KeepsFrame};
+
+    pub(crate) fn open(alloc: Global) -> Result<Progress, NoMemory>
+        ensures follows { IfOk result (λ p. Follows p nothing) }
+        ensures hidden { IfOk result (λ p. p.shown ≡ false) }
+    {
+        let frame = Box::new(alloc, FrameInput::new())?;
+        Ok(Progress {
+            place: Place::Opening,
+            epoch: 0,
+            regions: RegionList::new(),
+            header: None,
+            frame,
+            shown: false,
+            ticks: 0,
+            lines: 0,
+            bytes: 0,
+        })
+    }
+
+    /// Lets the frame go that was shown.
+    pub(crate) fn begin(&mut self)
+        ensures follows { (old : Before) → Follows self.old old → Follows self.new old }
+        ensures hidden { self.new.shown ≡ false }
+    {
+        if self.shown {
+            self.frame.clear();
+            self.shown = false;
+        }
+    }
+
+    fn room_for_item(&self) -> Option<Reason>
+        requires { self.now.shown ≡ false }
+        ensures value { (old : Before) → Follows self.now old → result ≡ room_for_item old.sentences }
+        ensures room { result ≡ None → items_in self.now.frame.value < 64 }
+    {
+        if self.frame.len() < FRAME_ITEMS {
+            return None;
+        }
+        Some(Reason::TooMany)
+    }
+
+    fn map_refusal(&self) -> Option<Reason>
+        ensures value { result ≡ (if is_none (map_fault_of self.now.regions) then None else Some Reason.Map) }
+        ensures room { result ≡ None → map_fault_of self.now.regions ≡ None }
+    {
+        match Map::new(self.regions.as_slice()) {
+            Ok(_) => None,
+            Err(_) => Some(Reason::Map),
+        }
+    }
+
+    /// Why a sentence can't stand here, beside its place.
+    #[tactic(auto, unfolding(crate::specs::Frames::refusal))]
+    fn refusal(&self, said: &Sentence) -> Option<Reason>
+        requires { self.now.shown ≡ false }
+        ensures value { (old : Before) → Follows self.now old → result ≡ refusal old.sentences said.now }
+        ensures room { result ≡ None → HasRoom self.now said.now }
+    {
+        match said {
+            Sentence::Epoch(_) => None,
+            Sentence::Region(_) => {
+                if self.regions.as_slice().len() < 8 {
+                    return None;
+                }
+                Some(Reason::Map)
+            }
+            Sentence::Start => self.map_refusal(),
+            Sentence::Send(_) => self.room_for_item(),
+            Sentence::Count(_) => self.room_for_item(),
+            Sentence::Upset(upset) => {
+                if !is_mapped(self.regions.as_slice(), upset.at) {
+                    return Some(Reason::Map);
+                }
+                self.room_for_item()
+            }
+            Sentence::Hold(_) => self.room_for_item(),
+            Sentence::Tick => {
+                if self.ticks < FRAMES {
+                    return None;
+                }
+                Some(Reason::TooLong)
+            }
+            Sentence::End => None,
+        }
+    }
+
+    fn is_too_long(&self, line: &[u8], takes: u32) -> bool
+        requires { takes ≤ 1000 }
+        ensures { result ≡ (nat_lt 640 (length line.now) || nat_lt 16777216 (self.now.bytes + takes)) }
+    {
+        line.len() > LINE_BYTES || self.bytes + takes > TEXT_BYTES
+    }
+
+    /// What a line says that takes so many bytes, or the first reason why it is bad.
+    #[tactic(auto, unfolding(crate::specs::Texts::reads))]
+    pub(crate) fn reads(&self, line: &[u8], takes: u32) -> Result<Option<Sentence>, Reason>
+        requires hidden { self.now.shown ≡ false }
+        requires takes { takes ≤ 1000 }
+        ensures value { (old : Before) → Follows self.now old → result ≡ reads old (record { bytes = line.now; takes = takes }) }
+        ensures room { IfOk result (HasRoomFor self.now) }
+        ensures placed { IfOk result (IsPlaced self.now.place) }
+        ensures small { IfOk result (λ _. self.now.bytes + takes ≤ 16777216) }
+    {
+        if self.is_too_long(line, takes) {
+            return Err(Reason::TooLong);
+        }
+        match line_says(self.place, line)? {
+            Some(said) => match self.refusal(&said) {
+                Some(reason) => Err(reason),
+                None => Ok(Some(said)),
+            },
+            None => Ok(None),
+        }
+    }
+
+    fn start(&mut self)
+        requires { map_fault_of self.old.regions ≡ None }
+        ensures { self.new ≡ record self.old { place = Place.Between; header = Some (record { epoch = self.old.epoch; map = self.old.regions }) } }
+    {
+        self.place = Place::Between;
+        match Map::new(self.regions.as_slice()) {
+            Ok(map) => {
+                self.header = Some(Header {
+                    epoch: self.epoch,
+                    map,
+                });
+            }
+            Err(_) => unreachable!(),
+        }
+    }
+
+    /// Adds what a good line says.
+    fn say(&mut self, said: Sentence)
+        requires hidden { self.old.shown ≡ false }
+        requires room { HasRoom self.old said }
+        ensures follows { (old : Before) → Follows self.old old → Follows self.new (record old { sentences = said ∷ old.sentences }) }
+        ensures shows { KeepsFrame self.old (Some said) self.new }
+    {
+        match said {
+            Sentence::Epoch(time) => {
+                self.epoch = time;
+                self.place = Place::Header;
+                self.frame.clear();
+            }
+            Sentence::Region(region) => {
+                self.regions.push(region);
+                self.place = Place::Header;
+                self.frame.clear();
+            }
+            Sentence::Start => {
+                self.start();
+                self.frame.clear();
+            }
+            Sentence::Tick => {
+                self.ticks += 1;
+                self.place = Place::Between;
+                self.shown = true;
+            }
+            Sentence::End => {
+                self.place = Place::Ended;
+                self.frame.clear();
+            }
+            Sentence::Send(packet) => {
+                self.place = Place::Inside;
+                self.frame.send(packet);
+            }
+            Sentence::Count(counter) => {
+                self.place = Place::Inside;
+                self.frame.count(counter);
+            }
+            Sentence::Upset(upset) => {
+                self.place = Place::Inside;
+                self.frame.upset(upset);
+            }
+            Sentence::Hold(app) => {
+                self.place = Place::Inside;
+                self.frame.hold(app);
+            }
+        }
+    }
+
+    /// Passes a good line that takes so many bytes.
+    pub(crate) fn pass(&mut self, said: Option<Sentence>, takes: u32)
+        requires hidden { self.old.shown ≡ false }
+        requires room { HasRoomFor self.old said }
+        requires some { 0 < takes }
+        requires small { self.old.bytes + takes ≤ 16777216 }
+        ensures follows { (old : Before) (line : List ℕ) → Follows self.old old → Follows self.new (passed old (record { bytes = line; takes = takes }) said) }
+        ensures shows { KeepsFrame self.old said self.new }
+    {
+        self.bytes += takes;
+        self.lines += 1;
+        match said {
+            Some(said) => self.say(said),
+            None => {}
+        }
+    }
+}

@@ -1,0 +1,240 @@
+ghost use Rattle.scenario.specs.Answers.{item_said};
+ghost use Rattle.std.specs.Prelude.{◌≡◌, ◌≤◌, ◌<◌, ◌+◌, ◌==◌, ◌++◌, ◌∷◌, [], ℕ, Bool, List, true, false, length, take, min, position, slice_index, IfOk, Some};
+
+use crate::frame::FrameInput;
+use crate::item::Item;
+use crate::progress::{Header, Progress};
+use crate::sentence::{Place, Sentence};
+use arrayvec::ArrayVec;
+use fsw_outside::NoMemory;
+use std::alloc::Global;
+
+/// One byte more than the longest line.
+const LINE_ROOM: usize = 641;
+
+/// Reads a scenario's text in pieces, and gives its header and its frames one after another.
+///
+/// It keeps one line, one frame and the header. All its memory is taken by `open`.
+#[derive(Drop)]
+pub struct Reader {
+    line: Box<ArrayVec<u8, 641>>,
+    // The LF of the line was fed.
+    whole: bool,
+    finished: bool,
+    progress: Progress,
+}
+
+/// The first bytes, `most` at most.
+fn front(bytes: &[u8], most: usize) -> &[u8]
+    ensures { result.now ≡ take (min most (length bytes.now)) bytes.now }
+{
+    if bytes.len() <= most {
+        bytes
+    } else {
+        &bytes[..most]
+    }
+}
+
+/// The place of the first LF.
+fn find_lf(bytes: &[u8]) -> Option<usize>
+    ensures { result ≡ position (λ b. b == 10) bytes.now }
+{
+    bytes.iter().position(|byte| *byte == b'\n')
+}
+
+/// What is answered at a line that gives an item.
+fn item_of(said: &Option<Sentence>) -> Option<Item>
+    ensures { result ≡ item_said said.now }
+{
+    match said {
+        Some(Sentence::Start) => Some(Item::Header),
+        Some(Sentence::Tick) => Some(Item::Frame),
+        _ => None,
+    }
+}
+
+impl Reader {
+    ghost use Rattle.scenario.specs.Answers.{answer_at_end, end_answer, IsLast, IsItem};
+    ghost use Rattle.scenario.specs.Texts.{Text, Given, Head, Whole, Reading, Bad, reading};
+    ghost use Rattle.scenario.specs.Reasons.{number_of};
+    ghost use Rattle.scenario.specs.declared.reason.Reason.{Reason};
+    ghost use Rattle.scenario.specs.Standing.{Stands, Waits, Shows, fed, closed, has_line, left, header_in, frame_in, is_finished, Passes};
+    ghost use Rattle.scenario.specs.Following.{HasRoomFor};
+
+    /// A reader of a text of which nothing was fed yet.
+    ///
+    /// # Errors
+    /// `NoMemory` where the memory for a line or a frame isn't given.
+    pub fn open(alloc: Global) -> Result<Reader, NoMemory>
+        ensures stands { IfOk result (λ r. Stands r (record { bytes = []; closed = false }) []) }
+        ensures left { IfOk result (λ r. left r ≡ 0) }
+        ensures waits { IfOk result Waits }
+        ensures finished { IfOk result (λ r. is_finished r ≡ false) }
+    {
+        let line = Box::new(alloc, ArrayVec::new())?;
+        let progress = Progress::open(alloc)?;
+        Ok(Reader {
+            line,
+            whole: false,
+            finished: false,
+            progress,
+        })
+    }
+
+    /// Takes a first part of the piece, and answers how many bytes. `finish` wasn't called.
+    ///
+    /// It takes none where a line is there that `next` has to look at.
+    pub fn feed(&mut self, piece: &[u8]) -> usize
+        requires { is_finished self.old ≡ false }
+        ensures taken { result ≤ length piece.now }
+        ensures stands { (t : Text) (gave : List Given) → Stands self.old t gave
+            → Stands self.new (fed t (take result piece.now)) gave }
+        ensures left { left self.new ≡ left self.old + result }
+        ensures some { Waits self.old → 0 < length piece.now → 0 < result }
+        ensures finished { is_finished self.new ≡ false }
+    {
+        if self.has_line() {
+            return 0;
+        }
+        let front = front(piece, LINE_ROOM - self.line.len());
+        match find_lf(front) {
+            Some(at) => {
+                self.append(&front[..at]);
+                self.whole = true;
+                at + 1
+            }
+            None => {
+                self.append(front);
+                front.len()
+            }
+        }
+    }
+
+    /// Says that no more bytes come.
+    pub fn finish(&mut self)
+        ensures stands { (t : Text) (gave : List Given) → Stands self.old t gave → Stands self.new (closed t) gave }
+        ensures left { left self.new ≡ left self.old }
+        ensures finished { is_finished self.new ≡ true }
+    {
+        self.finished = true;
+    }
+
+    /// The next item, or why there is none.
+    ///
+    /// `More` comes where the bytes fed so far hold no whole further item and `finish` wasn't called, `End`
+    /// where the text ended well, and `Bad` at the first bad line or where the text is unended.
+    pub fn next(&mut self) -> Item
+        ensures header { result ≡ Item.Header → (t : Text) (gave : List Given) → Stands self.old t gave
+            → Stands self.new t (gave ++ header_in self.new ∷ []) }
+        ensures frame { result ≡ Item.Frame → (t : Text) (gave : List Given) → Stands self.old t gave
+            → Stands self.new t (gave ++ frame_in self.new ∷ []) }
+        ensures last { IsLast result → (t : Text) (gave : List Given) → Stands self.old t gave
+            → Stands self.new t gave × (gave ≡ (reading t).items) × (result ≡ answer_at_end (reading t).ending) }
+        ensures unclosed { result ≡ Item.More → is_finished self.new ≡ false }
+        ensures finished { is_finished self.new ≡ is_finished self.old }
+        ensures left { left self.new ≤ left self.old }
+        ensures item { IsItem result → left self.new < left self.old }
+        ensures waits { result ≡ Item.More → Waits self.new }
+        ensures shows { result ≡ Item.Frame → Shows self.new }
+
+        // Where an item's line or the bad line ends, the bytes fed so far end.
+        ensures whole { IsItem result → left self.new ≡ 0 }
+        ensures stop { IsItem result → (t : Text) (gave : List Given) → Stands self.old t gave
+            → slice_index (reading t).stops (length gave) ≡ length t.bytes }
+        ensures bad { (line : ℕ) (reason : Reason) (t : Text) (gave : List Given) → IsLast result → Stands self.old t gave
+            → (reading t).ending ≡ Bad line reason → slice_index (reading t).stops (length gave) ≡ length t.bytes }
+    {
+        self.progress.begin();
+        if !self.has_line() {
+            return self.at_end();
+        }
+        match self.progress.reads(self.line.as_slice(), self.takes()) {
+            Ok(said) => self.pass(said),
+            Err(reason) => Item::Bad {
+                line: self.progress.lines + 1,
+                reason: reason.number(),
+            },
+        }
+    }
+
+    /// The header. It was given.
+    pub fn header(&self) -> &Header
+        requires { (t : Text) × (gave : List Given) × Stands self.now t gave × (0 < length gave) }
+        ensures { (t : Text) (gave : List Given) → Stands self.now t gave → 0 < length gave
+            → (frames : List Given) × (gave ≡ Head result.now.epoch result.now.map ∷ frames) }
+    {
+        match &self.progress.header {
+            Some(header) => header,
+            None => unreachable!(),
+        }
+    }
+
+    /// The frame that the last `next` gave.
+    pub fn frame(&self) -> &FrameInput
+        requires { Shows self.now }
+        ensures { Whole result.now ≡ frame_in self.now }
+    {
+        &self.progress.frame
+    }
+
+    fn has_line(&self) -> bool
+        ensures { result ≡ has_line self.now }
+    {
+        self.whole || self.line.len() >= LINE_ROOM || self.finished && !self.line.is_empty()
+    }
+
+    /// How many bytes the line takes, its LF included.
+    fn takes(&self) -> u32
+        ensures value { result ≡ left self.now }
+        ensures bound { result ≤ 642 }
+    {
+        let len = self.line.len() as u32;
+        if self.whole { len + 1 } else { len }
+    }
+
+    fn append(&mut self, bytes: &[u8])
+        requires { length self.old.line.value.items + length bytes.now ≤ 641 }
+        ensures others { self.new ≡ record self.old { line = self.new.line } }
+        ensures line { self.new.line.value.items ≡ self.old.line.value.items ++ bytes.now }
+    {
+        match self.line.try_extend_from_slice(bytes) {
+            Ok(()) => {}
+            Err(_) => unreachable!(),
+        }
+    }
+
+    /// What is answered where no line is left.
+    fn at_end(&self) -> Item
+        ensures { result ≡ end_answer self.now.finished self.now.progress.place self.now.progress.lines }
+    {
+        if !self.finished {
+            return Item::More;
+        }
+        match self.progress.place {
+            Place::Ended => Item::End,
+            _ => Item::Bad {
+                line: self.progress.lines,
+                reason: 7,
+            },
+        }
+    }
+
+    /// Passes a good line, and answers its item or what comes behind it.
+    fn pass(&mut self, said: Option<Sentence>) -> Item
+        requires hidden { self.old.progress.shown ≡ false }
+        requires line { has_line self.old ≡ true }
+        requires room { HasRoomFor self.old.progress said }
+        requires small { self.old.progress.bytes + left self.old ≤ 16777216 }
+        ensures { Passes self.old said result self.new }
+    {
+        let item = item_of(&said);
+        let takes = self.takes();
+        self.progress.pass(said, takes);
+        self.line.clear();
+        self.whole = false;
+        match item {
+            Some(item) => item,
+            None => self.at_end(),
+        }
+    }
+}
