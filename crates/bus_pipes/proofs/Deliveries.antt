@@ -118,6 +118,44 @@ packets_in_same Sc packets pipes = refl
 packets_in_same Mm packets pipes = refl
 packets_in_same Md packets pipes = refl
 
+pub packets_in_other : (name held : PipeName) (packets : List (List ℕ)) (pipes : Pipes) → (name ≡ held → ⊥) → packets_in held (with_packets name packets pipes) ≡ packets_in held pipes
+packets_in_other Hs Hs packets pipes apart = absurd (apart refl)
+packets_in_other Hs HsEv packets pipes apart = refl
+packets_in_other Hs Cs packets pipes apart = refl
+packets_in_other Hs Sc packets pipes apart = refl
+packets_in_other Hs Mm packets pipes apart = refl
+packets_in_other Hs Md packets pipes apart = refl
+packets_in_other HsEv Hs packets pipes apart = refl
+packets_in_other HsEv HsEv packets pipes apart = absurd (apart refl)
+packets_in_other HsEv Cs packets pipes apart = refl
+packets_in_other HsEv Sc packets pipes apart = refl
+packets_in_other HsEv Mm packets pipes apart = refl
+packets_in_other HsEv Md packets pipes apart = refl
+packets_in_other Cs Hs packets pipes apart = refl
+packets_in_other Cs HsEv packets pipes apart = refl
+packets_in_other Cs Cs packets pipes apart = absurd (apart refl)
+packets_in_other Cs Sc packets pipes apart = refl
+packets_in_other Cs Mm packets pipes apart = refl
+packets_in_other Cs Md packets pipes apart = refl
+packets_in_other Sc Hs packets pipes apart = refl
+packets_in_other Sc HsEv packets pipes apart = refl
+packets_in_other Sc Cs packets pipes apart = refl
+packets_in_other Sc Sc packets pipes apart = absurd (apart refl)
+packets_in_other Sc Mm packets pipes apart = refl
+packets_in_other Sc Md packets pipes apart = refl
+packets_in_other Mm Hs packets pipes apart = refl
+packets_in_other Mm HsEv packets pipes apart = refl
+packets_in_other Mm Cs packets pipes apart = refl
+packets_in_other Mm Sc packets pipes apart = refl
+packets_in_other Mm Mm packets pipes apart = absurd (apart refl)
+packets_in_other Mm Md packets pipes apart = refl
+packets_in_other Md Hs packets pipes apart = refl
+packets_in_other Md HsEv packets pipes apart = refl
+packets_in_other Md Cs packets pipes apart = refl
+packets_in_other Md Sc packets pipes apart = refl
+packets_in_other Md Mm packets pipes apart = refl
+packets_in_other Md Md packets pipes apart = absurd (apart refl)
+
 take_one : (packets : List (List ℕ)) (i : ℕ) (p : List ℕ) → i < length packets → p ≡ get_or packets i p → take (i + 1) packets ≡ take i packets ++ p ∷ []
 take_one packets i p h at = take_more packets i p h ∙ ap (λ (q : List ℕ). take i packets ++ q ∷ []) (sym at)
 
@@ -155,3 +193,10 @@ none_dropped pipes p held e = sym (ap (adding held) (drop_of_nowhere pipes p e) 
 
 pub none_lost : (name : PipeName) (pipes : Pipes) (p : List ℕ) (held : Held Dropped) → pipe_of (message_id p) ≡ Some name → Kept ≡ offered (pipe_in name pipes) p → held ≡ adding held (drop_of pipes p)
 none_lost name pipes p held e f = sym (adding_none held) ∙ dropped name pipes p Kept held e f
+
+-- one drop at most for one packet
+pub room_for_drop : (pipes : Pipes) (held : Held Dropped) (p : List ℕ) → length (adding held (drop_of pipes p)).items ≤ length held.items + 1
+unfolding adding
+room_for_drop pipes held p =
+    let few = drop_few pipes p in
+    simp length-append (omega arith)

@@ -62,6 +62,8 @@ impl Bus {
         requires { length drops.old.items < drops.old.room }
         ensures after { self.new ≡ after_offer self.old packet }
         ensures drops { drops.new ≡ adding drops.old (drop_of self.old packet) }
+        ensures few { length drops.new.items ≤ length drops.old.items + 1 }
+        ensures room { drops.new.room ≡ drops.old.room }
     {
         let Some(pipe) = pipe_of(packet.mid()) else {
             return;
@@ -117,6 +119,7 @@ impl Bus {
         ensures after { self.new ≡ after_offers self.old packets.now }
         ensures drops { drops.new ≡ adding drops.old (drops_from self.old packets.now) }
         ensures few { length drops.new.items ≤ length drops.old.items + length packets.now }
+        ensures room { drops.new.room ≡ drops.old.room }
     {
         for packet in packets {
             self.route(*packet, drops);

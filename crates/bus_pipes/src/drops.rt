@@ -1,6 +1,6 @@
 //! The list of the packets that pipes refused.
 
-ghost use Rattle.std.specs.Prelude.{◌≡◌, ◌<◌, [], ◌∷◌, length, IfOk};
+ghost use Rattle.std.specs.Prelude.{◌≡◌, ◌<◌, ◌+◌, [], ◌∷◌, length, IfOk};
 ghost use Rattle.bus_pipes.specs.Held.{adding, emptied};
 
 use crate::names::Dropped;
@@ -42,14 +42,18 @@ impl Drops {
     #[tactic(auto, unfolding(crate::specs::Held::adding))]
     pub(crate) fn push(&mut self, lost: Dropped)
         requires { length self.old.items < self.old.room }
-        ensures { self.new ≡ adding self.old (lost ∷ []) }
+        ensures after { self.new ≡ adding self.old (lost ∷ []) }
+        ensures size { length self.new.items ≡ length self.old.items + 1 }
+        ensures room { self.new.room ≡ self.old.room }
     {
         self.items.push_reserved(lost);
     }
 
     /// Removes all. The room stays.
     pub fn clear(&mut self)
-        ensures { self.new ≡ emptied self.old }
+        ensures after { self.new ≡ emptied self.old }
+        ensures none { self.new.items ≡ [] }
+        ensures room { self.new.room ≡ self.old.room }
     {
         self.items.clear();
     }

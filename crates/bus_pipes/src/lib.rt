@@ -4,6 +4,7 @@
 mod batch;
 mod bus;
 mod drops;
+pub mod laws;
 mod names;
 mod outbox;
 mod pipe;
@@ -14,3 +15,6 @@ pub use drops::Drops;
 pub use names::{Counts, Dropped, Offer, Out, PipeName};
 pub use outbox::Outbox;
 pub use pipe::Pipe;
+
+#[cfg(test)]
+mod tests;

@@ -1,6 +1,6 @@
 //! The list that an application fills in a step.
 
-ghost use Rattle.std.specs.Prelude.{◌≡◌, ◌<◌, [], ◌∷◌, length, IfOk};
+ghost use Rattle.std.specs.Prelude.{◌≡◌, ◌<◌, ◌+◌, [], ◌∷◌, length, IfOk};
 ghost use Rattle.bus_pipes.specs.Held.{adding, emptied};
 
 use crate::names::Out;
@@ -42,14 +42,18 @@ impl Outbox {
     #[tactic(auto, unfolding(crate::specs::Held::adding))]
     pub fn push(&mut self, item: Out)
         requires { length self.old.items < self.old.room }
-        ensures { self.new ≡ adding self.old (item ∷ []) }
+        ensures after { self.new ≡ adding self.old (item ∷ []) }
+        ensures size { length self.new.items ≡ length self.old.items + 1 }
+        ensures room { self.new.room ≡ self.old.room }
     {
         self.items.push_reserved(item);
     }
 
     /// Removes all items. The room stays.
     pub fn clear(&mut self)
-        ensures { self.new ≡ emptied self.old }
+        ensures after { self.new ≡ emptied self.old }
+        ensures none { self.new.items ≡ [] }
+        ensures room { self.new.room ≡ self.old.room }
     {
         self.items.clear();
     }

@@ -1,0 +1,194 @@
+ghost use Rattle.std.specs.Prelude.{◌≤◌};
+
+use super::*;
+use packet_forms::{Name, Packet, be32, telemetry};
+use std::alloc::Global;
+use std::process::Abort;
+use std::test::Fail;
+
+/// The packet of a letter of a script, with its place in the script as its seconds.
+fn lettered(letter: u8, place: u32) -> Packet {
+    match letter {
+        b'a' => telemetry(0x1801, place, &[]),
+        b'b' => telemetry(0x1802, place, &[]),
+        _ => telemetry(0x1803, place, &[]),
+    }
+}
+
+/// How a step of a script is written: `t` takes, a letter offers a packet of its id.
+fn step(rt: &impl Abort, pipe: &mut Pipe, letter: u8, place: u32) -> u8 {
+    if letter == b't' {
+        let Some(packet) = pipe.take() else {
+            return b'-';
+        };
+        let bytes = packet.bytes();
+        assert_eq!(rt; bytes.len(), 12);
+        return match be32(bytes, 6) {
+            0 => b'0',
+            1 => b'1',
+            2 => b'2',
+            3 => b'3',
+            4 => b'4',
+            5 => b'5',
+            6 => b'6',
+            _ => b'x',
+        };
+    }
+    match pipe.offer(lettered(letter, place)) {
+        Offer::Kept => b'K',
+        Offer::Limit => b'L',
+        Offer::Full => b'F',
+    }
+}
+
+fn check_script(
+    rt: &impl Abort,
+    alloc: Global,
+    depth: u32,
+    limit: u32,
+    script: &str,
+    expected: &str,
+) -> Result<(), Fail>
+    requires depth { (1 ≤ depth) × (depth ≤ 1024) }
+    requires limit { (1 ≤ limit) × (limit ≤ 1024) }
+{
+    let mut pipe = Pipe::open(alloc, depth, limit)?;
+    let mut place: u32 = 0;
+    assert_eq!(rt; script.len(), expected.len());
+    for (letter, wanted) in script.bytes().zip(expected.bytes()) {
+        assert_eq!(rt; step(rt, &mut pipe, letter, place), wanted);
+        place = place.wrapping_add(1);
+    }
+    Ok(())
+}
+
+#[test]
+fn pipes_ask_the_limit_before_the_depth(rt: HostRuntime) -> Result<(), Fail> {
+    let a = rt.alloc();
+    check_script(&rt, a, 1, 1, "aabtbtt", "KLF0K4-")?;
+    check_script(&rt, a, 2, 1, "aabcatabtt", "KLKFL0KL26")?;
+    check_script(&rt, a, 2, 2, "aaabtbbtt", "KKLF0KF15")?;
+    check_script(&rt, a, 1, 16, "aabt", "KFF0")?;
+    check_script(&rt, a, 16, 1, "aabbccttt", "KLKLKL024")?;
+    check_script(&rt, a, 16, 2, "aaabct", "KKLKK0")?;
+    check_script(
+        &rt,
+        a,
+        16,
+        16,
+        "aaaaaaaaaaaaaaaaabtbat",
+        "KKKKKKKKKKKKKKKKLF0KF1",
+    )?;
+    check_script(
+        &rt,
+        a,
+        32,
+        16,
+        "aaaaaaaaaaaaaaaaabtabb",
+        "KKKKKKKKKKKKKKKKLK0KKK",
+    )?;
+    check_script(
+        &rt,
+        a,
+        32,
+        32,
+        "aaaaaaaaaaaaaaaaaaaaaaaaaaaaaaaaabtbt",
+        "KKKKKKKKKKKKKKKKKKKKKKKKKKKKKKKKLF0K1",
+    )
+}
+
+#[test]
+fn packets_go_to_the_pipe_of_their_id(rt: HostRuntime) -> Result<(), Fail> {
+    let mut bus = Bus::open(rt.alloc())?;
+    let mut drops = Drops::open(rt.alloc(), 1)?;
+    let rows = [
+        (0x18AE, Some(PipeName::Hs)),
+        (0x18AF, Some(PipeName::Hs)),
+        (0x0808, Some(PipeName::HsEv)),
+        (0x189F, Some(PipeName::Cs)),
+        (0x18A0, Some(PipeName::Cs)),
+        (0x18A9, Some(PipeName::Sc)),
+        (0x18AA, Some(PipeName::Sc)),
+        (0x1888, Some(PipeName::Mm)),
+        (0x1889, Some(PipeName::Mm)),
+        (0x1890, Some(PipeName::Md)),
+        (0x1891, Some(PipeName::Md)),
+        (0x0887, None),
+        (0x0891, None),
+        (0x18AB, None),
+    ];
+    for (id, pipe) in rows {
+        let packet = telemetry(id % 8192, 0, &[]);
+        drops.clear();
+        bus.route(packet, &mut drops);
+        assert_eq!(rt; drops.len(), 0);
+        for name in [
+            PipeName::Hs,
+            PipeName::HsEv,
+            PipeName::Cs,
+            PipeName::Sc,
+            PipeName::Mm,
+            PipeName::Md,
+        ] {
+            let expected = if pipe == Some(name) {
+                Some(packet)
+            } else {
+                None
+            };
+            assert!(rt; bus.take(name) == expected);
+        }
+    }
+    Ok(())
+}
+
+#[test]
+fn a_held_pipe_fills_and_drops(rt: HostRuntime) -> Result<(), Fail> {
+    let mut bus = Bus::open(rt.alloc())?;
+    let mut drops = Drops::open(rt.alloc(), 18)?;
+    let noop = telemetry(0x1888, 0, &[]);
+    let request = telemetry(0x1889, 0, &[]);
+    bus.deliver(&[noop; 17], &mut drops);
+    bus.deliver(&[request], &mut drops);
+    let limit = Dropped {
+        pipe: PipeName::Mm,
+        full: false,
+        packet: noop,
+    };
+    let full = Dropped {
+        pipe: PipeName::Mm,
+        full: true,
+        packet: request,
+    };
+    assert!(rt; drops.items() == [limit, full].as_slice());
+    let mut batch = Batch::new();
+    bus.take_all(PipeName::Mm, &mut batch);
+    assert!(rt; batch.packets() == [noop; 16].as_slice());
+    bus.take_all(PipeName::Mm, &mut batch);
+    assert_eq!(rt; batch.packets().len(), 0);
+    assert_eq!(rt; drops.room(), 18);
+    Ok(())
+}
+
+#[test]
+fn outboxes_hold_what_was_pushed(rt: HostRuntime) -> Result<(), Fail> {
+    let mut outbox = Outbox::open(rt.alloc(), 3)?;
+    let name = Name::default();
+    let packet = Packet::default();
+    outbox.push(Out::Reset);
+    outbox.clear();
+    outbox.push(Out::Made(packet));
+    outbox.push(Out::Restart(name));
+    outbox.push(Out::Stored(packet));
+    let expected = [Out::Made(packet), Out::Restart(name), Out::Stored(packet)];
+    assert!(rt; outbox.items() == expected.as_slice());
+    assert_eq!(rt; outbox.len(), 3);
+    assert_eq!(rt; outbox.room(), 3);
+    assert!(rt;
+        Counts::default()
+            == Counts {
+                accepted: 0,
+                errors: 0
+            }
+    );
+    Ok(())
+}
