@@ -47,6 +47,7 @@ impl Batch {
     pub(crate) fn fill(&mut self, ring: &mut HeapCircularBuffer<Packet>)
         requires { ring.old.capacity ≤ 32 }
         ensures taken { self.new ≡ ring.old.items }
+        ensures few { length self.new ≤ ring.old.capacity }
         ensures left { ring.new ≡ buffer [] ring.old.capacity }
     {
         let few = ring.len();

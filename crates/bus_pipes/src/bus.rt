@@ -2,7 +2,7 @@
 
 ghost use Rattle.std.specs.Prelude.{◌≡◌, ◌<◌, ◌≤◌, ◌+◌, ◌++◌, [], drop, length, slice_get, IfOk};
 ghost use Rattle.packet_forms.specs.Packets.{message_id};
-ghost use Rattle.bus_pipes.specs.Pipes.{empty_pipes, packets_in, with_packets, pipe_of, offered};
+ghost use Rattle.bus_pipes.specs.Pipes.{empty_pipes, packets_in, with_packets, depth_of, pipe_of, offered};
 ghost use Rattle.bus_pipes.specs.Held.{adding};
 ghost use Rattle.bus_pipes.specs.Delivery.{pipe_in, after_offer_to, after_offer, drop_of, after_offers, drops_from};
 
@@ -101,6 +101,7 @@ impl Bus {
     /// Takes all packets of a pipe.
     pub fn take_all(&mut self, pipe: PipeName, batch: &mut Batch)
         ensures taken { batch.new ≡ packets_in pipe self.old }
+        ensures few { length batch.new ≤ depth_of pipe }
         ensures after { self.new ≡ with_packets pipe [] self.old }
     {
         match pipe {

@@ -68,6 +68,7 @@ impl Pipe {
     pub fn take_all(&mut self, batch: &mut Batch)
         requires { self.old.depth ≤ 32 }
         ensures taken { batch.new ≡ self.old.packets }
+        ensures few { length batch.new ≤ self.old.depth }
         ensures after { self.new ≡ record self.old { packets = [] } }
     {
         batch.fill(&mut self.packets);
