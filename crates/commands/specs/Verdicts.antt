@@ -34,12 +34,17 @@ first_verdict command_id request_id rows p =
     else if message_id p == command_id then command_verdict rows p
     else Other
 
+-- The verdict on a command of this code, by its own refusal.
+abbrev pub refused_by : Option ℕ → ℕ → Verdict
+refused_by None code = Accepted code
+refused_by (Some reason) code = Refused reason
+
 -- A verdict with the command's own refusals asked after the first three.
 abbrev pub with_own_refusals : (ℕ → Option ℕ) → Verdict → Verdict
 with_own_refusals own Other = Other
 with_own_refusals own Request = Request
 with_own_refusals own (Refused reason) = Refused reason
-with_own_refusals own (Accepted code) = elim (own code) [ None ↦ Accepted code | Some reason ↦ Refused reason ]
+with_own_refusals own (Accepted code) = refused_by (own code) code
 
 -- An accepted command.
 abbrev pub is_accepted : Verdict → Bool
