@@ -1,9 +1,7 @@
 -- The event that answers a command.
-use Rattle.std.specs.Prelude.{ℕ, ◌+◌, ◌==◌, Bool, true, List, [], ◌∷◌}
-use Rattle.std.specs.List.{list_any}
+use Rattle.std.specs.Prelude.{ℕ, ◌+◌, List, [], ◌∷◌}
 use Rattle.bus_pipes.specs.declared.names.Out.{Out}
 use Rattle.bus_pipes.specs.declared.names.Out.TheVariants as outs
-use Rattle.packet_forms.specs.Packets.{message_id}
 use Rattle.packet_forms.specs.Built.{event_of}
 use Rattle.commands.specs.declared.verdicts.Verdict.{Verdict}
 use Rattle.commands.specs.declared.verdicts.Verdict.TheVariants.{Other, Request, Refused, Accepted}
@@ -14,8 +12,3 @@ answering_event name time Other = []
 answering_event name time Request = []
 answering_event name time (Refused reason) = outs.Made (event_of name reason 3 time) ∷ []
 answering_event name time (Accepted code) = outs.Made (event_of name (16 + code) 2 time) ∷ []
-
--- Whether an item, where it is telemetry that was made, has one of these ids.
-abbrev pub is_made_with : List ℕ → Out → Bool
-is_made_with ids (outs.Made p) = list_any (λ id. id == message_id p) ids
-is_made_with ids _ = true
