@@ -33,7 +33,8 @@ impl Store {
     #[tactic(auto, unfolding(crate::specs::Zeros::zeros))]
     pub fn zeroed(alloc: Global, size: usize) -> Result<Store, AllocError>
         requires { size < 2 ^ 63 }
-        ensures { IfOk result (λ store. store ≡ zeros size) }
+        ensures zeros { IfOk result (λ store. store ≡ zeros size) }
+        ensures len { IfOk result (λ store. length store ≡ size) }
     {
         let (ptr, mut bytes, deed) = allocate(&alloc, size)?;
         for len in 0..size {

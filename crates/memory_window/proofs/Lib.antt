@@ -1,2 +1,4 @@
 pub mod Maps
 pub mod Parts
+pub mod Areas
+pub mod Soundness

@@ -1,5 +1,5 @@
 -- Memory: the regions with their bytes, and which of them are protected.
-use Rattle.std.specs.Prelude.{ℕ, ◌+◌, ◌-◌, Bool, true, false, ◌&&◌, nat_eq, nat_le, List, [], ◌∷◌, map, take, drop, find, Option, None, Some, option_map, slice_index, if◌then◌else◌}
+use Rattle.std.specs.Prelude.{ℕ, ◌+◌, ◌-◌, Bool, nat_eq, List, [], ◌∷◌, map, take, drop, find, Option, None, Some, slice_get, if◌then◌else◌}
 use Rattle.memory_block.specs.Zeros.{zeros}
 use Rattle.memory_window.specs.declared.regions.Region.{Region}
 use Rattle.memory_window.specs.Regions.{spans, is_eeprom, total_of}
@@ -26,9 +26,14 @@ home areas at n = find (λ r. spans at n r.region) areas
 abbrev pub part_of : ℕ → ℕ → Area → List ℕ
 part_of at n r = take n (drop (at - r.region.start) r.bytes)
 
+-- the byte at an address, in the area that has it
+abbrev pub byte_in : ℕ → Option Area → Option ℕ
+byte_in at None = None
+byte_in at (Some r) = slice_get r.bytes (at - r.region.start)
+
 -- the byte at an address, where an area has it
 abbrev pub byte_at : List Area → ℕ → Option ℕ
-byte_at areas at = option_map (λ r. slice_index r.bytes (at - r.region.start)) (home areas at 1)
+byte_at areas at = byte_in at (home areas at 1)
 
 -- bytes that lie from an address on, each changed by a function of its address and itself
 abbrev pub each_from : (ℕ → ℕ → ℕ) → ℕ → List ℕ → List ℕ

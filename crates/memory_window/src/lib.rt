@@ -6,6 +6,7 @@ mod chunk;
 mod landing;
 mod operations;
 mod ops;
+mod ram;
 mod regions;
 mod window;
 
@@ -13,5 +14,6 @@ pub use access::AccessFault;
 pub use chunk::Chunk;
 pub use operations::{MemOp, is_size};
 pub use ops::Ops;
+pub use ram::Ram;
 pub use regions::{Kind, Map, MapFault, Region, is_mapped};
 pub use window::Window;

@@ -1,5 +1,5 @@
 //! The regions of memory, and the map that holds them.
-ghost use Rattle.std.specs.Prelude.{◌≡◌, ◌+◌, ◌-◌, ◌<◌, ◌≤◌, ◌++◌, length, replicate, IfErr, IfOk, IfNone, None, Some, nat_lt};
+ghost use Rattle.std.specs.Prelude.{◌≡◌, ◌+◌, ◌-◌, ◌<◌, ◌≤◌, ◌++◌, length, replicate, IfErr, IfOk, IfNone, None, Some, false, nat_lt};
 ghost use Rattle.std.specs.List.{list_any};
 ghost use Rattle.memory_window.specs.Regions.{blank, holds, is_mapped, map_fault_of, meet, spans, is_eeprom, allows, unit_of, is_empty, has_blank, has_overlap, ends_late, are_too_big, is_unaligned, total_of};
 
@@ -88,7 +88,7 @@ impl Kind {
 
 impl Region {
     /// What stands behind the regions of a map.
-    const BLANK: Region = Region {
+    pub(crate) const BLANK: Region = Region {
         kind: Kind::Ram,
         start: 0,
         len: 0,
@@ -188,6 +188,17 @@ fn are_too_long(regions: &[Region]) -> bool
     total > MOST_BYTES
 }
 
+fn total_len(regions: &[Region]) -> u32
+    requires { total_of regions.now ≤ 4194304 }
+    ensures { result ≡ total_of regions.now }
+{
+    let mut total = 0;
+    for region in regions {
+        total += region.len;
+    }
+    total
+}
+
 fn are_too_big(regions: &[Region]) -> bool
     ensures { result ≡ are_too_big regions.now }
 {
@@ -279,8 +290,18 @@ impl Map {
     pub fn regions(&self) -> &[Region]
         ensures regions { result.now ≡ self.now }
         ensures valid { map_fault_of self.now ≡ None }
+        ensures few { length self.now ≤ 8 }
+        ensures within { list_any ends_late self.now ≡ false }
     {
         &self.regions[..self.count]
+    }
+
+    /// How many bytes the regions have together.
+    pub fn total(&self) -> u32
+        ensures total { result ≡ total_of self.now }
+        ensures most { total_of self.now ≤ 4194304 }
+    {
+        total_len(self.regions())
     }
 
     /// Whether one of the map's regions has this address.

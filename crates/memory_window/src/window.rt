@@ -1,6 +1,6 @@
 //! A view of memory that may be copied and read by several threads.
 ghost use Rattle.std.specs.Prelude.{◌≡◌, ◌+◌, ◌/◌, ◌<◌, ◌≤◌, ◌&&◌, length, take, drop, IfSome, IfOk, IfErr, MatchResult, Ok, Err, IsTrue, option_map, if◌then◌else◌};
-ghost use Rattle.memory_window.specs.Regions.{is_eeprom};
+ghost use Rattle.memory_window.specs.Regions.{is_eeprom, total_of};
 ghost use Rattle.memory_window.specs.Operations.{is_size};
 ghost use Rattle.memory_window.specs.Numbers.{number_of};
 
@@ -36,9 +36,38 @@ impl<'a> Part<'a> {
 }
 
 impl<'a> Window<'a> {
-    ghost use Rattle.memory_window.specs.Memory.{home, part_of};
+    ghost use Rattle.memory_window.specs.Memory.{home, part_of, cut};
     ghost use Rattle.memory_window.specs.Access.{read_of, bytes_of, is_protected, is_guarded, unless_guarded, admits_of, CanAsk};
     ghost use Rattle.memory_window.specs.Window.{area_of, seen};
+
+    // The window on a block in which the regions lie side by side.
+    pub(crate) fn over(regions: &[Region], guarded: &[bool], block: &'a [u8]) -> Window<'a>
+        requires few { length regions.now ≤ 8 }
+        requires flags { length guarded.now ≡ 8 }
+        requires whole { total_of regions.now ≡ length block.now }
+        ensures { seen result ≡ record { areas = cut regions.now block.entry.now; guarded = take (length regions.now) guarded.now } }
+    {
+        let blank = Part {
+            region: Region::BLANK,
+            bytes: &[],
+            guarded: false,
+        };
+        let mut parts = [blank; MOST_REGIONS];
+        let mut from = 0;
+        for (i, region) in regions.iter().enumerate() {
+            let to = from + region.len as usize;
+            parts[i] = Part {
+                region: *region,
+                bytes: &block[from..to],
+                guarded: guarded[i],
+            };
+            from = to;
+        }
+        Window {
+            parts,
+            count: regions.len(),
+        }
+    }
 
     // The part in which a range lies.
     fn home(self, at: u32, len: u32) -> Option<Part<'a>>

@@ -1,4 +1,4 @@
-use Rattle.std.proofs.Common.{◌≡◌, ◌<◌, ◌≤◌, take, length, sym, ◌∙◌, arith, length-take}
+use Rattle.std.proofs.Common.{sym, ◌∙◌, arith, length-take}
 use Rattle.memory_window.proofs.Parts.{part-flag-some, part-flag-none}
 use Rattle.memory_window.proofs.window.Window.protected.Goals as goal
 

@@ -1,0 +1,148 @@
+//! Memory itself: one block of bytes, the map of its regions and their flags.
+ghost use Rattle.std.specs.Prelude.{◌≡◌, ◌≤◌, false, None, [], length, take, map, All, IfOk, IsTrue};
+ghost use Rattle.std.specs.List.{list_any};
+ghost use Rattle.memory_window.specs.Regions.{is_eeprom, is_mapped, ends_late, total_of, map_fault_of};
+ghost use Rattle.memory_window.specs.Operations.{IsSound, protect, protected_by};
+ghost use Rattle.memory_window.specs.Landing.{land, landed};
+ghost use Rattle.memory_window.specs.Memory.{cut, changed, regions_of, start_memory, upset_at};
+ghost use Rattle.memory_window.specs.Access.{Admitted};
+
+use crate::landing::bank_land;
+use crate::regions::{MOST_REGIONS, Region};
+use crate::window::Part;
+use crate::{Map, MemOp, Window};
+use fsw_outside::NoMemory;
+use memory_block::Store;
+use std::alloc::Global;
+use std::marker::Model;
+
+/// The memory of the regions of a map.
+#[derive(Drop)]
+pub struct Ram {
+    map: Map,
+    // One flag for each region; those behind the last one say nothing.
+    guarded: [bool; MOST_REGIONS],
+    store: Store,
+}
+
+impl Model for Ram {
+    ghost use Rattle.std.specs.Prelude.{◌≡◌, None, length, take};
+    ghost use Rattle.memory_window.specs.Regions.{map_fault_of, total_of};
+    ghost use Rattle.memory_window.specs.Memory.{Memory, cut};
+
+    ghost Value = { Memory };
+
+    ghost view = { λ r. record { areas = cut r.map r.store; guarded = take (length r.map) r.guarded } };
+
+    ghost invariant = { λ r. (map_fault_of r.map ≡ None) × (length r.guarded ≡ 8) × (total_of r.map ≡ length r.store) };
+}
+
+impl Ram {
+    ghost use Rattle.memory_window.specs.Window.{seen};
+
+    /// Memory at its start: all bytes are 0, and every EEPROM region is protected.
+    pub fn new(alloc: Global, map: Map) -> Result<Ram, NoMemory>
+        ensures { IfOk result (λ ram. ram ≡ start_memory map) }
+    {
+        let Ok(store) = Store::zeroed(alloc, map.total() as usize) else {
+            return Err(NoMemory);
+        };
+        Ok(Ram {
+            guarded: start_flags(map.regions()),
+            map,
+            store,
+        })
+    }
+
+    /// What memory shows now. The window lends the block: nothing is copied.
+    pub fn window(&self) -> Window<'_>
+        ensures window { seen result ≡ self.now }
+        ensures map { map_fault_of (regions_of self.now.areas) ≡ None }
+    {
+        let block = self.store.part(0, self.store.len());
+        Window::over(self.map.regions(), &self.guarded, block)
+    }
+
+    /// Makes the operations, in their order.
+    pub fn land(&mut self, ops: &[MemOp])
+        requires { All (Admitted self.old) ops.now }
+        ensures { self.new ≡ land [] ops.now self.old }
+    {
+        let regions = self.map.regions();
+        land_store(&mut self.store, regions, ops);
+        protect_all(&mut self.guarded[..regions.len()], ops);
+    }
+
+    /// Writes one byte, whatever protects it.
+    pub fn upset(&mut self, at: u32, value: u8)
+        requires { IsTrue (is_mapped (regions_of self.old.areas) at) }
+        ensures { self.new ≡ upset_at self.old at value }
+    {
+        let op = MemOp::Fill {
+            at,
+            len: 1,
+            byte: value,
+        };
+        land_store(&mut self.store, self.map.regions(), &[op]);
+    }
+}
+
+// Lands the operations on each region.
+fn land_store(store: &mut Store, regions: &[Region], ops: &[MemOp])
+    requires whole { total_of regions.now ≡ length store.old }
+    requires within { list_any ends_late regions.now ≡ false }
+    requires sound { All IsSound ops.now }
+    ensures areas { cut regions.now store.new ≡ changed (landed [] ops.now) (cut regions.now store.old) }
+    ensures len { length store.new ≡ length store.old }
+{
+    let size = store.len();
+    land_all(store.part_mut(0, size), regions, ops);
+}
+
+// The flags at the start: EEPROM regions are protected.
+fn start_flags(regions: &[Region]) -> [bool; MOST_REGIONS]
+    requires { length regions.now ≤ 8 }
+    ensures flags { take (length regions.now) result ≡ map (λ r. is_eeprom r.kind) regions.now }
+    ensures eight { length result ≡ 8 }
+{
+    let mut flags = [false; MOST_REGIONS];
+    for (i, region) in regions.iter().enumerate() {
+        flags[i] = region.kind.is_eeprom();
+    }
+    flags
+}
+
+// Lands the operations on each region of a block in which the regions lie side by side.
+fn land_all(block: &mut [u8], regions: &[Region], ops: &[MemOp])
+    requires whole { total_of regions.now ≡ length block.old }
+    requires within { list_any ends_late regions.now ≡ false }
+    requires sound { All IsSound ops.now }
+    ensures { cut regions.now block.new ≡ changed (landed [] ops.now) (cut regions.now block.old) }
+{
+    let mut from = 0;
+    for region in regions {
+        let to = from + region.len as usize;
+        bank_land(region.start, &mut block[from..to], ops);
+        from = to;
+    }
+}
+
+// Sets and takes away the flags that the operations name, in their order.
+fn protect_all(flags: &mut [bool], ops: &[MemOp])
+    ensures { flags.new ≡ protected_by ops.now flags.old }
+{
+    for op in ops {
+        protect_one(flags, op);
+    }
+}
+
+fn protect_one(flags: &mut [bool], op: &MemOp)
+    ensures { flags.new ≡ protect op.now flags.old }
+{
+    if let MemOp::Protect { region, on } = op {
+        let i = (*region as usize).saturating_sub(1);
+        if i < flags.len() {
+            flags[i] = *on;
+        }
+    }
+}
