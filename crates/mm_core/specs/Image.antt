@@ -1,0 +1,28 @@
+-- What MM reads and asks of the image of memory that its window shows.
+use Rattle.std.specs.Prelude.{ℕ, Bool, Option, Result}
+use Rattle.memory_window.specs.Memory.{Memory}
+use Rattle.memory_window.specs.Access.{read_of, admits_of, is_protected, Admitted}
+use Rattle.memory_window.specs.Window.{seen}
+use Rattle.memory_window.specs.declared.window.Window.{Window}
+use Rattle.memory_window.specs.declared.access.AccessFault.{AccessFault}
+use Rattle.memory_window.specs.declared.operations.MemOp.{MemOp}
+
+-- The image that a window shows.
+unfoldable pub image_of : Window → Memory
+image_of window = seen window
+
+-- What a read of 8, 16 or 32 bits at an address gives.
+unfoldable pub value_at : Memory → ℕ → ℕ → Result ℕ AccessFault
+value_at image size at = read_of size image at
+
+-- Whether an operation is admitted, or the fault that it meets.
+unfoldable pub admission_of : Memory → MemOp → Result (Unit {0}) AccessFault
+admission_of image op = admits_of image op
+
+-- Whether an EEPROM region is protected, nothing where the number isn't that of an EEPROM region.
+unfoldable pub protection_of : Memory → ℕ → Option Bool
+protection_of image region = is_protected image region
+
+-- An operation that can be asked for and is admitted.
+unfoldable pub IsAdmitted : Memory → MemOp → Type 0
+IsAdmitted image op = Admitted image op

@@ -1,0 +1,5 @@
+pub mod Image
+pub mod Instructions
+pub mod Verdicts
+pub mod Output
+pub mod Standing

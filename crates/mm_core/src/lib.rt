@@ -1,0 +1,11 @@
+//! MM: memory peek and poke, and the protection of EEPROM regions, by command.
+#![tactic(auto)]
+
+mod answers;
+mod housekeeping;
+mod instructions;
+mod reading;
+mod step;
+mod verdicts;
+
+pub use step::Mm;
