@@ -146,7 +146,7 @@ ending_answer true old place lines e1 e2 = rw (e1, e2) (by_place (place_after ol
   by_place places.Inside lines = refl
   by_place places.Ended lines = refl
 
-never_bad : (end : Bool) (old : Before) (line : ℕ) (reason : Reason) → ending_at end old ≡ Bad line reason → ⊥
+pub never_bad : (end : Bool) (old : Before) (line : ℕ) (reason : Reason) → ending_at end old ≡ Bad line reason → ⊥
 never_bad false old line reason e = cc
 never_bad true old line reason e = by_place (place_after old.sentences) old.lines line reason e where
   by_place : (place : Place) (lines line : ℕ) (reason : Reason) → elim place [ places.Ended ↦ Ended | _ ↦ Unended lines ] ≡ Bad line reason → ⊥
@@ -207,15 +207,15 @@ at_bad r t gave reason s some refused =
 
 -- ---- a good line is passed
 
-not_started_epoch : (p : Place) → stands_at p verbs.Epoch ≡ true → is_started p ≡ false
+pub not_started_epoch : (p : Place) → stands_at p verbs.Epoch ≡ true → is_started p ≡ false
 not_started_epoch places.Opening h = refl
 not_started_epoch _ h = absurd (false≢true h)
 
-not_started_region : (p : Place) → stands_at p verbs.Region ≡ true → is_started p ≡ false
+pub not_started_region : (p : Place) → stands_at p verbs.Region ≡ true → is_started p ≡ false
 not_started_region places.Header h = refl
 not_started_region _ h = absurd (false≢true h)
 
-not_started_start : (p : Place) → stands_at p verbs.Start ≡ true → is_started p ≡ false
+pub not_started_start : (p : Place) → stands_at p verbs.Start ≡ true → is_started p ≡ false
 not_started_start places.Header h = refl
 not_started_start _ h = absurd (false≢true h)
 
@@ -239,7 +239,7 @@ started_hold places.Between h = refl
 started_hold places.Inside h = refl
 started_hold _ h = absurd (false≢true h)
 
-started_tick : (p : Place) → stands_at p verbs.Tick ≡ true → is_started p ≡ true
+pub started_tick : (p : Place) → stands_at p verbs.Tick ≡ true → is_started p ≡ true
 started_tick places.Between h = refl
 started_tick places.Inside h = refl
 started_tick _ h = absurd (false≢true h)
@@ -295,7 +295,7 @@ head_passed : (old : Before) (line : Line) (said : Option Sentence) (gave : List
 head_passed old line None gave h k head = head_same (header_of old.sentences) gave head
 head_passed old line (Some s) gave h k head = head_on old.sentences s gave h k head
 
-passed_bytes : (old : Before) (line : Line) (said : Option Sentence) → (passed old line said).bytes ≡ old.bytes + line.takes
+pub passed_bytes : (old : Before) (line : Line) (said : Option Sentence) → (passed old line said).bytes ≡ old.bytes + line.takes
 passed_bytes old line None = refl
 passed_bytes old line (Some s) = refl
 

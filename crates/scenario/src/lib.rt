@@ -3,6 +3,7 @@
 
 mod frame;
 mod item;
+pub mod laws;
 mod progress;
 mod reader;
 mod reason;

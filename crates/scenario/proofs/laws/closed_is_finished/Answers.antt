@@ -1,0 +1,5 @@
+use Rattle.scenario.proofs.TextLaws.{closed_is}
+use Rattle.scenario.proofs.laws.closed_is_finished.Goals as goal
+
+pub returns : goal.returns
+returns c = closed_is

@@ -1,0 +1,5 @@
+use Rattle.scenario.proofs.TextLaws.{given_first}
+use Rattle.scenario.proofs.laws.given_items_come_first.Goals as goal
+
+pub returns : goal.returns
+returns c = given_first

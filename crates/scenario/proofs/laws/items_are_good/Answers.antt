@@ -1,0 +1,5 @@
+use Rattle.scenario.proofs.TextLaws.{items_are_good}
+use Rattle.scenario.proofs.laws.items_are_good.Goals as goal
+
+pub returns : goal.returns
+returns c = items_are_good

@@ -1,0 +1,5 @@
+use Rattle.scenario.proofs.TextLaws.{texts_grow}
+use Rattle.scenario.proofs.laws.texts_grow.Goals as goal
+
+pub returns : goal.returns
+returns c = texts_grow

@@ -1,0 +1,52 @@
+//! Laws of scenario texts, and of readers that stand for them: each function answers nothing, and its
+//! contract is the law.
+
+ghost use Rattle.std.specs.Prelude.{◌≡◌, ◌≤◌, ◌<◌, ◌+◌, ◌++◌, ℕ, Bool, List, false, length, slice_index};
+ghost use Rattle.scenario.specs.Texts.{Text, Given, Reading, Bad, Open, Grows, AreGood, reading};
+ghost use Rattle.scenario.specs.Standing.{Stands, is_finished};
+ghost use Rattle.scenario.specs.declared.reader.Reader.{Reader};
+ghost use Rattle.scenario.specs.declared.reason.Reason.{Reason};
+
+/// An open text that grows keeps its items and their ends, or its bad line.
+pub fn texts_grow()
+    ensures { (first more : List ℕ) (end : Bool)
+        → Grows (reading (record { bytes = first; closed = false })) (reading (record { bytes = first ++ more; closed = end })) }
+{}
+
+/// An open text without a bad line has at most 16,777,856 bytes.
+pub fn open_texts_are_bounded()
+    ensures { (bytes : List ℕ) → (reading (record { bytes = bytes; closed = false })).ending ≡ Open → length bytes ≤ 16777856 }
+{}
+
+/// The items of a text are a header, and behind it at most 100,000 frames of at most 64 items each, whose
+/// upsets lie in the header's map.
+pub fn items_are_good()
+    ensures { (t : Text) → AreGood (reading t).items }
+{}
+
+/// What a reader gave is a first part of the items of its text.
+pub fn given_items_come_first()
+    ensures { (r : Reader) (t : Text) (gave : List Given) → Stands r t gave → (rest : List Given) × ((reading t).items ≡ gave ++ rest) }
+{}
+
+/// So it is one header, and then frames within the limits.
+pub fn given_items_are_good()
+    ensures { (r : Reader) (t : Text) (gave : List Given) → Stands r t gave → AreGood gave }
+{}
+
+/// A text is closed exactly where the reader that stands for it was told that no more bytes come.
+pub fn closed_is_finished()
+    ensures { (r : Reader) (t : Text) (gave : List Given) → Stands r t gave → t.closed ≡ is_finished r }
+{}
+
+/// Each item has a stop, and a bad line one more.
+pub fn items_have_stops()
+    ensures items { (t : Text) → length (reading t).items ≤ length (reading t).stops }
+    ensures bad { (t : Text) (line : ℕ) (reason : Reason) → (reading t).ending ≡ Bad line reason
+        → length (reading t).stops ≡ length (reading t).items + 1 }
+{}
+
+/// A stop stays when the text grows.
+pub fn stops_stay()
+    ensures { (r q : Reading) (n : ℕ) → Grows r q → n < length r.stops → slice_index q.stops n ≡ slice_index r.stops n }
+{}
