@@ -1,13 +1,14 @@
 -- Areas cut from a block, and what changing their bytes leaves.
-use Rattle.std.proofs.Common.{◌≡◌, ℕ, zero, suc, ◌+◌, ◌-◌, ◌<◌, ◌≤◌, List, [], ◌∷◌, ◌++◌, length, get_or, take, drop, refl, sym, ap, ◌∙◌, arith, length-drop, length-take, add-zero, add-one}
+use Rattle.std.proofs.Common.{◌≡◌, ℕ, zero, suc, ◌+◌, ◌-◌, ◌<◌, ◌≤◌, Bool, true, false, cond, List, [], ◌∷◌, ◌++◌, length, map, get_or, take, drop, Option, Some, slice_get, option_map, refl, sym, ap, ◌∙◌, arith, length-drop, length-take, add-zero, add-one}
 use Rattle.std.proofs.lemmas.List.{ext_get_or, take-append-le, drop-append-le, map-append, take_all}
+use Rattle.std.proofs.lemmas.Grind.{common_steps}
 use Rattle.std.proofs.lemmas.List.Sums.{sum_by-cons, sum_by_more, sum_by_more_le}
 use Rattle.std.proofs.lemmas.Slice.{take-put_mid, drop-put_mid}
 use borrow.Rule.Slice.PartMut.{put_mid}
 use Rattle.std.proofs.Math.Seq.{take-add, take-suc, drop-drop}
 use Rattle.memory_window.specs.declared.regions.Region.{Region}
-use Rattle.memory_window.specs.Regions.{blank, total_of}
-use Rattle.memory_window.specs.Memory.{Area, cut, changed, each_from, regions_of}
+use Rattle.memory_window.specs.Regions.{blank, spans, total_of}
+use Rattle.memory_window.specs.Memory.{Area, byte_at, byte_in, cut, changed, each_from, home, regions_of}
 
 pub length-each_from : (f : ℕ → ℕ → ℕ) (at : ℕ) (xs : List ℕ) → length (each_from f at xs) ≡ length xs
 length-each_from f at [] = refl
@@ -99,3 +100,22 @@ each_from-same f g same at (x ∷ xs) = λ i. same at x i ∷ each_from-same f g
 pub changed-same : (f g : ℕ → ℕ → ℕ) → ((a x : ℕ) → f a x ≡ g a x) → (areas : List Area) → changed f areas ≡ changed g areas
 changed-same f g same [] = refl
 changed-same f g same (a ∷ areas) = λ i. record { region = a.region; bytes = each_from-same f g same a.region.start a.bytes i } ∷ changed-same f g same areas i
+
+get-each_from : (f : ℕ → ℕ → ℕ) (at : ℕ) (xs : List ℕ) (k : ℕ) → slice_get (each_from f at xs) k ≡ option_map (f (at + k)) (slice_get xs k)
+get-each_from f at [] k = refl
+get-each_from f at (x ∷ xs) zero = ap (λ (a : ℕ). Some (f a x)) (sym (add-zero at))
+get-each_from f at (x ∷ xs) (suc k) =
+    let e : at + 1 + k ≡ at + suc k = omega arith in
+    get-each_from f (at + 1) xs k ∙ ap (λ (a : ℕ). option_map (f a) (slice_get xs k)) e
+
+-- the byte at an address of changed areas is the changed byte
+pub byte-changed : (f : ℕ → ℕ → ℕ) (areas : List Area) (a : ℕ) → byte_at (changed f areas) a ≡ option_map (f a) (byte_at areas a)
+byte-changed f [] a = refl
+byte-changed f (r ∷ areas) a =
+    let P : Bool → Type 0 = λ b. byte_in a (cond b (Some (record { region = r.region; bytes = each_from f r.region.start r.bytes })) (home (changed f areas) a 1)) ≡ option_map (f a) (byte_in a (cond b (Some r) (home areas a 1))) in
+    let go : (b : Bool) → spans a 1 r.region ≡ b → P b = λ b. elim b as (λ c. spans a 1 r.region ≡ c → P c) [
+      true ↦ λ e. let from : r.region.start + (a - r.region.start) ≡ a = grind (arith, common_steps) in
+      get-each_from f r.region.start r.bytes (a - r.region.start) ∙ ap (λ (k : ℕ). option_map (f k) (slice_get r.bytes (a - r.region.start))) from
+      | false ↦ λ e. byte-changed f areas a
+    ] in
+    go (spans a 1 r.region) refl

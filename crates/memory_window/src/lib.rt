@@ -4,6 +4,7 @@
 mod access;
 mod chunk;
 mod landing;
+pub mod laws;
 mod operations;
 mod ops;
 mod ram;
@@ -17,3 +18,6 @@ pub use ops::Ops;
 pub use ram::Ram;
 pub use regions::{Kind, Map, MapFault, Region, is_mapped};
 pub use window::Window;
+
+#[cfg(test)]
+mod tests;

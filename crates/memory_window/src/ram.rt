@@ -42,7 +42,8 @@ impl Ram {
 
     /// Memory at its start: all bytes are 0, and every EEPROM region is protected.
     pub fn new(alloc: Global, map: Map) -> Result<Ram, NoMemory>
-        ensures { IfOk result (λ ram. ram ≡ start_memory map) }
+        ensures start { IfOk result (λ ram. ram ≡ start_memory map) }
+        ensures map { IfOk result (λ ram. regions_of ram.areas ≡ map) }
     {
         let Ok(store) = Store::zeroed(alloc, map.total() as usize) else {
             return Err(NoMemory);
@@ -66,7 +67,8 @@ impl Ram {
     /// Makes the operations, in their order.
     pub fn land(&mut self, ops: &[MemOp])
         requires { All (Admitted self.old) ops.now }
-        ensures { self.new ≡ land [] ops.now self.old }
+        ensures land { self.new ≡ land [] ops.now self.old }
+        ensures map { regions_of self.new.areas ≡ regions_of self.old.areas }
     {
         let regions = self.map.regions();
         land_store(&mut self.store, regions, ops);
@@ -76,7 +78,8 @@ impl Ram {
     /// Writes one byte, whatever protects it.
     pub fn upset(&mut self, at: u32, value: u8)
         requires { IsTrue (is_mapped (regions_of self.old.areas) at) }
-        ensures { self.new ≡ upset_at self.old at value }
+        ensures upset { self.new ≡ upset_at self.old at value }
+        ensures map { regions_of self.new.areas ≡ regions_of self.old.areas }
     {
         let op = MemOp::Fill {
             at,
