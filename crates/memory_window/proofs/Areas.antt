@@ -114,8 +114,8 @@ byte-changed f [] a = refl
 byte-changed f (r ∷ areas) a =
     let P : Bool → Type 0 = λ b. byte_in a (cond b (Some (record { region = r.region; bytes = each_from f r.region.start r.bytes })) (home (changed f areas) a 1)) ≡ option_map (f a) (byte_in a (cond b (Some r) (home areas a 1))) in
     let go : (b : Bool) → spans a 1 r.region ≡ b → P b = λ b. elim b as (λ c. spans a 1 r.region ≡ c → P c) [
-      true ↦ λ e. let from : r.region.start + (a - r.region.start) ≡ a = grind (arith, common_steps) in
-      get-each_from f r.region.start r.bytes (a - r.region.start) ∙ ap (λ (k : ℕ). option_map (f k) (slice_get r.bytes (a - r.region.start))) from
+      | true ↦ λ e. let from : r.region.start + (a - r.region.start) ≡ a = grind (arith, common_steps) in
+          get-each_from f r.region.start r.bytes (a - r.region.start) ∙ ap (λ (k : ℕ). option_map (f k) (slice_get r.bytes (a - r.region.start))) from
       | false ↦ λ e. byte-changed f areas a
     ] in
     go (spans a 1 r.region) refl

@@ -9,19 +9,16 @@ ghost use Rattle.memory_window.specs.Landing.{land, landed};
 /// Of the regions of a map at most one has an address.
 pub fn regions_are_apart()
     ensures { (regions : List Region) → map_fault_of regions ≡ None → (i j a : ℕ) → i < length regions → j < length regions → IsTrue (holds a (get_or regions i blank)) → IsTrue (holds a (get_or regions j blank)) → i ≡ j }
-{
-}
+{}
 
 /// Landing is a function of one address and the byte there, and changes no region.
 pub fn landing_is_by_address()
     ensures bytes { (files : List (List ℕ)) → (ops : List MemOp) → (m : Memory) → (a : ℕ) → byte_at (land files ops m).areas a ≡ option_map (landed files ops a) (byte_at m.areas a) }
     ensures map { (files : List (List ℕ)) → (ops : List MemOp) → (m : Memory) → regions_of (land files ops m).areas ≡ regions_of m.areas }
-{
-}
+{}
 
 /// An upset changes the byte at its address alone, and no region.
 pub fn upset_is_by_address()
     ensures bytes { (m : Memory) → (at value a : ℕ) → byte_at (upset_at m at value).areas a ≡ option_map (λ x. if nat_eq a at then value else x) (byte_at m.areas a) }
     ensures map { (m : Memory) → (at value : ℕ) → regions_of (upset_at m at value).areas ≡ regions_of m.areas }
-{
-}
+{}

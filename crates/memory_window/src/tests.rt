@@ -1,8 +1,11 @@
 //! Worked examples of maps, reads, protection, upsets and landing.
-ghost use Rattle.std.specs.Prelude.{};
 ghost use Rattle.memory_window.specs.Access.{CanAsk};
 
-use crate::{AccessFault, Chunk, Kind, Map, MapFault, MemOp, Ops, Ram, Region, Window};
+use crate::{
+    AccessFault, Chunk, Kind, Map, MapFault, MemOp, Ops, Ram, Region, Window, is_mapped, is_size,
+};
+use std::alloc::Global;
+use std::process::Abort;
 use std::thread;
 
 fn region(kind: Kind, start: u32, len: u32) -> Region {
@@ -72,4 +75,244 @@ fn map_refusals_come_in_order(rt: HostRuntime) {
     assert!(rt; fault_of(&nine) == Some(MapFault::TooMany));
     assert!(rt; fault_of(&nine[..8]) == Some(MapFault::Alignment));
     assert!(rt; fault_of(&[region(ram, 4, 6)]) == Some(MapFault::Alignment));
+}
+
+const KINDS: [Region; 5] = [
+    Region {
+        kind: Kind::Ram,
+        start: 0x1000,
+        len: 8,
+    },
+    Region {
+        kind: Kind::Mem8,
+        start: 0x1008,
+        len: 8,
+    },
+    Region {
+        kind: Kind::Mem16,
+        start: 0x2000,
+        len: 8,
+    },
+    Region {
+        kind: Kind::Mem32,
+        start: 0x3000,
+        len: 8,
+    },
+    Region {
+        kind: Kind::Eeprom,
+        start: 0xFFFF_FFF8,
+        len: 8,
+    },
+];
+
+// Memory of every kind in which each byte holds its place in its region, from 1 on.
+fn numbered(rt: &impl Abort, alloc: Global) -> Ram {
+    let Ok(map) = Map::new(&KINDS) else {
+        panic!(rt; "the regions are a map");
+    };
+    let Ok(mut ram) = Ram::new(alloc, map) else {
+        panic!(rt; "there is memory for it");
+    };
+    let part = Chunk::new(&[1, 2, 3, 4, 5, 6, 7, 8]);
+    assert!(rt; protect(&mut ram, 5, false));
+    for region in KINDS {
+        let at = region.start;
+        assert!(rt; change(&mut ram, MemOp::Bytes { at, part }).is_ok());
+    }
+    assert!(rt; protect(&mut ram, 5, true));
+    ram
+}
+
+#[test]
+fn reads_of_every_kind_at_their_edges(rt: HostRuntime) {
+    let ram = numbered(&rt, rt.alloc());
+    let window = ram.window();
+    let outside = Err(AccessFault::Outside);
+    let unaligned = Err(AccessFault::Unaligned);
+    let wrong = Err(AccessFault::WrongSize);
+    let table = [
+        (8, 0x1000, Ok(1)),
+        (8, 0x1007, Ok(8)),
+        (16, 0x1006, Ok(0x0708)),
+        (32, 0x1004, Ok(0x0506_0708)),
+        (8, 0x0FFF, outside),
+        (16, 0x1007, outside),
+        (32, 0x1006, outside),
+        (16, 0x1001, unaligned),
+        (32, 0x1002, unaligned),
+        (8, 0x1008, Ok(1)),
+        (8, 0x100F, Ok(8)),
+        (8, 0x1010, outside),
+        (16, 0x1009, unaligned),
+        (16, 0x1008, wrong),
+        (32, 0x1008, wrong),
+        (16, 0x2006, Ok(0x0708)),
+        (8, 0x2000, wrong),
+        (32, 0x2000, wrong),
+        (32, 0x2002, unaligned),
+        (16, 0x2007, outside),
+        (32, 0x3004, Ok(0x0506_0708)),
+        (8, 0x3000, wrong),
+        (16, 0x3000, wrong),
+        (32, 0x3005, outside),
+        (32, 0xFFFF_FFFC, Ok(0x0506_0708)),
+        (8, 0xFFFF_FFFF, Ok(8)),
+        (16, 0xFFFF_FFFF, outside),
+        (32, 0xFFFF_FFFD, outside),
+    ];
+    for (size, at, wanted) in table {
+        assert!(rt; read(window, size, at) == wanted, "{size} bits at {at}");
+    }
+}
+
+#[test]
+fn ranges_are_lent_in_their_units(rt: HostRuntime) {
+    let ram = numbered(&rt, rt.alloc());
+    let window = ram.window();
+    assert!(rt; window.bytes(0x1001, 7) == Ok([2u8, 3, 4, 5, 6, 7, 8].as_slice()));
+    assert!(rt; window.bytes(0x1001, 8) == Err(AccessFault::Outside));
+    assert!(rt; window.bytes(0x1009, 3) == Ok([2u8, 3, 4].as_slice()));
+    assert!(rt; window.bytes(0x2002, 4) == Ok([3u8, 4, 5, 6].as_slice()));
+    assert!(rt; window.bytes(0x2001, 2) == Err(AccessFault::Unaligned));
+    assert!(rt; window.bytes(0x2002, 3) == Err(AccessFault::Unaligned));
+    assert!(rt; window.bytes(0x3004, 4) == Ok([5u8, 6, 7, 8].as_slice()));
+    assert!(rt; window.bytes(0x3002, 4) == Err(AccessFault::Unaligned));
+    assert!(rt; window.bytes(0x3004, 6) == Err(AccessFault::Outside));
+    assert!(rt; window.bytes(0xFFFF_FFFF, 1) == Ok([8u8].as_slice()));
+    assert!(rt; window.bytes(0xFFFF_FFFF, 0xFFFF_FFFF) == Err(AccessFault::Outside));
+}
+
+#[test]
+fn eeprom_protection_is_taken_away_and_set_again(rt: HostRuntime) {
+    let mut ram = numbered(&rt, rt.alloc());
+    let at = 0xFFFF_FFF8;
+    let (size, value) = (32, 0x0A0B_0C0D);
+    let (len, byte) = (1, 9);
+    assert!(rt; ram.window().protected(0).is_none());
+    assert!(rt; ram.window().protected(1).is_none());
+    assert!(rt; ram.window().protected(6).is_none());
+    assert!(rt; ram.window().protected(5) == Some(true));
+    assert!(rt; change(&mut ram, MemOp::Poke { size, at, value }) == Err(AccessFault::Protected));
+    assert!(rt; protect(&mut ram, 5, false));
+    assert!(rt; ram.window().protected(5) == Some(false));
+    assert!(rt; change(&mut ram, MemOp::Poke { size, at, value }).is_ok());
+    assert!(rt; ram.window().read32(at) == Ok(0x0A0B_0C0D));
+    assert!(rt; protect(&mut ram, 5, true));
+    assert!(rt; change(&mut ram, MemOp::Fill { at, len, byte }) == Err(AccessFault::Protected));
+    assert!(rt; !protect(&mut ram, 1, true));
+    assert!(rt;
+        change(
+            &mut ram,
+            MemOp::Fill {
+                at: 0x1000,
+                len: 8,
+                byte: 3
+            }
+        )
+        .is_ok()
+    );
+    assert!(rt; ram.window().read8(0x1007) == Ok(3));
+}
+
+#[test]
+fn operations_land_in_command_order(rt: HostRuntime) {
+    let made = Ram::new(rt.alloc(), Map::new(&KINDS).expect(&rt, "a map"));
+    let mut ram = made.expect(&rt, "memory for it");
+    ram.upset(0x1000, 0x44);
+    let window = ram.window();
+    let later = MemOp::Fill {
+        at: 0x1002,
+        len: 4,
+        byte: 0x22,
+    };
+    let earlier = MemOp::Fill {
+        at: 0x1001,
+        len: 4,
+        byte: 0x11,
+    };
+    let poke = MemOp::Poke {
+        size: 16,
+        at: 0x1002,
+        value: 0x3344,
+    };
+    assert!(rt;
+        window.admits(&later).is_ok()
+            && window.admits(&earlier).is_ok()
+            && window.admits(&poke).is_ok()
+    );
+    ram.land(&[later, earlier, poke]);
+    assert!(rt;
+        ram.window().bytes(0x1000, 8) == Ok([0x44u8, 0x11, 0x33, 0x44, 0x11, 0x22, 0, 0].as_slice())
+    );
+}
+
+#[test]
+fn the_largest_map_is_taken(rt: HostRuntime) {
+    let whole = Map::new(&[region(Kind::Ram, 0x10, 4_194_304)]);
+    let made = Ram::new(rt.alloc(), whole.expect(&rt, "a map"));
+    let mut ram = made.expect(&rt, "memory for it");
+    assert!(rt; ram.window().read32(0x0040_000C) == Ok(0));
+    assert!(rt;
+        change(
+            &mut ram,
+            MemOp::Fill {
+                at: 0x10,
+                len: 4_194_304,
+                byte: 0xA5
+            }
+        )
+        .is_ok()
+    );
+    let window = ram.window();
+    assert!(rt; window.read32(0x0040_000C) == Ok(0xA5A5_A5A5));
+    assert!(rt; window.read8(0x0040_0010) == Err(AccessFault::Outside));
+    let more = [
+        region(Kind::Ram, 0, 4_194_304),
+        region(Kind::Ram, 0x0100_0000, 4),
+    ];
+    assert!(rt; fault_of(&more) == Some(MapFault::TooBig));
+}
+
+#[test]
+fn a_window_is_read_by_two_threads(rt: HostRuntime) {
+    let ram = numbered(&rt, rt.alloc());
+    let window = ram.window();
+    let (first, last) = thread::join(&rt, || window.read8(0x1000), || window.read16(0x2006));
+    assert!(rt; first == Ok(1) && last == Ok(0x0708));
+}
+
+#[test]
+fn operations_are_kept_in_their_order(rt: HostRuntime) {
+    let mut ops = Ops::new();
+    assert!(rt; ops.is_empty());
+    ops.push(MemOp::Protect {
+        region: 2,
+        on: true,
+    });
+    ops.push(MemOp::Bytes {
+        at: 7,
+        part: Chunk::new(&[1, 2]),
+    });
+    assert!(rt; ops.len() == 2);
+    let [
+        MemOp::Protect {
+            region: 2,
+            on: true,
+        },
+        MemOp::Bytes { at: 7, part },
+    ] = ops.items()
+    else {
+        panic!(rt; "the operations that were pushed");
+    };
+    assert!(rt; part.bytes() == [1u8, 2].as_slice());
+    ops.clear();
+    assert!(rt; ops.items().is_empty());
+}
+
+#[test]
+fn map_shows_its_regions(rt: HostRuntime) {
+    let map = Map::new(&KINDS).expect(&rt, "a map");
+    assert!(rt; map.regions() == KINDS.as_slice() && map.total() == 40);
+    assert!(rt; map.is_mapped(0x100F) && !map.is_mapped(0x1010) && is_mapped(&KINDS, 0xFFFF_FFFF));
+    assert!(rt; is_size(16) && !is_size(24));
 }
