@@ -9,3 +9,6 @@ mod step;
 mod verdicts;
 
 pub use step::Mm;
+
+#[cfg(test)]
+mod tests;

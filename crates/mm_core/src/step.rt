@@ -4,7 +4,9 @@ ghost use Rattle.std.specs.List.{AllPass};
 ghost use Rattle.bus_pipes.specs.Held.{adding};
 ghost use Rattle.bus_pipes.specs.Counted.{is_item_counted};
 ghost use Rattle.commands.specs.declared.verdicts.Verdict.{Verdict};
-ghost use Rattle.mm_core.specs.Image.{image_of, IsAdmitted};
+ghost use Rattle.mm_core.specs.Image.{image_of};
+ghost use Rattle.memory_window.specs.Access.{Admitted};
+ghost use Rattle.memory_window.specs.Window.{seen};
 ghost use Rattle.mm_core.specs.Verdicts.{verdict_in};
 ghost use Rattle.mm_core.specs.Output.{Input, command_items, command_operations, mm_items, mm_operations};
 ghost use Rattle.mm_core.specs.Standing.{StandsFor, Stands, input_of};
@@ -53,7 +55,7 @@ impl Mm {
         ensures stands { (history : List Input) → Stands history self.now → Stands (history ++ input_of now commands.now window.entry ∷ []) next.new }
         ensures items { (history : List Input) → Stands history self.now → out.new.items ≡ mm_items history (input_of now commands.now window.entry) }
         ensures ops { ops.new ≡ mm_operations (input_of now commands.now window.entry) }
-        ensures admitted { All (IsAdmitted (image_of window.entry)) ops.new }
+        ensures admitted { All (Admitted (seen window.entry)) ops.new }
         ensures counted { AllPass is_item_counted out.new.items }
         ensures few { length out.new.items ≤ 17 * length commands.now }
         ensures room { out.new.room ≡ out.old.room }

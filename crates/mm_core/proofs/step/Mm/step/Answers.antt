@@ -7,7 +7,7 @@ use Rattle.bus_pipes.specs.declared.names.Out.{Out}
 use Rattle.bus_pipes.proofs.Deliveries.{adding_none, items-adding}
 use Rattle.commands.proofs.Answering.{none_fail}
 use Rattle.memory_window.specs.declared.operations.MemOp.{MemOp}
-use Rattle.mm_core.specs.Image.{image_of}
+use Rattle.mm_core.specs.Image.{image_of, IsAdmitted}
 use Rattle.mm_core.specs.Verdicts.{verdict_in}
 use Rattle.mm_core.specs.Output.{verdicts_of, items_after, mm_items, command_items, command_operations, mm_operations}
 use Rattle.mm_core.specs.Standing.{StandsFor, Stands, input_of}
@@ -69,4 +69,5 @@ unfolding mm_operations
 returns-clause-ops c = c.loop-packet.invariant.ops ∙ ap (λ (packets : List (List ℕ)). flat_map (command_operations (image_of c.args.window)) packets) (whole c)
 
 pub returns-clause-admitted : goal.returns-clause-admitted
+unfolding IsAdmitted image_of
 returns-clause-admitted c = rw c.loop-packet.invariant.ops (operations_admitted (image_of c.args.window) (take c.loop-packet.packet-index c.args.commands.now))
