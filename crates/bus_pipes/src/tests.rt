@@ -97,10 +97,35 @@ fn pipes_ask_the_limit_before_the_depth(rt: HostRuntime) -> Result<(), Fail> {
     )
 }
 
+/// Routes a packet of this id over an empty bus, and looks where it went.
+fn check_route(
+    rt: &impl Abort,
+    alloc: Global,
+    id: u16,
+    pipe: Option<PipeName>,
+) -> Result<(), Fail> {
+    let mut bus = Bus::open(alloc)?;
+    let mut drops = Drops::open(alloc, 1)?;
+    let packet = telemetry(id % 8192, 0, &[]);
+    bus.route(packet, &mut drops);
+    assert_eq!(rt; drops.len(), 0);
+    for name in [
+        PipeName::Hs,
+        PipeName::HsEv,
+        PipeName::Cs,
+        PipeName::Sc,
+        PipeName::Mm,
+        PipeName::Md,
+    ] {
+        let taken = bus.take(name);
+        assert!(rt; (pipe == Some(name)) == (taken == Some(packet)));
+        assert!(rt; bus.take(name).is_none());
+    }
+    Ok(())
+}
+
 #[test]
 fn packets_go_to_the_pipe_of_their_id(rt: HostRuntime) -> Result<(), Fail> {
-    let mut bus = Bus::open(rt.alloc())?;
-    let mut drops = Drops::open(rt.alloc(), 1)?;
     let rows = [
         (0x18AE, Some(PipeName::Hs)),
         (0x18AF, Some(PipeName::Hs)),
@@ -118,25 +143,7 @@ fn packets_go_to_the_pipe_of_their_id(rt: HostRuntime) -> Result<(), Fail> {
         (0x18AB, None),
     ];
     for (id, pipe) in rows {
-        let packet = telemetry(id % 8192, 0, &[]);
-        drops.clear();
-        bus.route(packet, &mut drops);
-        assert_eq!(rt; drops.len(), 0);
-        for name in [
-            PipeName::Hs,
-            PipeName::HsEv,
-            PipeName::Cs,
-            PipeName::Sc,
-            PipeName::Mm,
-            PipeName::Md,
-        ] {
-            let expected = if pipe == Some(name) {
-                Some(packet)
-            } else {
-                None
-            };
-            assert!(rt; bus.take(name) == expected);
-        }
+        check_route(&rt, rt.alloc(), id, pipe)?;
     }
     Ok(())
 }
