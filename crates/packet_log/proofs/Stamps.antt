@@ -49,7 +49,7 @@ pub place_there : (id : ℕ) → is_counted id ≡ true → (place_of id ≡ Non
 unfolding place_of is_counted
 place_there id h none = none_passes (λ (counted : ℕ). counted == id) counted_ids h none
 
-count_none : (id : ℕ) → count_of [] id ≡ 0
+pub count_none : (id : ℕ) → count_of [] id ≡ 0
 unfolding count_of count_of_id
 count_none id = refl
 
@@ -62,14 +62,14 @@ count_one : (p : List ℕ) (id : ℕ) → count_of_id id (p ∷ []) ≡ cond (me
 unfolding count_of_id
 count_one p id = omega arith
 
-count_same : (made : List (List ℕ)) (p : List ℕ) → count_of (made ++ p ∷ []) (message_id p) ≡ (count_of made (message_id p) + 1) % 16384
+pub count_same : (made : List (List ℕ)) (p : List ℕ) → count_of (made ++ p ∷ []) (message_id p) ≡ (count_of made (message_id p) + 1) % 16384
 unfolding count_of
 count_same made p =
     let both = count_of_both (message_id p) made (p ∷ []) in
     let one : count_of_id (message_id p) (p ∷ []) ≡ 1 = count_one p (message_id p) ∙ ap (λ (b : Bool). cond b 1 0) (eq-eqb (message_id p) (message_id p) refl) in
     omega arith
 
-count_other : (made : List (List ℕ)) (p : List ℕ) (id : ℕ) → message_id p ≢ id → count_of (made ++ p ∷ []) id ≡ count_of made id
+pub count_other : (made : List (List ℕ)) (p : List ℕ) (id : ℕ) → message_id p ≢ id → count_of (made ++ p ∷ []) id ≡ count_of made id
 unfolding count_of
 count_other made p id other =
     let both = count_of_both id made (p ∷ []) in

@@ -3,6 +3,7 @@
 
 mod counts;
 mod items;
+pub mod laws;
 mod lines;
 mod writing;
 
@@ -10,3 +11,6 @@ pub use counts::Log;
 pub use items::{item_line, request_line};
 pub use lines::{Line, drop_line, line_of};
 pub use writing::put_text;
+
+#[cfg(test)]
+mod tests;

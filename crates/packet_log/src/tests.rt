@@ -1,0 +1,96 @@
+ghost use Rattle.std.specs.Prelude.{◌<◌};
+
+use super::*;
+use bus_pipes::{Dropped, PipeName};
+use fsw_outside::MemSink;
+use packet_forms::{Name, Packet, be16, command, event, telemetry};
+use std::alloc::Global;
+use std::process::Abort;
+use std::test::Fail;
+
+const EVENT_LINE: &str =
+    "1 pkt 0808C0000025000003E900004D4D000000000000000000000000000000000000001000020000004200000001\n";
+
+/// The event that answers a no-op of MM in frame 1 of a run with the epoch 1000.
+fn noop_event() -> Result<Packet, Fail> {
+    let name = Name::from_text("MM").ok_or("MM is a name")?;
+    Ok(event(name, 16, 2, 1001))
+}
+
+#[test]
+fn lines_are_exact(rt: HostRuntime) -> Result<(), Fail> {
+    assert_eq!(rt; line_of(1, &noop_event()?).as_str(), EVENT_LINE);
+    let limit = Dropped {
+        pipe: PipeName::Mm,
+        full: false,
+        packet: command(0x1888, 0, &[]),
+    };
+    assert_eq!(rt;
+        drop_line(0, &limit).as_str(),
+        "0 drop MM limit 1888C000000100AE\n"
+    );
+    let full = Dropped {
+        pipe: PipeName::HsEv,
+        full: true,
+        packet: command(0x1889, 0, &[]),
+    };
+    assert_eq!(rt;
+        drop_line(100_000, &full).as_str(),
+        "100000 drop HS.EV full 1889C000000100AF\n"
+    );
+    Ok(())
+}
+
+#[test]
+#[tactic(auto, unfolding(bus_pipes::specs::Counted::is_counted))]
+fn counts_go_by_id_and_wrap(rt: HostRuntime) -> Result<(), Fail> {
+    let name = Name::from_text("MM").ok_or("MM is a name")?;
+    let made = event(name, 16, 2, 1001);
+    let answer = telemetry(0x0887, 1001, &[0; 4]);
+    let mut log = Log::start();
+    for count in 0..16384u16 {
+        let stamped = log.stamp(made);
+        assert_eq!(rt; be16(stamped.bytes(), 2), 0xC000 + count);
+    }
+    assert!(rt; log.stamp(answer) == answer);
+    assert!(rt; log.stamp(made) == made);
+    assert!(rt; log.stamp(made) == made.with_sequence(1));
+    assert!(rt; log.stamp(answer) == answer.with_sequence(1));
+    Ok(())
+}
+
+/// Writes the event's line to a sink that takes so many bytes a call, and compares what it holds.
+fn check_put(
+    rt: &impl Abort,
+    alloc: Global,
+    fails: &[u32],
+    most: u32,
+    held: usize,
+) -> Result<(), Fail>
+    requires { 0 < most }
+{
+    let mut sink = MemSink::short(alloc, fails, 1000, most)?;
+    let mut log = Log::start();
+    let result = log.put(&mut sink, EVENT_LINE);
+    let whole = held == EVENT_LINE.len();
+    assert!(rt; result.is_ok() == whole);
+    assert_eq!(rt; sink.faults(), if whole { 0 } else { 1 });
+    assert_eq!(rt; sink.bytes().len(), held);
+    assert!(rt; EVENT_LINE.as_bytes().starts_with(sink.bytes()));
+    Ok(())
+}
+
+#[test]
+fn short_writes_and_failing_calls(rt: HostRuntime) -> Result<(), Fail> {
+    let alloc = rt.alloc();
+    check_put(&rt, alloc, &[], 1, 95)?;
+    check_put(&rt, alloc, &[], 7, 95)?;
+    check_put(&rt, alloc, &[], 95, 95)?;
+    check_put(&rt, alloc, &[], 640, 95)?;
+    check_put(&rt, alloc, &[0], 640, 0)?;
+    check_put(&rt, alloc, &[0], 7, 0)?;
+    check_put(&rt, alloc, &[1], 7, 7)?;
+    check_put(&rt, alloc, &[13], 7, 91)?;
+    check_put(&rt, alloc, &[14], 7, 95)?;
+    check_put(&rt, alloc, &[94], 1, 94)
+}
