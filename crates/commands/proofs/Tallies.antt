@@ -1,25 +1,14 @@
 -- The two counts at one more verdict.
-use Rattle.std.proofs.Common.{◌≡◌, ℕ, ◌+◌, ◌-◌, ◌%◌, ◌<◌, Bool, true, false, cond, not, List, [], ◌∷◌, ◌++◌, length, reverse, refl, sym, ap, ◌∙◌, length-append, arith, eq-eqb, ne_eqb, ◌≢◌}
+use Rattle.std.proofs.Common.{◌≡◌, ℕ, ◌+◌, ◌%◌, ◌<◌, true, false, cond, List, [], ◌∷◌, ◌++◌, refl, sym, ap, ◌∙◌, arith, eq-eqb, ne_eqb, ◌≢◌}
 use Rattle.std.specs.Prelude.{count_by}
-use Rattle.std.specs.List.{after_last, prefix_len}
-use Rattle.std.proofs.lemmas.List.{reverse-append, drop-append-le}
-use Rattle.std.proofs.Math.ListN.{drop_of_length-le}
+use Rattle.std.specs.List.{after_last}
 use Rattle.histories.proofs.Fronts.{count_more}
+use Rattle.histories.proofs.Lasts.{after_last_passes, after_last_other}
 use Rattle.commands.specs.Verdicts.{is_accepted, is_refused, is_reset}
 use Rattle.commands.specs.Counting.{accepted_count, error_count, counts_of}
 use Rattle.commands.specs.declared.verdicts.Verdict.{Verdict}
 use Rattle.commands.specs.declared.verdicts.Verdict.TheVariants.{Refused, Accepted}
 use Rattle.bus_pipes.specs.declared.names.Counts.{Counts}
-
--- what stands after the last element that passes, at one more element
-pub after_last_passes : {A : Type 0} (p : A → Bool) (xs : List A) (x : A) → p x ≡ true → after_last p (xs ++ x ∷ []) ≡ []
-after_last_passes {A} p xs x passes = rw (reverse-append xs (x ∷ []), passes) (drop_of_length-le (xs ++ x ∷ []) (omega arith))
-
-pub after_last_other : {A : Type 0} (p : A → Bool) (xs : List A) (x : A) → p x ≡ false → after_last p (xs ++ x ∷ []) ≡ after_last p xs ++ x ∷ []
-after_last_other {A} p xs x other =
-    let behind : ℕ = prefix_len (λ (y : A). not (p y)) (reverse xs) in
-    let same : length xs + 1 - (1 + behind) ≡ length xs - behind = omega arith in
-    rw (reverse-append xs (x ∷ []), other, length-append xs (x ∷ []), same) (drop-append-le (length xs - behind) xs (x ∷ []) (omega arith))
 
 -- a count since the last reset, modulo 256
 more : (count here : ℕ) → (count + here) % 256 ≡ (count % 256 + here) % 256

@@ -1,6 +1,8 @@
 -- `from_last`, `last_or` and `last_place` at one more element.
-use Rattle.std.proofs.Common.{◌≡◌, ℕ, suc, Bool, true, false, cond, ◌||◌, List, [], ◌∷◌, ◌++◌, length, refl}
-use Rattle.std.specs.List.{list_any}
+use Rattle.std.proofs.Common.{◌≡◌, ℕ, ◌+◌, ◌-◌, suc, Bool, true, false, cond, not, ◌||◌, ◌⊎◌, inl, inr, List, [], ◌∷◌, ◌++◌, length, drop, reverse, refl, ap, length-append, arith}
+use Rattle.std.specs.List.{list_any, after_last, prefix_len}
+use Rattle.std.proofs.lemmas.List.{reverse-append, drop-append-le}
+use Rattle.std.proofs.Math.ListN.{drop_of_length-le}
 use Rattle.histories.specs.Words.{from_last, last_or, last_place}
 
 -- whether an element passes a test, of one more
@@ -44,3 +46,47 @@ last_place_more p (y ∷ ys) x =
     by_case true false = refl
     by_case false true = refl
     by_case false false = refl
+
+-- the last element of a list with a first one
+pub last_or_cons : {A : Type 0} (d x : A) (xs : List A) → last_or d (x ∷ xs) ≡ last_or x xs
+unfolding last_or
+last_or_cons d x xs = refl
+
+-- of no elements
+pub from_last_none : {A : Type 0} (p : A → Bool) → from_last p [] ≡ []
+unfolding from_last
+from_last_none p = refl
+
+pub last_place_none : {A : Type 0} (p : A → Bool) → last_place p [] ≡ 0
+unfolding last_place
+last_place_none p = refl
+
+-- what stands from the last that passes on stands from its place on
+pub from_last_is : {A : Type 0} (p : A → Bool) (xs : List A) → from_last p xs ≡ drop (last_place p xs) xs
+unfolding from_last last_place
+from_last_is p [] = refl
+from_last_is p (x ∷ xs) =
+    rw (from_last_is p xs) (by_case (list_any p xs))
+  where
+    by_case : (b : Bool) → cond b (drop (last_place p xs) xs) (x ∷ xs) ≡ drop (cond b (suc (last_place p xs)) 0) (x ∷ xs)
+    by_case true = refl
+    by_case false = refl
+
+-- what stands after the last that passes, at one more element: nothing where it passes
+pub after_last_passes : {A : Type 0} (p : A → Bool) (xs : List A) (x : A) → p x ≡ true → after_last p (xs ++ x ∷ []) ≡ []
+after_last_passes p xs x passes = rw (reverse-append xs (x ∷ []), passes) (drop_of_length-le (xs ++ x ∷ []) (omega arith))
+
+-- and one more where it doesn't
+pub after_last_other : {A : Type 0} (p : A → Bool) (xs : List A) (x : A) → p x ≡ false → after_last p (xs ++ x ∷ []) ≡ after_last p xs ++ x ∷ []
+after_last_other {A} p xs x other =
+    let behind : ℕ = prefix_len (λ (y : A). not (p y)) (reverse xs) in
+    let same : length xs + 1 - (1 + behind) ≡ length xs - behind = omega arith in
+    rw (reverse-append xs (x ∷ []), other, length-append xs (x ∷ []), same) (drop-append-le (length xs - behind) xs (x ∷ []) (omega arith))
+
+-- a list is empty, or has a last element
+pub last_cases : {A : Type 0} (xs : List A) → (xs ≡ []) ⊎ ((ys : List A) × (y : A) × (xs ≡ ys ++ y ∷ []))
+last_cases [] = inl refl
+last_cases (x ∷ xs) = elim (last_cases xs) [
+  | inl none ↦ inr ([], x, ap (λ rest. x ∷ rest) none)
+  | inr found ↦ inr (x ∷ found.0, found.1, ap (λ rest. x ∷ rest) found.2)
+]
