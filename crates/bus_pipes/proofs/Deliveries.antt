@@ -1,12 +1,11 @@
 -- Laws of delivery and of lists with a room.
 use Rattle.std.proofs.Common.{◌≡◌, ◌≤◌, ℕ, ◌+◌, List, [], ◌∷◌, ◌++◌, length, refl, sym, ap, ◌∙◌, arith, append-nil, append_assoc, length-append, ◌<◌, get_or, take}
 use Rattle.std.specs.Prelude.{Option, Some, None, cond, ◌==◌}
-use Rattle.std.specs.List.{fold}
 use Rattle.std.proofs.lemmas.List.Sums.{fold_push, fold-append, sum_by-append}
 use Rattle.std.proofs.lemmas.List.{take_more}
 use Rattle.packet_forms.specs.Packets.{message_id}
 use Rattle.bus_pipes.specs.Held.{Held, adding}
-use Rattle.bus_pipes.specs.Pipes.{Pipes, PipeState, pipe_of, offered, packets_in, with_packets, count_of_id}
+use Rattle.bus_pipes.specs.Pipes.{Pipes, pipe_of, offered, packets_in, with_packets, count_of_id}
 use Rattle.bus_pipes.specs.Delivery.{pipe_in, after_offer_to, drop_at, after_offer, drop_of, after_offers, drops_from}
 use Rattle.bus_pipes.specs.declared.names.PipeName.{PipeName}
 use Rattle.bus_pipes.specs.declared.names.PipeName.TheVariants.{Hs, HsEv, Cs, Sc, Mm, Md}

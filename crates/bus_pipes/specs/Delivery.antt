@@ -1,5 +1,5 @@
 -- Delivery: what the pipes keep of the packets that are offered to them, and what is dropped.
-use Rattle.std.specs.Prelude.{ℕ, true, false, List, [], ◌∷◌, ◌++◌, Option, Some, None}
+use Rattle.std.specs.Prelude.{ℕ, true, false, List, [], ◌∷◌, ◌++◌, Some, None}
 use Rattle.std.specs.List.{fold}
 use Rattle.packet_forms.specs.Packets.{message_id}
 use Rattle.bus_pipes.specs.Pipes.{Pipes, PipeState, packets_in, with_packets, depth_of, pipe_of, offered, held_after}

@@ -1,5 +1,5 @@
-use Rattle.std.proofs.Common.{◌≡◌, ◌+◌, ◌++◌, List, ℕ, length, sym, ap, ◌∙◌, arith, append-nil, length-append, get_or, ◌/◌, ◌%◌}
-use Rattle.packet_log.specs.Lines.{hex, hex_digit}
+use Rattle.std.proofs.Common.{◌++◌, List, ℕ, length, sym, ap, ◌∙◌, arith, append-nil, get_or, ◌/◌, ◌%◌}
+use Rattle.packet_log.specs.Lines.{hex_digit}
 use Rattle.packet_log.proofs.Digits.{hex_none, hex_on, two_longer}
 use Rattle.packet_log.proofs.lines.push_hex.Goals as goal
 

@@ -1,4 +1,4 @@
-use Rattle.std.proofs.Common.{◌≡◌, ◌≤◌, ◌+◌, ◌++◌, ◌-◌, List, ℕ, length, take, drop, sym, ap, ◌∙◌, arith, length-drop}
+use Rattle.std.proofs.Common.{◌≡◌, ◌≤◌, ◌++◌, ◌-◌, List, ℕ, length, take, ap, ◌∙◌, arith, length-drop}
 use Rattle.fsw_outside.proofs.Telling.{told_then}
 use Rattle.fsw_outside.proofs.Pieces.{grown}
 use Rattle.packet_log.proofs.writing.put_text.Goals as goal

@@ -1,4 +1,4 @@
-use Rattle.std.proofs.Common.{◌≡◌, ◌≤◌, ◌<◌, ◌+◌, List, ℕ, length, take, ap, sym, ◌∙◌, arith, subst, refl}
+use Rattle.std.proofs.Common.{◌≡◌, ◌≤◌, ◌+◌, List, ℕ, length, take, ap, sym, ◌∙◌, arith, subst, refl}
 use Rattle.std.proofs.lemmas.List.{take_all, length-take-le}
 use Rattle.bus_pipes.specs.Held.{Held, adding}
 use Rattle.bus_pipes.specs.Delivery.{after_offers, drops_from}

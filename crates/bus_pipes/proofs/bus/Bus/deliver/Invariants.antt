@@ -1,4 +1,4 @@
-use Rattle.std.proofs.Common.{◌≡◌, ◌≤◌, ◌+◌, take, length}
+use Rattle.std.proofs.Common.{◌≡◌, take}
 use Rattle.bus_pipes.specs.Held.{adding}
 use Rattle.bus_pipes.specs.Delivery.{after_offers, drops_from}
 use Rattle.bus_pipes.proofs.bus.Bus.deliver.Given as goal

@@ -1,4 +1,4 @@
-use Rattle.std.proofs.Common.{◌≡◌, sym, ap, ◌∙◌}
+use Rattle.std.proofs.Common.{sym, ap, ◌∙◌}
 use Rattle.bus_pipes.specs.Pipes.{pipe_of}
 use Rattle.bus_pipes.specs.declared.names.Offer.TheVariants.{Limit, Full}
 use Rattle.bus_pipes.proofs.Deliveries.{after_offer_nowhere, routed, dropped, none_dropped, none_lost}

@@ -1,8 +1,5 @@
-use Rattle.std.proofs.Common.{◌≡◌, ◌∙◌, sym, ap, subst, ℕ, List, get_or}
-use Rattle.std.specs.Prelude.{Some}
-use Rattle.packet_forms.specs.Packets.{message_id}
-use Rattle.packet_forms.specs.Built.{with_sequence}
-use Rattle.packet_log.specs.Counts.{place_of, stamped}
+use Rattle.std.proofs.Common.{◌∙◌, sym, ap, subst}
+use Rattle.packet_log.specs.Counts.{place_of}
 use Rattle.packet_log.specs.Standing.{Stands}
 use Rattle.packet_log.proofs.Stamps.{one_stamped, stamped_by}
 use Rattle.packet_log.proofs.counts.Log.stamp.Goals as goal
