@@ -1,0 +1,7 @@
+pub mod Offers
+pub mod Stamping
+pub mod Lines
+pub mod Upsets
+pub mod Waking
+pub mod Sent
+pub mod Frames

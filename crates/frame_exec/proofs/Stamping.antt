@@ -1,0 +1,29 @@
+-- Items that get their sequence counts, one after another.
+use Rattle.std.proofs.Common.{◌≡◌, ℕ, ◌+◌, ◌<◌, List, [], ◌∷◌, ◌++◌, length, take, get_or, sym, ◌∙◌, ap, subst, append_assoc}
+use Rattle.std.specs.List.{flat_map}
+use Rattle.histories.specs.Words.{along}
+use Rattle.histories.proofs.Along.{along_more, along_none}
+use Rattle.histories.proofs.Fronts.{front_more, flat_map_front}
+use Rattle.bus_pipes.specs.declared.names.Out.{Out}
+use Rattle.packet_log.specs.Standing.{Stands as LogStands}
+use Rattle.frame_exec.specs.Sending.{makes, as_sent, sent_of}
+
+-- no items
+pub sent_none : (made : List (List ℕ)) → sent_of made [] ≡ []
+unfolding sent_of
+sent_none made = along_none (λ before item. as_sent (made ++ flat_map makes before) item)
+
+-- the front of the items, one longer
+pub sent_front : (made : List (List ℕ)) (items : List Out) (i : ℕ) (item sent : Out) (earlier now : List Out) → i < length items → item ≡ get_or items i item
+    → earlier ≡ sent_of made (take i items) → sent ≡ as_sent (made ++ flat_map makes (take i items)) item → now ≡ earlier ++ sent ∷ [] → now ≡ sent_of made (take (i + 1) items)
+unfolding sent_of
+sent_front made items i item sent earlier now within is before one more =
+    more ∙ ap (λ (xs : List Out). xs ++ sent ∷ []) before ∙ ap (λ (x : Out). along (λ front y. as_sent (made ++ flat_map makes front) y) (take i items) ++ x ∷ []) one
+    ∙ sym (along_more (λ front y. as_sent (made ++ flat_map makes front) y) (take i items) item)
+    ∙ ap (along (λ front y. as_sent (made ++ flat_map makes front) y)) (sym (front_more items i item within is))
+
+-- the packets that the front of the items makes, one longer
+pub made_front : (made : List (List ℕ)) (items : List Out) (i : ℕ) (item : Out) (counts : List ℕ) → i < length items → item ≡ get_or items i item
+    → LogStands ((made ++ flat_map makes (take i items)) ++ makes item) counts → LogStands (made ++ flat_map makes (take (i + 1) items)) counts
+made_front made items i item counts within is stands =
+    subst (λ (packets : List (List ℕ)). LogStands packets counts) (append_assoc made (flat_map makes (take i items)) (makes item) ∙ ap (λ (more : List (List ℕ)). made ++ more) (sym (flat_map_front makes items i item within is))) stands

@@ -1,0 +1,4 @@
+pub mod Sending
+pub mod Runs
+pub mod Standing
+pub mod Stages

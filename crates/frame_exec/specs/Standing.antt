@@ -1,0 +1,33 @@
+-- When a bench stands for a list of frames.
+use Rattle.std.specs.Prelude.{◌≡◌, ◌+◌, ◌<◌, true, false, List, length, All}
+use Rattle.memory_window.specs.Regions.{is_mapped}
+use Rattle.mm_core.specs.Standing.{Stands as MmStands}
+use Rattle.packet_log.specs.Standing.{Stands as LogStands}
+use Rattle.scenario.specs.declared.progress.Header.{Header}
+use Rattle.scenario.specs.declared.frame.Upset.{Upset}
+use Rattle.scenario.specs.FrameLists.{Frame}
+use Rattle.frame_exec.specs.declared.bench.Bench.{Bench}
+use Rattle.frame_exec.specs.Runs.{Setup, State, run_of}
+
+-- the bench has what a run has come to
+pub record Has (b : Bench) (s : State) : Type 0 where
+  pub number : b.number ≡ s.number
+  pub mm : MmStands s.mm b.mm
+  pub pipes : b.bus ≡ s.pipes
+  pub made : LogStands s.made b.log
+  pub memory : b.ram ≡ s.memory
+
+-- the bench stands for these frames, of a scenario with this header
+pub record Stands (b : Bench) (setup : Setup) (frames : List Frame) : Type 0 where
+  pub epoch : b.epoch ≡ setup.epoch
+  pub well : b.failed ≡ false
+  pub has : Has b (run_of setup frames)
+
+-- a further frame can be run: its time is a number of four bytes, and its upsets lie in the map
+pub record CanRun (setup : Setup) (frames : List Frame) (frame : Frame) : Type 0 where
+  pub time : setup.epoch + length frames < 4294967296
+  pub upsets : All (λ (u : Upset). is_mapped setup.regions u.at ≡ true) frame.upsets
+
+-- what a header says
+abbrev pub setup_in : Header → Setup
+setup_in header = record { epoch = header.epoch; regions = header.map }

@@ -1,0 +1,191 @@
+//! The bench: one frame after another.
+
+ghost use Rattle.std.specs.Prelude.{◌≡◌};
+
+use crate::stages::{
+    deliver_sent, is_held, put_drops, put_items, stamp_all, take_others, upset_all,
+};
+use bus_pipes::{Batch, Bus, Drops, Outbox, PipeName};
+use fsw_outside::{Failed, Gate, NoMemory, Sink};
+use memory_window::{Ops, Ram};
+use mm_core::Mm;
+use packet_log::Log;
+use scenario::{App, FrameInput, Header};
+use std::alloc::Global;
+use std::thread::Threads;
+
+/// How many items MM gives in a frame at most.
+const MM_ITEMS: u32 = 272;
+/// How many items all applications give in a frame at most.
+const ITEMS: u32 = 1461;
+/// How many packets are dropped in a frame at most.
+const DROPS: u32 = 1525;
+
+/// The bench, after some frames. It takes all its memory as it is opened.
+#[derive(Drop)]
+pub struct Bench {
+    epoch: u32,
+    // one more than the last frame's number, which may be the largest of four bytes
+    number: u64,
+    failed: bool,
+    mm: Mm,
+    out: Outbox,
+    ops: Ops,
+    sent: Outbox,
+    drops: Drops,
+    commands: Batch,
+    bus: Bus,
+    log: Log,
+    ram: Ram,
+    ghost mm_room: { out.room ≡ 272 },
+    ghost sent_room: { sent.room ≡ 1461 },
+    ghost drops_room: { drops.room ≡ 1525 },
+}
+
+impl Bench {
+    ghost use Rattle.std.specs.Prelude.{ℕ, ◌+◌, ◌<◌, ◌≤◌, List, [], ◌∷◌, ◌++◌, true, All, IfOk, OnOk, is_err};
+    ghost use Rattle.fsw_outside.specs.Told.{WhereTold};
+    ghost use Rattle.fsw_outside.specs.Causes.{HasCause};
+    ghost use Rattle.fsw_outside.specs.Written.{WritesAll};
+    ghost use Rattle.memory_window.specs.Regions.{is_mapped};
+    ghost use Rattle.memory_window.specs.Memory.{regions_of};
+    ghost use Rattle.scenario.specs.declared.frame.Upset.{Upset};
+    ghost use Rattle.scenario.specs.FrameLists.{Frame};
+    ghost use Rattle.frame_exec.specs.Runs.{Setup, State, frame_lines};
+    ghost use Rattle.frame_exec.specs.Standing.{Has, Stands, CanRun, setup_in};
+    ghost use Rattle.frame_exec.specs.Stages.{IsSameRun, WakesMm, WakesIn, CanSend, Sends, RunsIn, lines_in};
+
+    /// A bench that stands for no frames, with the memory of the header's map. The number of workers is from 1 to 16.
+    pub fn open(alloc: Global, header: &Header, workers: u32) -> Result<Bench, NoMemory>
+        requires { (1 ≤ workers) × (workers ≤ 16) }
+        ensures { IfOk result (λ bench. Stands bench (setup_in header.now) []) }
+    {
+        let _ = workers;
+        Ok(Bench {
+            epoch: header.epoch,
+            number: 0,
+            failed: false,
+            mm: Mm::start(),
+            out: Outbox::open(alloc, MM_ITEMS)?,
+            ops: Ops::new(),
+            sent: Outbox::open(alloc, ITEMS)?,
+            drops: Drops::open(alloc, DROPS)?,
+            commands: Batch::new(),
+            bus: Bus::open(alloc)?,
+            log: Log::start(),
+            ram: Ram::new(alloc, header.map)?,
+        })
+    }
+
+    /// Whether a frame of this bench failed.
+    pub fn failed(&self) -> bool
+        ensures { result ≡ self.now.failed }
+    {
+        self.failed
+    }
+
+    /// Runs a frame, and writes its lines.
+    pub fn frame<R: Threads + Sync, G: Gate, O: Sink>(
+        &mut self,
+        rt: &R,
+        input: &FrameInput,
+        gate: &G,
+        sink: &mut O,
+    ) -> Result<(), Failed>
+        requires started { (setup : Setup) × (frames : List Frame) × Stands self.old setup frames × CanRun setup frames input.now }
+        ensures lines { (setup : Setup) (frames : List Frame) → Stands self.old setup frames
+            → WhereTold (O.held sink.old) (O.held sink.new) (WritesAll result (frame_lines setup frames input.now)) }
+        ensures stands { (setup : Setup) (frames : List Frame) → Stands self.old setup frames → OnOk result (Stands self.new setup (frames ++ input.now ∷ [])) }
+        ensures cause { HasCause (O.held sink.new) (O.faults sink.old) (O.faults sink.new) result }
+        ensures failed { self.new.failed ≡ is_err result }
+    {
+        let _ = rt;
+        let _ = gate;
+        self.run(input);
+        match self.write(sink) {
+            Ok(()) => {
+                self.number += 1;
+                Ok(())
+            }
+            Err(failed) => {
+                self.failed = true;
+                Err(failed)
+            }
+        }
+    }
+
+    // Wakes MM, unless it is held.
+    fn wake_mm(&mut self, held: bool)
+        requires empty { self.old.out.items ≡ [] }
+        requires no_ops { self.old.ops ≡ [] }
+        requires time { self.old.epoch + self.old.number < 4294967296 }
+        ensures wakes { WakesMm held self.old self.new }
+        ensures can_send { CanSend self.new }
+    {
+        if held {
+            return;
+        }
+        self.bus.take_all(PipeName::Mm, &mut self.commands);
+        let mm = self.mm;
+        mm.step(
+            self.commands.packets(),
+            self.ram.window(),
+            self.epoch + self.number as u32,
+            &mut self.mm,
+            &mut self.out,
+            &mut self.ops,
+        );
+    }
+
+    // Writes the frame's upsets, and wakes the applications on its image.
+    fn wake(&mut self, input: &FrameInput)
+        requires time { self.old.epoch + self.old.number < 4294967296 }
+        requires upsets { All (λ (u : Upset). is_mapped (regions_of self.old.ram.areas) u.at ≡ true) input.now.upsets }
+        ensures wakes { (setup : Setup) (s : State) → self.old.epoch ≡ setup.epoch → Has self.old s → WakesIn setup s input.now self.new }
+        ensures run { IsSameRun self.old self.new }
+        ensures can_send { CanSend self.new }
+    {
+        self.out.clear();
+        self.ops.clear();
+        upset_all(&mut self.ram, input.upsets());
+        self.wake_mm(is_held(App::Mm, input.held()));
+        take_others(&mut self.bus, input.held(), &mut self.commands);
+    }
+
+    // Gives the items their counts, and offers the frame's packets and theirs to the pipes.
+    fn send(&mut self, input: &FrameInput)
+        requires { CanSend self.old }
+        ensures { Sends input.now.sends self.old self.new }
+    {
+        self.sent.clear();
+        stamp_all(&mut self.log, self.out.items(), &mut self.sent);
+        self.drops.clear();
+        self.bus.deliver(input.sends(), &mut self.drops);
+        deliver_sent(&mut self.bus, self.sent.items(), &mut self.drops);
+    }
+
+    // Runs a frame up to its lines.
+    fn run(&mut self, input: &FrameInput)
+        requires time { self.old.epoch + self.old.number < 4294967296 }
+        requires upsets { All (λ (u : Upset). is_mapped (regions_of self.old.ram.areas) u.at ≡ true) input.now.upsets }
+        ensures runs { (setup : Setup) (s : State) → self.old.epoch ≡ setup.epoch → Has self.old s → RunsIn setup s input.now self.new }
+        ensures run { IsSameRun self.old self.new }
+    {
+        self.wake(input);
+        self.send(input);
+        self.ram.land(self.ops.items());
+    }
+
+    // Writes the lines of the frame that was run.
+    fn write<O: Sink>(&self, sink: &mut O) -> Result<(), Failed>
+        requires { self.now.number < 4294967296 }
+        ensures content { WhereTold (O.held sink.old) (O.held sink.new) (WritesAll result (lines_in self.now)) }
+        ensures cause { HasCause (O.held sink.new) (O.faults sink.old) (O.faults sink.new) result }
+    {
+        let number = self.number as u32;
+        let Ok(()) = put_items(sink, number, self.sent.items()) else {
+            return Err(Failed);
+        };
+        put_drops(sink, number, self.drops.items())
+    }
+}

@@ -1,0 +1,7 @@
+//! A frame of the bench: upsets, wakeups, items in order, pipes, landing, lines.
+#![tactic(auto)]
+
+mod bench;
+mod stages;
+
+pub use bench::Bench;
