@@ -3,3 +3,4 @@ pub mod Instructions
 pub mod Verdicts
 pub mod Output
 pub mod Standing
+pub mod Rows

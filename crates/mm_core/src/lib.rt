@@ -4,6 +4,7 @@
 mod answers;
 mod housekeeping;
 mod instructions;
+pub mod laws;
 mod reading;
 mod step;
 mod verdicts;

@@ -1,6 +1,6 @@
 ghost use Rattle.std.specs.Prelude.{◌≡◌, ◌≤◌, length};
 
-use crate::Mm;
+use crate::{Mm, laws};
 use bus_pipes::{Out, Outbox};
 use memory_window::{Kind, Map, Ops, Ram, Region};
 use packet_forms::{Name, Packet, command, event, telemetry};
@@ -180,4 +180,10 @@ fn command_refusals(rt: HostRuntime) -> Result<(), Fail> {
     ];
     assert_eq!(rt; out.items(), want.as_slice());
     Ok(())
+}
+
+#[test]
+fn definitions_give_the_rows() {
+    laws::command_rows();
+    laws::poke_rows();
 }
