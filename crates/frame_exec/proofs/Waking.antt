@@ -15,7 +15,7 @@ use Rattle.memory_window.specs.Access.{Admitted}
 use Rattle.memory_window.specs.Window.{seen}
 use Rattle.memory_window.specs.declared.window.Window.{Window}
 use Rattle.memory_window.specs.declared.operations.MemOp.{MemOp}
-use Rattle.mm_core.specs.Image.{image_of, IsAdmitted}
+use Rattle.mm_core.specs.Image.{image_of}
 use Rattle.mm_core.specs.Output.{Input as MmInput, mm_items, mm_operations}
 use Rattle.mm_core.specs.Standing.{input_of}
 
@@ -26,8 +26,7 @@ unfolding image_of
 mm_read now commands packets window memory same shows = rw (same, shows) refl
 
 -- operations that the window admits
-pub admitted_by : (window : Window) (memory : Memory) (ops : List MemOp) → seen window ≡ memory → All (IsAdmitted (image_of window)) ops → All (Admitted memory) ops
-unfolding image_of IsAdmitted
+pub admitted_by : (window : Window) (memory : Memory) (ops : List MemOp) → seen window ≡ memory → All (Admitted (seen window)) ops → All (Admitted memory) ops
 admitted_by window memory ops shows all = subst (λ (m : Memory). All (Admitted m) ops) shows all
 
 -- what MM reads in a frame, by the bench's fields
