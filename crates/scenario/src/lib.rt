@@ -16,3 +16,6 @@ pub use item::Item;
 pub use progress::Header;
 pub use reader::Reader;
 pub use reason::Reason;
+
+#[cfg(test)]
+mod tests;
