@@ -1,13 +1,10 @@
 //! Laws of delivery, as contracts of functions that do nothing.
 
-ghost use Rattle.std.specs.Prelude.{◌≡◌, ◌<◌, ◌≤◌, ℕ, List, [], ◌∷◌, ◌++◌, length, replicate, true, false};
-ghost use Rattle.std.specs.List.{list_all};
-ghost use Rattle.packet_forms.specs.Built.{command_of, telemetry_of, event_of};
-ghost use Rattle.bus_pipes.specs.Counted.{counted_ids, is_counted, is_item_counted};
+ghost use Rattle.std.specs.Prelude.{◌≡◌, ◌≤◌, ℕ, List, [], ◌∷◌, ◌++◌, length, replicate, true, false};
+ghost use Rattle.packet_forms.specs.Built.{command_of};
 ghost use Rattle.bus_pipes.specs.Pipes.{Pipes, empty_pipes, packets_in, with_packets};
 ghost use Rattle.bus_pipes.specs.Delivery.{after_offer, drop_of, after_offers, drops_from};
 ghost use Rattle.bus_pipes.specs.declared.names.PipeName.{PipeName};
-ghost use Rattle.bus_pipes.specs.declared.names.Out.{Out};
 
 /// Delivery of a list goes packet by packet, and list by list.
 pub fn delivery_goes_on()
@@ -29,11 +26,4 @@ pub fn pipes_are_apart()
 /// Seventeen no-ops and a housekeeping request of MM: the seventeenth is dropped for the limit, the request for the depth.
 pub fn worked_drops()
     ensures { drops_from empty_pipes (replicate 17 (command_of 0x1888 0 []) ++ command_of 0x1889 0 [] ∷ []) ≡ record { pipe = PipeName.Mm; full = false; packet = command_of 0x1888 0 [] } ∷ record { pipe = PipeName.Mm; full = true; packet = command_of 0x1889 0 [] } ∷ [] }
-{}
-
-/// Events, and telemetry with an id of the table, get sequence counts.
-pub fn made_items_are_counted()
-    ensures telemetry { (id secs : ℕ) (payload : List ℕ) → id < 8192 → is_counted id ≡ true → is_item_counted (Out.Made (telemetry_of id secs payload)) ≡ true }
-    ensures events { (name : List ℕ) (id kind secs : ℕ) → is_item_counted (Out.Made (event_of name id kind secs)) ≡ true }
-    ensures table { list_all is_counted counted_ids ≡ true }
 {}
