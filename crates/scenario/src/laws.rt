@@ -1,11 +1,14 @@
 //! Laws of scenario texts, and of readers that stand for them: each function answers nothing, and its
 //! contract is the law.
 
-ghost use Rattle.std.specs.Prelude.{◌≡◌, ◌≤◌, ◌<◌, ◌+◌, ◌++◌, ℕ, Bool, List, false, length, slice_index};
-ghost use Rattle.scenario.specs.Texts.{Text, Given, Reading, Bad, Open, Grows, AreGood, reading};
+ghost use Rattle.std.specs.Prelude.{◌≡◌, ◌≤◌, ◌<◌, ◌+◌, ◌++◌, ◌∷◌, [], ℕ, Bool, List, false, true, codes, length, slice_index};
+ghost use Rattle.scenario.specs.Texts.{Text, Given, Head, Whole, Reading, Bad, Ended, Unended, Open, Grows, AreGood, reading};
 ghost use Rattle.scenario.specs.Standing.{Stands, is_finished};
 ghost use Rattle.scenario.specs.declared.reader.Reader.{Reader};
 ghost use Rattle.scenario.specs.declared.reason.Reason.{Reason};
+ghost use Rattle.scenario.specs.declared.reason.Reason.TheVariants as reasons;
+ghost use Rattle.scenario.specs.declared.frame.App.TheVariants as apps;
+ghost use Rattle.memory_window.specs.declared.regions.Kind.TheVariants as kinds;
 
 /// An open text that grows keeps its items and their ends, or its bad line.
 pub fn texts_grow()
@@ -49,4 +52,21 @@ pub fn items_have_stops()
 /// A stop stays when the text grows.
 pub fn stops_stay()
     ensures { (r q : Reading) (n : ℕ) → Grows r q → n < length r.stops → slice_index q.stops n ≡ slice_index r.stops n }
+{}
+
+/// What some texts give, computed from the definitions.
+pub fn worked_texts()
+    ensures empty { (reading (record { bytes = []; closed = true })).ending ≡ Unended 0 }
+    ensures whole { reading (record { bytes = codes "epoch 5\nregion RAM 0 8\nstart\nupset 0x4 9\nhold MM\ntick\nend"; closed = true })
+        ≡ record {
+          items = Head 5 (record { kind = kinds.Ram; start = 0; len = 8 } ∷ [])
+              ∷ Whole (record { sends = []; counters = []; upsets = record { at = 4; value = 9 } ∷ []; held = apps.Mm ∷ [] }) ∷ [];
+          ending = Ended;
+          stops = 29 ∷ 54 ∷ [];
+        } }
+    ensures packet { (reading (record { bytes = codes "epoch 5\nregion RAM 0 8\nstart\nsend 00\n"; closed = false })).ending ≡ Bad 4 reasons.Packet }
+    ensures map { (reading (record { bytes = codes "epoch 5\nregion RAM 0 8\nregion RAM 4 4\nstart\n"; closed = false })).ending ≡ Bad 4 reasons.Map }
+    ensures word { (reading (record { bytes = codes "epoch 5\nregion RAM 0 8\nstart\nend\ntick\n"; closed = true })).ending ≡ Bad 5 reasons.Word }
+    ensures number { (reading (record { bytes = codes "epoch 4294000001\n"; closed = true })).ending ≡ Bad 1 reasons.Number }
+    ensures unfinished { (reading (record { bytes = codes "epoch 5\nregion RAM 0 8\nstart\ntick"; closed = false })).ending ≡ Open }
 {}

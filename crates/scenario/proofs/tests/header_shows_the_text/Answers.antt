@@ -1,6 +1,5 @@
-use Rattle.std.proofs.Common.{◌<◌, ◌++◌, length, refl, arith, length-append}
-use Rattle.scenario.specs.Texts.{Text, Given}
-use Rattle.scenario.specs.Standing.{Stands, header_in}
+use Rattle.std.proofs.Common.{refl, arith, length-append}
+use Rattle.scenario.specs.Texts.{Given}
 use Rattle.scenario.proofs.tests.header_shows_the_text.Goals as goal
 
 pub pieces-init : goal.pieces-init
