@@ -19,3 +19,4 @@ pub use reason::Reason;
 
 #[cfg(test)]
 mod tests;
+pub use words::digits;

@@ -72,7 +72,7 @@ fn digit(byte: u8) -> u8
 
 /// The number that 1 to `room` digits write.
 #[tactic(auto, unfolding(crate::specs::Words::digits))]
-fn digits(base: u8, room: usize, word: &[u8]) -> Option<u64>
+pub fn digits(base: u8, room: usize, word: &[u8]) -> Option<u64>
     requires base { base ≤ 16 }
     requires room { room ≤ 10 }
     ensures { result ≡ digits base room word.now }

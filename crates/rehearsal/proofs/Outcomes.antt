@@ -1,0 +1,170 @@
+-- What the run of the frames comes to, by the text that was handed out.
+use Rattle.std.proofs.Common.{◌≡◌, ℕ, ◌+◌, ◌<◌, ◌≤◌, Bool, true, false, cond, List, [], ◌∷◌, ◌++◌, length, refl, sym, ◌∙◌, ap, subst, append_assoc, append-nil, length-append, arith, inl, inr, Option, Some}
+use Rattle.std.specs.Prelude.{◌==◌, ◌&&◌, IsSome}
+use Rattle.std.proofs.lemmas.Bool.Decides.{nat_tests}
+use Rattle.std.proofs.lemmas.Grind.{flat_map-append}
+use Rattle.fsw_outside.specs.Files.{Content}
+use Rattle.fsw_outside.specs.Written.{AppendsPart}
+use Rattle.scenario.specs.declared.reader.Reader.{Reader}
+use Rattle.scenario.specs.declared.item.Item.TheVariants as answers
+use Rattle.scenario.specs.FrameLists.{Frame}
+use Rattle.scenario.specs.Texts.{Text, Given, Head, Whole, Reading, Ending, Bad, Ended, Unended, Open, reading}
+use Rattle.scenario.specs.Answers.{answer_at_end}
+use Rattle.frame_exec.specs.Runs.{Setup, frame_lines, log_of}
+use Rattle.frame_exec.specs.declared.bench.Bench.{Bench}
+use Rattle.frame_exec.specs.Standing.{Stands as BenchStands, CanRun}
+use Rattle.frame_exec.proofs.Frames.{log_more, log_none}
+use Rattle.rehearsal.specs.Fed.{Fed}
+use Rattle.rehearsal.specs.Reading.{Holds, IsRead}
+use Rattle.rehearsal.specs.Outcome.{frame_in_item, frames_of, setup_of, log_in, IsTextOf, IsWhole, IsCut, Outcome}
+use Rattle.rehearsal.specs.declared.report.Status.TheVariants as statuses
+use Rattle.rehearsal.specs.declared.report.Report.{Report}
+use Rattle.scenario.proofs.TextLaws.{texts_grow}
+use Rattle.rehearsal.proofs.Endings.{open_at_more, ended_at_end, not_open_at_end, not_open_at_bad}
+
+-- the text that was handed out: the bytes that were fed and those that are pending
+abbrev pub whole_of : Text → List ℕ → Bool → Text
+whole_of now pending end = record { bytes = now.bytes ++ pending; closed = end }
+
+-- whether it is closed
+abbrev pub is_closed : List ℕ → ℕ → ℕ → Bool
+is_closed rest faults_before faults_now = (length rest == 0) && (faults_now == faults_before)
+
+-- it is the text of the bytes that were read
+pub text_of : (now : Text) (pending : List ℕ) (start after : Content) (before faults : ℕ) → IsRead now pending start after
+    → IsTextOf before faults start after (whole_of now pending (is_closed after.rest before faults))
+text_of now pending start after before faults read = record { same = read.same; parts = read.parts; closed = refl }
+
+-- where the reader's text is closed nothing is pending, and all was handed out
+pub closed_same : (reader : Reader) (f : Fed) (now : Text) (gave : List Given) (start after : Content) (before faults : ℕ) → Holds reader f now gave → IsRead now f.pending start after
+    → faults ≡ before → now.closed ≡ true → (f.pending ≡ []) × (is_closed after.rest before faults ≡ true)
+closed_same reader f now gave start after before faults h read same ended =
+    let none : length after.rest ≡ 0 = ap length (read.ended ended) in
+    (h.nothing (sym h.closed ∙ ended), grind (arith, nat_tests))
+
+-- a fault leaves the text open
+pub open_after : (rest : List ℕ) (before faults : ℕ) → before < faults → is_closed rest before faults ≡ false
+open_after rest before faults rose =
+    let other : (faults == before) ≡ false = grind (arith, nat_tests) in
+    rw other (elim (length rest == 0) as (λ b. (b && false) ≡ false) [ true ↦ refl | false ↦ refl ])
+
+-- what an object tells after a call is told
+pub tells_some : {A : Type 0} (o : Option A) (a : A) → o ≡ Some a → IsSome o
+tells_some o a tells = rw tells refl
+
+-- the same bytes, closed alike
+pub reading_same : (now : Text) (pending : List ℕ) (end : Bool) → pending ≡ [] → end ≡ now.closed → reading (whole_of now pending end) ≡ reading now
+reading_same now pending end none same = rw (none, same, append-nil now.bytes) refl
+
+-- what the reader said of a text that isn't open holds of the whole text
+pub reading_whole : (now : Text) (pending : List ℕ) (end : Bool) → (now.closed ≡ true → (pending ≡ []) × (end ≡ true)) → ((reading now).ending ≡ Open → ⊥)
+    → reading (whole_of now pending end) ≡ reading now
+reading_whole now pending end same not_open = by_closed now.bytes now.closed same not_open
+  where
+    by_closed : (bytes : List ℕ) (closed : Bool) → (closed ≡ true → (pending ≡ []) × (end ≡ true)) → ((reading (record { bytes = bytes; closed = closed })).ending ≡ Open → ⊥)
+        → reading (record { bytes = bytes ++ pending; closed = end }) ≡ reading (record { bytes = bytes; closed = closed })
+    by_closed bytes true same not_open = let s = same refl in rw (s.0, s.1, append-nil bytes) refl
+    by_closed bytes false same not_open = elim (texts_grow bytes pending end) [ inl grown ↦ absurd (not_open grown.0) | inr is ↦ is ]
+
+-- the items of the whole text are those of the reader's text and more
+pub items_whole : (now : Text) (pending : List ℕ) (end : Bool) → (now.closed ≡ true → (pending ≡ []) × (end ≡ true))
+    → (more : List Given) × ((reading (whole_of now pending end)).items ≡ (reading now).items ++ more)
+items_whole now pending end same = by_closed now.bytes now.closed same
+  where
+    by_closed : (bytes : List ℕ) (closed : Bool) → (closed ≡ true → (pending ≡ []) × (end ≡ true))
+        → (more : List Given) × ((reading (record { bytes = bytes ++ pending; closed = end })).items ≡ (reading (record { bytes = bytes; closed = closed })).items ++ more)
+    by_closed bytes true same = let s = same refl in ([], rw (s.0, s.1, append-nil bytes) (sym (append-nil _)))
+    by_closed bytes false same = elim (texts_grow bytes pending end) [ inl grown ↦ (grown.1.0.items, ap (λ (r : Reading). r.items) grown.1.1) | inr is ↦ ([], ap (λ (r : Reading). r.items) is ∙ sym (append-nil _)) ]
+
+-- the whole log was written
+pub whole_log : (frames : ℕ) (got : List Given) (read whole : Reading) (old new : List ℕ) → whole ≡ read → got ≡ read.items → frames ≡ length (frames_of got) → new ≡ old ++ log_in got
+    → IsWhole frames whole old new
+whole_log frames got read whole old new same all number written = rw (same, ← all) (record { number = number; written = written })
+
+-- the frames of two lists of items
+pub frames_append : (xs ys : List Given) → frames_of (xs ++ ys) ≡ frames_of xs ++ frames_of ys
+unfolding frames_of
+frames_append xs ys = flat_map-append frame_in_item xs ys
+
+-- one frame more
+pub frames_more : (got : List Given) (f : Frame) → frames_of (got ++ Whole f ∷ []) ≡ frames_of got ++ f ∷ []
+unfolding frames_of
+frames_more got f = flat_map-append frame_in_item got (Whole f ∷ [])
+
+-- the header stands first
+pub setup_append : (xs ys : List Given) → 0 < length xs → setup_of (xs ++ ys) ≡ setup_of xs
+unfolding setup_of
+setup_append [] ys some = absurd (omega arith)
+setup_append (Head epoch regions ∷ xs) ys some = refl
+setup_append (Whole frame ∷ xs) ys some = refl
+
+-- the log of one frame more
+pub log_in_more : (got : List Given) (f : Frame) → 0 < length got → log_in (got ++ Whole f ∷ []) ≡ log_in got ++ frame_lines (setup_of got) (frames_of got) f
+unfolding log_in
+log_in_more got f some = rw (setup_append got (Whole f ∷ []) some, frames_more got f) (log_more (setup_of got) (frames_of got) f)
+
+-- the log of no frames
+pub log_in_none : (got : List Given) → frames_of got ≡ [] → log_in got ≡ []
+unfolding log_in
+log_in_none got none = rw none (log_none (setup_of got))
+
+-- the log of the first frames, and a part of the next frame's lines
+pub cut : (frames : ℕ) (got rest : List Given) (f : Frame) (whole : Reading) (old middle new : List ℕ) → 0 < length got → whole.items ≡ (got ++ Whole f ∷ []) ++ rest
+    → frames ≡ length (frames_of got) → middle ≡ old ++ log_in got → AppendsPart (frame_lines (setup_of got) (frames_of got) f) middle new → IsCut frames whole old new
+unfolding log_in
+cut frames got rest f whole old middle new some items number written part =
+    let setup : setup_of whole.items ≡ setup_of got = ap setup_of (items ∙ append_assoc got (Whole f ∷ []) rest) ∙ setup_append got (Whole f ∷ rest) some in
+    record {
+      front = frames_of got;
+      frame = f;
+      more = frames_of rest;
+      parts = ap frames_of items ∙ frames_append (got ++ Whole f ∷ []) rest ∙ ap (λ xs. xs ++ frames_of rest) (frames_more got f) ∙ append_assoc (frames_of got) (f ∷ []) (frames_of rest);
+      number = number;
+      written = rw setup (subst (λ (bytes : List ℕ). AppendsPart (frame_lines (setup_of got) (frames_of got) f) bytes new) written part);
+    }
+
+-- items that were read are a first part of those of the whole text
+pub parts_whole : (got : List Given) (rest more all whole : List Given) → all ≡ got ++ rest → whole ≡ all ++ more → whole ≡ got ++ (rest ++ more)
+parts_whole got rest more all whole first grown = grown ∙ ap (λ xs. xs ++ more) first ∙ append_assoc got rest more
+
+-- the shelf failed, and the log of all frames was written
+pub read_failed : (report : Report) (frames : ℕ) (now whole : Text) (got : List Given) (old new : List ℕ) → report ≡ record { status = statuses.ReadFailed; file = 0; line = 0; reason = 0; frames = frames }
+    → reading whole ≡ reading now → got ≡ (reading now).items → answers.More ≡ answer_at_end (reading now).ending → frames ≡ length (frames_of got) → new ≡ old ++ log_in got
+    → Outcome report whole old new
+read_failed report frames now whole got old new is same all more number written =
+    rw is (
+      record { file = refl; line = refl; reason = refl },
+      ap (λ (r : Reading). r.ending) same ∙ open_at_more (reading now).ending more,
+      whole_log frames got (reading now) (reading whole) old new same all number written,
+    )
+
+-- the scenario ended well, and the log of all frames was written
+pub done : (report : Report) (frames : ℕ) (now whole : Text) (got : List Given) (old new : List ℕ) → report ≡ record { status = statuses.Done; file = 0; line = 0; reason = 0; frames = frames }
+    → reading whole ≡ reading now → got ≡ (reading now).items → answers.End ≡ answer_at_end (reading now).ending → frames ≡ length (frames_of got) → new ≡ old ++ log_in got
+    → Outcome report whole old new
+done report frames now whole got old new is same all end number written =
+    rw is (
+      record { file = refl; line = refl; reason = refl },
+      ap (λ (r : Reading). r.ending) same ∙ ended_at_end (reading now).ending end,
+      whole_log frames got (reading now) (reading whole) old new same all number written,
+    )
+
+-- the scenario is refused, and the log of the frames before the bad line was written
+pub refused_at : (report : Report) (line reason frames : ℕ) (now whole : Text) (got : List Given) (old new : List ℕ)
+    → report ≡ record { status = statuses.ScenarioRefused; file = 0; line = line; reason = reason; frames = frames }
+    → reading whole ≡ reading now → got ≡ (reading now).items → answers.Bad line reason ≡ answer_at_end (reading now).ending → frames ≡ length (frames_of got) → new ≡ old ++ log_in got
+    → Outcome report whole old new
+refused_at report line reason frames now whole got old new is same all bad number written =
+    rw is (refl, ap (λ (r : Reading). answer_at_end r.ending) same ∙ sym bad, whole_log frames got (reading now) (reading whole) old new same all number written)
+
+-- the output failed, and a first part of the log was written
+pub write_failed : (report : Report) (frames : ℕ) (whole : Text) (got rest : List Given) (f : Frame) (old middle new : List ℕ)
+    → report ≡ record { status = statuses.WriteFailed; file = 0; line = 0; reason = 0; frames = frames } → 0 < length got → (reading whole).items ≡ (got ++ Whole f ∷ []) ++ rest
+    → frames ≡ length (frames_of got) → middle ≡ old ++ log_in got → AppendsPart (frame_lines (setup_of got) (frames_of got) f) middle new → Outcome report whole old new
+write_failed report frames whole got rest f old middle new is some items number written part =
+    rw is (record { file = refl; line = refl; reason = refl }, cut frames got rest f (reading whole) old middle new some items number written part)
+
+-- the next frame can be run
+pub runs_next : (bench : Bench) (got : List Given) (f : Frame) → BenchStands bench (setup_of got) (frames_of got) → CanRun (setup_of got) (frames_of got) f
+    → (setup : Setup) × (frames : List Frame) × BenchStands bench setup frames × CanRun setup frames f
+runs_next bench got f stands can = (setup_of got, frames_of got, stands, can)

@@ -1,0 +1,122 @@
+-- What the feeding of a piece and the reading of the next one leave.
+use Rattle.std.proofs.Common.{◌≡◌, ℕ, ◌+◌, ◌*◌, ◌-◌, ◌<◌, ◌≤◌, Bool, true, false, cond, List, [], ◌∷◌, ◌++◌, length, take, drop, refl, sym, ◌∙◌, ap, subst, append_assoc, append-nil, length-append, length-drop, arith, Option, Some}
+use Rattle.std.specs.Prelude.{◌==◌}
+use Rattle.std.proofs.lemmas.Bool.Decides.{nat_tests}
+use Rattle.std.proofs.lemmas.List.{take-append-drop, length-take-le}
+use Rattle.rehearsal.specs.declared.feeding.Next.TheVariants as nexts
+use Rattle.fsw_outside.specs.Told.{WhereTold}
+use Rattle.fsw_outside.specs.Files.{Content}
+use Rattle.fsw_outside.proofs.Telling.{told_nothing}
+use Rattle.scenario.specs.declared.reader.Reader.{Reader}
+use Rattle.scenario.specs.declared.item.Item.TheVariants as answers
+use Rattle.scenario.specs.Texts.{Text, Given, Ending, Bad, Ended, Unended, Open, reading}
+use Rattle.scenario.specs.Answers.{answer_at_end}
+use Rattle.scenario.proofs.TextLaws.{open_is_bounded}
+use Rattle.rehearsal.proofs.Endings.{open_at_more}
+use Rattle.scenario.specs.Standing.{Stands, fed, closed, left}
+use Rattle.rehearsal.specs.Fed.{Fed}
+use Rattle.rehearsal.specs.Reading.{Holds, IsRead, IsSameOpening, Gives, work_left}
+
+-- and is no longer pending
+pub read_fed : (text : Text) (pending : List ℕ) (taken : ℕ) (start after : Content) → text.closed ≡ false
+    → IsRead text pending start after → IsRead (fed text (take taken pending)) (drop taken pending) start after
+read_fed text pending taken start after is_open read = record {
+  same = read.same;
+  parts = read.parts ∙ ap (λ bytes. bytes ++ after.rest) (ap (λ bytes. text.bytes ++ bytes) (sym (take-append-drop taken pending)) ∙ sym (append_assoc text.bytes (take taken pending) (drop taken pending)));
+  ended = read.ended;
+}
+
+-- less work is left once some of the pending bytes were fed
+pub less_pending : (old new : Reader) (f g : Fed) (taken : ℕ) → 0 < taken → taken ≤ length f.pending
+    → g ≡ record f { pending = drop taken f.pending } → left new ≡ left old + taken → work_left new g < work_left old f
+unfolding work_left
+less_pending old new f g taken some within is moved = rw (is, moved, length-drop taken f.pending) (omega arith)
+
+-- less work is left once a piece was read
+pub less_unread : (reader : Reader) (f g : Fed) → f.total ≤ 16777856 → f.pending ≡ [] → g.total ≡ f.total + length g.pending → length g.pending ≤ 4096
+    → 0 < length g.pending → f.ended ≡ false → g.ended ≡ false → work_left reader g < work_left reader f
+unfolding work_left
+less_unread reader f g small empty total few some open_before open_now = rw (empty, total, open_before, open_now) (omega arith)
+
+-- less work is left once the end was told
+pub less_ended : (old new : Reader) (f g : Fed) → g.total ≡ f.total + length g.pending → g.pending ≡ [] → f.pending ≡ [] → f.ended ≡ false → g.ended ≡ true
+    → left new ≡ left old → work_left new g < work_left old f
+unfolding work_left
+less_ended old new f g total none empty open_before ended moved = rw (total, none, empty, open_before, ended, moved) (omega arith)
+
+-- a list that isn't empty
+pub not_empty : (xs : List ℕ) → (xs ≡ [] → ⊥) → 0 < length xs
+not_empty [] some = absurd (some refl)
+not_empty (x ∷ xs) some = omega arith
+
+-- the reader answered something, and stands for the same text
+pub held : (old new : Reader) (f : Fed) (text : Text) (gave more : List Given) → Holds old f text gave → Stands new text more → Holds new f text more
+held old new f text gave more h stands = record { stands = stands; closed = h.closed; nothing = h.nothing; total = h.total }
+
+-- an answer doesn't raise the work that is left
+pub less_after : (a b c : Reader) (f g : Fed) → left b ≤ left a → work_left c g < work_left b f → work_left c g < work_left a f
+unfolding work_left
+less_after a b c f g more less = omega (arith, more, less)
+
+-- few bytes were read of a text of which more is wanted
+pub few_read : (reader : Reader) (f : Fed) (text : Text) (gave : List Given) → Holds reader f text gave → f.pending ≡ [] → text.closed ≡ false → answers.More ≡ answer_at_end (reading text).ending
+    → f.total ≤ 16777856
+few_read reader f text gave h none is_open more = by_closed text.closed text.bytes is_open (open_at_more (reading text).ending more) h.total
+  where
+    by_closed : (closed : Bool) (bytes : List ℕ) → closed ≡ false → (reading (record { bytes = bytes; closed = closed })).ending ≡ Open → f.total ≡ length bytes + length f.pending → f.total ≤ 16777856
+    by_closed true bytes is_open ending total = cc
+    by_closed false bytes is_open ending total =
+        let few = open_is_bounded bytes ending in
+        omega (arith, few, total, ap length none)
+
+-- a list without length
+pub empty_of : (xs : List ℕ) → length xs ≡ 0 → xs ≡ []
+empty_of [] none = refl
+empty_of (x ∷ xs) none = absurd (omega arith)
+
+-- nothing is pending, by a test of its length
+pub none_left : (pending piece : List ℕ) (test : Bool) → piece ≡ pending → test ≡ (length piece == 0) → test ≡ true → pending ≡ []
+none_left pending piece test same is holds =
+    let zero : (length piece == 0) ≡ true = sym is ∙ holds in
+    let none : length piece ≡ 0 = grind (arith, nat_tests) in
+    empty_of pending (ap length (sym same) ∙ none)
+
+-- the shelf failed once all that it handed out was fed
+pub failed_on : (reader : Reader) (f : Fed) (text now : Text) (gave : List Given) → Holds reader f now gave → now ≡ text → f.pending ≡ [] → text.closed ≡ false
+    → gave ≡ (reading text).items → answers.More ≡ answer_at_end (reading text).ending → Gives nexts.Failed reader f now gave
+failed_on reader f text now gave h same none is_open all more = (
+  h,
+  subst (λ (t : Text). gave ≡ (reading t).items) (sym same) all,
+  subst (λ (t : Text). answers.More ≡ answer_at_end (reading t).ending) (sym same) more,
+  ap (λ (t : Text). t.closed) same ∙ is_open,
+  none,
+)
+
+-- the end was told, where nothing was pending
+pub ended_on : (old new : Reader) (f g : Fed) (text : Text) (gave : List Given) → Holds old f text gave → f.pending ≡ [] → g.pending ≡ [] → g.total ≡ f.total + length g.pending
+    → g.ended ≡ true → Stands new (closed text) gave → Holds new g (closed text) gave
+ended_on old new f g text gave h empty none total ended stands = record {
+  stands = stands;
+  closed = sym ended;
+  nothing = λ _. none;
+  total = omega (arith, h.total, total, ap length empty, ap length none);
+}
+
+-- a piece was read, where nothing was pending
+pub filled : (reader : Reader) (f g : Fed) (text : Text) (gave : List Given) → Holds reader f text gave → f.pending ≡ [] → g.total ≡ f.total + length g.pending
+    → f.ended ≡ false → g.ended ≡ false → Holds reader g text gave
+filled reader f g text gave h empty total open_before open_now = record {
+  stands = h.stands;
+  closed = h.closed ∙ open_before ∙ sym open_now;
+  nothing = λ ended. cc;
+  total = omega (arith, h.total, total, ap length empty);
+}
+
+-- what was read of the file with one piece more, where none was pending
+pub read_filled : (text : Text) (closed : Bool) (pending : List ℕ) (start before after : Content) → IsSameOpening before after → before.rest ≡ pending ++ after.rest
+    → (closed ≡ true → after.rest ≡ []) → IsRead text [] start before → IsRead (record { bytes = text.bytes; closed = closed }) pending start after
+read_filled text closed pending start before after same parts ended read = record {
+  same = record { files = same.files ∙ read.same.files; openings = same.openings ∙ read.same.openings; name = same.name ∙ read.same.name };
+  parts = read.parts ∙ ap (λ (bytes : List ℕ). bytes ++ before.rest) (append-nil text.bytes) ∙ ap (λ (rest : List ℕ). text.bytes ++ rest) parts ∙ sym (append_assoc text.bytes pending after.rest);
+  ended = ended;
+}

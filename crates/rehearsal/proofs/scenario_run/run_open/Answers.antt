@@ -1,0 +1,105 @@
+use Rattle.std.proofs.Common.{◌≡◌, ℕ, ◌<◌, Bool, false, List, [], ◌∷◌, length, sym, ◌∙◌, ap, subst, refl, rules, arith}
+use Rattle.fsw_outside.specs.Files.{Content}
+use Rattle.fsw_outside.proofs.Telling.{told_then, told_map, told_nothing}
+use Rattle.scenario.specs.Texts.{Text, Given, reading}
+use Rattle.scenario.specs.Standing.{header_in}
+use Rattle.frame_exec.specs.Runs.{Setup}
+use Rattle.frame_exec.specs.Standing.{Stands as BenchStands}
+use Rattle.rehearsal.specs.Outcome.{frames_of, setup_of, IsTextOf}
+use Rattle.rehearsal.proofs.TextFacts.{no_first_frame}
+use Rattle.rehearsal.proofs.Endings.{not_open_at_end, not_open_at_bad}
+use Rattle.rehearsal.proofs.Outcomes.{whole_of, is_closed, text_of, closed_same, open_after, tells_some, reading_same, reading_whole, read_failed, done, refused_at}
+use Rattle.rehearsal.proofs.Beginnings.{unread, begins, read_none, no_frames, no_log, header_setup, header_alone, out_of_memory, opened}
+use Rattle.rehearsal.proofs.scenario_run.run_open.Goals as goal
+
+pub returns-in_default-clause-outcome : goal.returns-in_default-clause-outcome
+returns-in_default-clause-outcome g c = told_nothing _ _ (λ start.
+    let end : Bool = is_closed start.rest (g.S.Shelf.faults c.args.shelf.now) (g.S.Shelf.faults c.args.shelf.now) in (
+      whole_of unread [] end,
+      text_of unread [] start start (g.S.Shelf.faults c.args.shelf.now) (g.S.Shelf.faults c.args.shelf.now) (read_none (record { pending = []; total = 0; ended = false }) start refl),
+      told_nothing _ _ (λ held. out_of_memory c.at.result (whole_of unread [] end) held c.at.ensures),
+    ))
+
+pub unreachable-requires : goal.unreachable-requires
+unreachable-requires g c =
+    let a = c.in-Frame.ensures.reads unread [] (begins c.in-Ok.reader c.new-feed.result c.in-Ok.ensures.stands c.new-feed.ensures) in
+    no_first_frame c.read_on.new.reader a.0 _ a.1.stands
+
+pub returns-in_default-open-clause-outcome : goal.returns-in_default-open-clause-outcome
+returns-in_default-open-clause-outcome g c =
+    let a = c.in-Header.ensures.reads unread [] (begins c.in-Ok.reader c.new-feed.result c.in-Ok.ensures.stands c.new-feed.ensures) in
+    told_map a.2 (λ start after first.
+    let end : Bool = is_closed after.rest (g.S.Shelf.faults c.args.shelf.now) (g.S.Shelf.faults c.read_on.new.shelf) in (
+      whole_of a.0 c.read_on.new.feed.pending end,
+      text_of a.0 c.read_on.new.feed.pending start after (g.S.Shelf.faults c.args.shelf.now) (g.S.Shelf.faults c.read_on.new.shelf) (first start (read_none c.new-feed.result start c.new-feed.ensures)),
+      told_nothing _ _ (λ held. out_of_memory c.at-in_default-open.result (whole_of a.0 c.read_on.new.feed.pending end) held c.at-in_default-open.ensures),
+    ))
+
+pub run_frames-requires-clause-holds : goal.run_frames-requires-clause-holds
+run_frames-requires-clause-holds g c = λ _ _.
+    let a = c.in-Header.ensures.reads unread [] (begins c.in-Ok.reader c.new-feed.result c.in-Ok.ensures.stands c.new-feed.ensures) in
+    let item : Given = header_in c.read_on.new.reader in
+    let some : 0 < length (item ∷ []) = omega arith in
+    let head = c.header.ensures a.0 (item ∷ []) a.1.stands some in
+    let setup = header_setup item c.header.result.now.epoch c.header.result.now.map head.0 head.1 in
+    let none = header_alone item c.header.result.now.epoch c.header.result.now.map head.0 head.1 in
+    let stands = opened c.in-Ok-open.bench item _ c.in-Ok-open.ensures setup none in
+    (a.0, item ∷ [], a.1, stands, none, some)
+
+pub returns-in-Failed-clause-outcome : goal.returns-in-Failed-clause-outcome
+returns-in-Failed-clause-outcome g c = λ after tells.
+    let a = c.in-Failed.ensures.reads unread [] (begins c.in-Ok.reader c.new-feed.result c.in-Ok.ensures.stands c.new-feed.ensures) in
+    let first = a.2 after tells in
+    let rose = (c.in-Failed.ensures.failed refl).strictly (tells_some _ after tells) in
+    let end : Bool = is_closed after.rest (g.S.Shelf.faults c.args.shelf.now) (g.S.Shelf.faults c.read_on.new.shelf) in
+    let is_open = open_after after.rest (g.S.Shelf.faults c.args.shelf.now) (g.S.Shelf.faults c.read_on.new.shelf) rose in
+    let same = reading_same a.0 c.read_on.new.feed.pending end a.1.4 (is_open ∙ sym a.1.3) in (
+      first.0,
+      first.1,
+      (
+        whole_of a.0 c.read_on.new.feed.pending end,
+        text_of a.0 c.read_on.new.feed.pending first.0 after (g.S.Shelf.faults c.args.shelf.now) (g.S.Shelf.faults c.read_on.new.shelf) (first.2 first.0 (read_none c.new-feed.result first.0 c.new-feed.ensures)),
+        told_nothing _ _ (λ held. read_failed c.at-in-Failed.result 0 a.0 (whole_of a.0 c.read_on.new.feed.pending end) [] held held c.at-in-Failed.ensures same a.1.1 a.1.2 (no_frames [] refl) (no_log [] held refl)),
+      ),
+    )
+
+pub returns-in-End-clause-outcome : goal.returns-in-End-clause-outcome
+returns-in-End-clause-outcome g c =
+    let a = c.in-End.ensures.reads unread [] (begins c.in-Ok.reader c.new-feed.result c.in-Ok.ensures.stands c.new-feed.ensures) in
+    told_map a.2 (λ start after first.
+    let read = first start (read_none c.new-feed.result start c.new-feed.ensures) in
+    let end : Bool = is_closed after.rest (g.S.Shelf.faults c.args.shelf.now) (g.S.Shelf.faults c.read_on.new.shelf) in
+    let closed = closed_same c.read_on.new.reader c.read_on.new.feed a.0 [] start after (g.S.Shelf.faults c.args.shelf.now) (g.S.Shelf.faults c.read_on.new.shelf) a.1.0 read (c.in-End.ensures.well (λ other. cc)) in
+    let same = reading_whole a.0 c.read_on.new.feed.pending end closed (not_open_at_end (reading a.0).ending a.1.2) in (
+      whole_of a.0 c.read_on.new.feed.pending end,
+      text_of a.0 c.read_on.new.feed.pending start after (g.S.Shelf.faults c.args.shelf.now) (g.S.Shelf.faults c.read_on.new.shelf) read,
+      told_nothing _ _ (λ held. done c.at-in-End.result 0 a.0 (whole_of a.0 c.read_on.new.feed.pending end) [] held held c.at-in-End.ensures same a.1.1 a.1.2 (no_frames [] refl) (no_log [] held refl)),
+    ))
+
+pub returns-in-Bad-clause-outcome : goal.returns-in-Bad-clause-outcome
+returns-in-Bad-clause-outcome g c =
+    let a = c.in-Bad.ensures.reads unread [] (begins c.in-Ok.reader c.new-feed.result c.in-Ok.ensures.stands c.new-feed.ensures) in
+    told_map a.2 (λ start after first.
+    let read = first start (read_none c.new-feed.result start c.new-feed.ensures) in
+    let end : Bool = is_closed after.rest (g.S.Shelf.faults c.args.shelf.now) (g.S.Shelf.faults c.read_on.new.shelf) in
+    let closed = closed_same c.read_on.new.reader c.read_on.new.feed a.0 [] start after (g.S.Shelf.faults c.args.shelf.now) (g.S.Shelf.faults c.read_on.new.shelf) a.1.0 read (c.in-Bad.ensures.well (λ other. cc)) in
+    let same = reading_whole a.0 c.read_on.new.feed.pending end closed (not_open_at_bad (reading a.0).ending c.in-Bad.line c.in-Bad.reason a.1.2) in (
+      whole_of a.0 c.read_on.new.feed.pending end,
+      text_of a.0 c.read_on.new.feed.pending start after (g.S.Shelf.faults c.args.shelf.now) (g.S.Shelf.faults c.read_on.new.shelf) read,
+      told_nothing _ _ (λ held. refused_at c.refused.result c.in-Bad.line c.in-Bad.reason 0 a.0 (whole_of a.0 c.read_on.new.feed.pending end) [] held held c.refused.ensures same a.1.1 a.1.2 (no_frames [] refl) (no_log [] held refl)),
+    ))
+
+pub returns-clause-outcome : goal.returns-clause-outcome
+returns-clause-outcome g c =
+    let a = c.in-Header.ensures.reads unread [] (begins c.in-Ok.reader c.new-feed.result c.in-Ok.ensures.stands c.new-feed.ensures) in
+    let item : Given = header_in c.read_on.new.reader in
+    let some : 0 < length (item ∷ []) = omega arith in
+    let head = c.header.ensures a.0 (item ∷ []) a.1.stands some in
+    let setup = header_setup item c.header.result.now.epoch c.header.result.now.map head.0 head.1 in
+    let none = header_alone item c.header.result.now.epoch c.header.result.now.map head.0 head.1 in
+    let stands = opened c.in-Ok-open.bench item _ c.in-Ok-open.ensures setup none in
+    let ran = c.run_frames.ensures.outcome a.0 (item ∷ []) a.1 stands none some in
+    let well = c.in-Header.ensures.well (λ other. cc) in
+    told_then a.2 ran (λ start middle after first second.
+    let o = second start (first start (read_none c.new-feed.result start c.new-feed.ensures)) in
+    (o.0, subst (λ (n : ℕ). IsTextOf n (g.S.Shelf.faults c.run_frames.new.shelf) start after o.0) well o.1, o.2))

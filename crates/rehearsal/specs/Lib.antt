@@ -1,0 +1,5 @@
+pub mod Fed
+pub mod Reading
+pub mod Outcome
+pub mod AcceptedWords
+pub mod ErrorLine

@@ -1,0 +1,64 @@
+//! How a rehearsal ended.
+
+ghost use Rattle.std.specs.Prelude.{◌≡◌};
+
+/// How a rehearsal ended. The numbers are the program's exit statuses.
+#[derive(Clone, Copy, Debug, PartialEq, Eq)]
+pub enum Status {
+    /// The scenario ended well, and the whole log was written.
+    Done = 0,
+    /// The words are refused, and nothing was read.
+    WordsRefused = 1,
+    /// A file is refused.
+    FileRefused = 2,
+    /// The scenario's text has a bad line, or no `end`.
+    ScenarioRefused = 3,
+    /// The shelf failed.
+    ReadFailed = 4,
+    /// The output failed.
+    WriteFailed = 5,
+    /// Memory ran out before the first frame.
+    NoMemory = 6,
+}
+
+/// How a rehearsal ended, and where. Fields that a status doesn't name are 0.
+#[derive(Clone, Copy, Debug, PartialEq, Eq)]
+pub struct Report {
+    pub status: Status,
+    /// The number of a FILE word, from 1; 0 is the scenario.
+    pub file: u32,
+    /// A line of the scenario, from 1, or an entry of a table.
+    pub line: u32,
+    /// Why a file or a line is refused.
+    pub reason: u8,
+    /// How many frames there were whose lines were all written.
+    pub frames: u32,
+}
+
+impl Report {
+    /// A report without a place: how it ended, and after how many frames.
+    pub fn at(status: Status, frames: u32) -> Report
+        ensures { result ≡ record { status = status; file = 0; line = 0; reason = 0; frames = frames } }
+    {
+        Report {
+            status,
+            file: 0,
+            line: 0,
+            reason: 0,
+            frames,
+        }
+    }
+
+    /// The scenario is refused at a line, after this many frames.
+    pub fn refused(line: u32, reason: u8, frames: u32) -> Report
+        ensures { result ≡ record { status = Status.ScenarioRefused; file = 0; line = line; reason = reason; frames = frames } }
+    {
+        Report {
+            status: Status::ScenarioRefused,
+            file: 0,
+            line,
+            reason,
+            frames,
+        }
+    }
+}
