@@ -16,7 +16,7 @@ pub use item::Item;
 pub use progress::Header;
 pub use reader::Reader;
 pub use reason::Reason;
+pub use words::digits;
 
 #[cfg(test)]
 mod tests;
-pub use words::digits;
