@@ -1,7 +1,7 @@
 ghost use Rattle.std.specs.Prelude.{◌<◌};
 
 use super::*;
-use bus_pipes::{Dropped, PipeName};
+use bus_pipes::{Dropped, Out, PipeName};
 use fsw_outside::MemSink;
 use packet_forms::{Name, Packet, be16, command, event, telemetry};
 use std::alloc::Global;
@@ -37,6 +37,25 @@ fn lines_are_exact(rt: HostRuntime) -> Result<(), Fail> {
     assert_eq!(rt;
         drop_line(100_000, &full).as_str(),
         "100000 drop HS.EV full 1889C000000100AF\n"
+    );
+    Ok(())
+}
+
+#[test]
+fn request_lines(rt: HostRuntime) -> Result<(), Fail> {
+    let name = Name::from_text("LOAD").ok_or("LOAD is a name")?;
+    assert_eq!(rt; request_line(0, &Out::Reset).as_str(), "0 reset\n");
+    assert_eq!(rt;
+        request_line(5, &Out::Restart(name)).as_str(),
+        "5 restart LOAD\n"
+    );
+    assert_eq!(rt;
+        item_line(7, &Out::Delete(name)).as_str(),
+        "7 delete LOAD\n"
+    );
+    assert_eq!(rt;
+        item_line(1, &Out::Made(noop_event()?)).as_str(),
+        EVENT_LINE
     );
     Ok(())
 }
