@@ -70,7 +70,8 @@ fn digit(byte: u8) -> u8
     }
 }
 
-/// The number that 1 to `room` digits write.
+/// The number that 1 to `room` digits write in a base of at most 16; none where a byte is no digit, or
+/// where there are none or too many. `room` is at most 10.
 #[tactic(auto, unfolding(crate::specs::Words::digits))]
 pub fn digits(base: u8, room: usize, word: &[u8]) -> Option<u64>
     requires base { base ≤ 16 }
