@@ -22,6 +22,7 @@ closed t = record t { closed = true }
 abbrev pub is_lf : ℕ → Bool
 is_lf b = b == 10
 
+-- a byte that doesn't end a line
 abbrev pub IsNoLf : ℕ → Type 0
 IsNoLf b = is_lf b ≡ false
 
