@@ -23,7 +23,7 @@ unread = record { bytes = []; closed = false }
 
 -- the reader stands for it
 pub begins : (reader : Reader) (f : Fed) → Stands reader unread [] → f ≡ nothing_read → Holds reader f unread []
-begins reader f stands is = rw is (record { stands = stands; closed = refl; nothing = λ _. refl; total = refl })
+begins reader f stands is = rw is (record { stands = stands; closed = refl; nothing = λ _. refl; total = refl; few = omega arith })
 
 -- nothing of the file was read
 pub read_none : (f : Fed) (start : Content) → f ≡ nothing_read → IsRead unread f.pending start start

@@ -5,3 +5,4 @@ pub mod Outcomes
 pub mod Beginnings
 pub mod WordLists
 pub mod Completeness
+pub mod Ahead

@@ -51,7 +51,7 @@ not_empty (x ∷ xs) some = omega arith
 
 -- the reader answered something, and stands for the same text
 pub held : (old new : Reader) (f : Fed) (text : Text) (gave more : List Given) → Holds old f text gave → Stands new text more → Holds new f text more
-held old new f text gave more h stands = record { stands = stands; closed = h.closed; nothing = h.nothing; total = h.total }
+held old new f text gave more h stands = record { stands = stands; closed = h.closed; nothing = h.nothing; total = h.total; few = h.few }
 
 -- an answer doesn't raise the work that is left
 pub less_after : (a b c : Reader) (f g : Fed) → left b ≤ left a → work_left c g < work_left b f → work_left c g < work_left a f
@@ -100,16 +100,18 @@ ended_on old new f g text gave h empty none total ended stands = record {
   closed = sym ended;
   nothing = λ _. none;
   total = omega (arith, h.total, total, ap length empty, ap length none);
+  few = omega (arith, ap length none);
 }
 
 -- a piece was read, where nothing was pending
 pub filled : (reader : Reader) (f g : Fed) (text : Text) (gave : List Given) → Holds reader f text gave → f.pending ≡ [] → g.total ≡ f.total + length g.pending
-    → f.ended ≡ false → g.ended ≡ false → Holds reader g text gave
-filled reader f g text gave h empty total open_before open_now = record {
+    → f.ended ≡ false → g.ended ≡ false → length g.pending ≤ 4096 → Holds reader g text gave
+filled reader f g text gave h empty total open_before open_now few = record {
   stands = h.stands;
   closed = h.closed ∙ open_before ∙ sym open_now;
   nothing = λ ended. cc;
   total = omega (arith, h.total, total, ap length empty);
+  few = few;
 }
 
 -- what was read of the file with one piece more, where none was pending
@@ -120,3 +122,14 @@ read_filled text closed pending start before after same parts ended read = recor
   parts = read.parts ∙ ap (λ (bytes : List ℕ). bytes ++ before.rest) (append-nil text.bytes) ∙ ap (λ (rest : List ℕ). text.bytes ++ rest) parts ∙ sym (append_assoc text.bytes pending after.rest);
   ended = ended;
 }
+
+-- some of what is pending was fed
+pub fed_on : (old new : Reader) (f g : Fed) (text : Text) (gave : List Given) (taken : ℕ) → Holds old f text gave → text.closed ≡ false → taken ≤ length f.pending
+    → Stands new (fed text (take taken f.pending)) gave → g ≡ record f { pending = drop taken f.pending } → Holds new g (fed text (take taken f.pending)) gave
+fed_on old new f g text gave taken h is_open within stands is = rw is (record {
+  stands = stands;
+  closed = h.closed;
+  nothing = λ ended. cc;
+  total = rw (length-append text.bytes (take taken f.pending), length-take-le taken f.pending within, length-drop taken f.pending) (omega (arith, h.total));
+  few = rw (length-drop taken f.pending) (omega (arith, h.few));
+})

@@ -1,11 +1,12 @@
 -- What a report says of the scenario's text and of the bytes of the output.
-use Rattle.std.specs.Prelude.{◌≡◌, ℕ, ◌+◌, ◌==◌, ◌&&◌, List, [], ◌∷◌, ◌++◌, length, Bool, IsTrue, IsFalse, Option, Some, ◌⊎◌}
+use Rattle.std.specs.Prelude.{◌≡◌, ℕ, ◌+◌, ◌==◌, ◌&&◌, ◌≤◌, List, [], ◌∷◌, ◌++◌, length, slice_index, Bool, IsTrue, IsFalse, Option, Some, ◌⊎◌}
 use Rattle.std.specs.List.{flat_map}
 use Rattle.fsw_outside.specs.Files.{Content}
 use Rattle.fsw_outside.specs.Written.{AppendsPart}
 use Rattle.scenario.specs.declared.item.Item.TheVariants as answers
 use Rattle.scenario.specs.FrameLists.{Frame}
-use Rattle.scenario.specs.Texts.{Text, Given, Head, Whole, Reading, Ended, Open, reading}
+use Rattle.scenario.specs.declared.reason.Reason.{Reason}
+use Rattle.scenario.specs.Texts.{Text, Given, Head, Whole, Reading, Bad, Ended, Open, reading}
 use Rattle.scenario.specs.Answers.{answer_at_end}
 use Rattle.frame_exec.specs.Runs.{Setup, frame_lines, log_of}
 use Rattle.rehearsal.specs.declared.report.Status.{Status}
@@ -82,6 +83,22 @@ OutcomeOf statuses.NoMemory report read old new = HasNoPlace report × (report.f
 -- what a report says of a text and of the bytes of the output
 abbrev pub Outcome : Report → Text → List ℕ → List ℕ → Type 0
 Outcome report text old new = OutcomeOf report.status report (reading text) old new
+
+-- How far reading went ahead: where the output failed, at most 4,096 bytes past the end of the `tick` line of the frame whose lines were cut,
+-- and where a line is bad, at most 4,096 bytes past the end of that line.
+abbrev pub ReadsAheadBy : Status → Report → Text → Type 0
+ReadsAheadBy statuses.WriteFailed report text = length text.bytes ≤ slice_index (reading text).stops (report.frames + 1) + 4096
+ReadsAheadBy statuses.ScenarioRefused report text =
+    (line : ℕ) (reason : Reason) → (reading text).ending ≡ Bad line reason → length text.bytes ≤ slice_index (reading text).stops (length (reading text).items) + 4096
+ReadsAheadBy statuses.Done report text = Unit {0}
+ReadsAheadBy statuses.WordsRefused report text = Unit {0}
+ReadsAheadBy statuses.FileRefused report text = Unit {0}
+ReadsAheadBy statuses.ReadFailed report text = Unit {0}
+ReadsAheadBy statuses.NoMemory report text = Unit {0}
+
+-- how far reading went ahead, by a report
+abbrev pub ReadsAhead : Report → Text → Type 0
+ReadsAhead report text = ReadsAheadBy report.status report text
 
 -- the whole log of a text was written, or memory ran out before the first frame
 abbrev pub Completes : Report → Text → List ℕ → List ℕ → Type 0

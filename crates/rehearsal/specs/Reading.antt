@@ -1,10 +1,11 @@
 -- How far the reading of the scenario's file has come, and what the reader gave.
-use Rattle.std.specs.Prelude.{◌≡◌, ℕ, ◌+◌, ◌*◌, ◌-◌, ◌==◌, ◌&&◌, List, [], ◌∷◌, ◌++◌, length, Bool, true, false, cond, Option, Some, None, is_some, if◌then◌else◌, Result, Ok, Err}
+use Rattle.std.specs.Prelude.{◌≡◌, ℕ, ◌+◌, ◌*◌, ◌-◌, ◌==◌, ◌&&◌, List, [], ◌∷◌, ◌++◌, length, slice_index, ◌≤◌, Bool, true, false, cond, Option, Some, None, is_some, if◌then◌else◌, Result, Ok, Err}
 use Rattle.fsw_outside.specs.Files.{Content, file_named}
 use Rattle.fsw_outside.specs.declared.traits.Failed.{Failed}
 use Rattle.scenario.specs.declared.reader.Reader.{Reader}
 use Rattle.scenario.specs.declared.item.Item.TheVariants as answers
-use Rattle.scenario.specs.Texts.{Text, Given, reading}
+use Rattle.scenario.specs.declared.reason.Reason.{Reason}
+use Rattle.scenario.specs.Texts.{Text, Given, Bad, reading}
 use Rattle.scenario.specs.Answers.{answer_at_end}
 use Rattle.scenario.specs.Standing.{Stands, Shows, left, header_in, frame_in}
 use Rattle.rehearsal.specs.Fed.{Fed}
@@ -40,13 +41,20 @@ pub record Holds (reader : Reader) (fed : Fed) (text : Text) (gave : List Given)
   pub closed : text.closed ≡ fed.ended
   pub nothing : fed.ended ≡ true → fed.pending ≡ []
   pub total : fed.total ≡ length text.bytes + length fed.pending
+  pub few : length fed.pending ≤ 4096
+
+-- the text ends where the line of its n-th item ends, counted from 0, or the bad line behind its items
+abbrev pub StopsAt : Text → ℕ → Type 0
+StopsAt text n = slice_index (reading text).stops n ≡ length text.bytes
 
 -- what the reader gave next, after these items
 abbrev pub Gives : Next → Reader → Fed → Text → List Given → Type 0
 Gives nexts.Header reader fed text gave = Holds reader fed text (gave ++ header_in reader ∷ [])
-Gives nexts.Frame reader fed text gave = Holds reader fed text (gave ++ frame_in reader ∷ [])
+Gives nexts.Frame reader fed text gave = Holds reader fed text (gave ++ frame_in reader ∷ []) × StopsAt text (length gave)
 Gives nexts.End reader fed text gave = Holds reader fed text gave × (gave ≡ (reading text).items) × (answers.End ≡ answer_at_end (reading text).ending)
-Gives (nexts.Bad line reason) reader fed text gave = Holds reader fed text gave × (gave ≡ (reading text).items) × (answers.Bad line reason ≡ answer_at_end (reading text).ending)
+Gives (nexts.Bad line reason) reader fed text gave =
+    Holds reader fed text gave × (gave ≡ (reading text).items) × (answers.Bad line reason ≡ answer_at_end (reading text).ending)
+    × ((at : ℕ) (why : Reason) → (reading text).ending ≡ Bad at why → StopsAt text (length gave))
 Gives nexts.Failed reader fed text gave = Holds reader fed text gave × (gave ≡ (reading text).items) × (answers.More ≡ answer_at_end (reading text).ending) × (text.closed ≡ false) × (fed.pending ≡ [])
 
 -- how much is left to do until the text's end, at most

@@ -7,7 +7,7 @@ ghost use Rattle.fsw_outside.specs.Causes.{HasRisen};
 ghost use Rattle.scenario.specs.Texts.{Text, Ended, reading};
 ghost use Rattle.rehearsal.specs.AcceptedWords.{Asked, accepted_words};
 ghost use Rattle.rehearsal.specs.Reading.{OpensOnce};
-ghost use Rattle.rehearsal.specs.Outcome.{IsText, Outcome, Completes};
+ghost use Rattle.rehearsal.specs.Outcome.{IsText, ReadsAhead, Outcome, Completes};
 ghost use Rattle.rehearsal.specs.ErrorLine.{error_line, Tells};
 
 use crate::accepting::accept;
@@ -33,7 +33,7 @@ fn rehearse<R: Threads + Sync, S: Shelf, O: Sink, G: Gate>(
     ensures unread { accepted_words words.now ≡ None → shelf.new ≡ shelf.old }
     ensures unwritten { accepted_words words.now ≡ None → out.new ≡ out.old }
     ensures outcome { (asked : Asked) → accepted_words words.now ≡ Some asked → WhereTold (S.told shelf.old) (S.told shelf.new) (λ before after.
-        (text : Text) × IsText (S.is_open shelf.new) (S.faults shelf.old) (S.faults shelf.new) (file_named before.files asked.scenario) after.rest text
+        (text : Text) × IsText (S.is_open shelf.new) (S.faults shelf.old) (S.faults shelf.new) (file_named before.files asked.scenario) after.rest text × ReadsAhead result text
         × WhereTold (O.held out.old) (O.held out.new) (Outcome result text)) }
     ensures opening { (asked : Asked) → accepted_words words.now ≡ Some asked → WhereTold (S.told shelf.old) (S.told shelf.new) (OpensOnce asked.scenario) }
     ensures mark { (asked : Asked) → accepted_words words.now ≡ Some asked → S.mark shelf.new ≡ S.faults shelf.old }
@@ -76,7 +76,7 @@ pub fn vigil<R: Threads + Sync, S: Shelf, O: Sink, E: Sink, G: Gate>(
 
     // What the report says of the text that was handed out and of the bytes of `out`, where both objects tell.
     ensures outcome { (asked : Asked) → accepted_words words.now ≡ Some asked → WhereTold (S.told shelf.old) (S.told shelf.new) (λ before after.
-        (text : Text) × IsText (S.is_open shelf.new) (S.faults shelf.old) (S.faults shelf.new) (file_named before.files asked.scenario) after.rest text
+        (text : Text) × IsText (S.is_open shelf.new) (S.faults shelf.old) (S.faults shelf.new) (file_named before.files asked.scenario) after.rest text × ReadsAhead result text
         × WhereTold (O.held out.old) (O.held out.new) (Outcome result text)) }
 
     // The scenario's file is asked for once, and nothing else.

@@ -7,7 +7,7 @@ ghost use Rattle.fsw_outside.specs.Causes.{HasRisen};
 ghost use Rattle.scenario.specs.Texts.{Text, Given};
 ghost use Rattle.frame_exec.specs.Standing.{Stands as BenchStands};
 ghost use Rattle.rehearsal.specs.Reading.{IsRead, Holds};
-ghost use Rattle.rehearsal.specs.Outcome.{frames_of, setup_of, IsTextOf, Outcome};
+ghost use Rattle.rehearsal.specs.Outcome.{frames_of, setup_of, IsTextOf, ReadsAhead, Outcome};
 
 use crate::feeding::{Feed, Next, read_on};
 use crate::report::{Report, Status};
@@ -32,7 +32,7 @@ pub fn run_frames<R: Threads + Sync, S: Shelf, O: Sink, G: Gate>(
     ensures outcome { (text : Text) (gave : List Given) → Holds reader.old feed.old text gave → BenchStands bench.old (setup_of gave) (frames_of gave)
         → frames_of gave ≡ [] → 0 < length gave
         → WhereTold (S.told shelf.old) (S.told shelf.new) (λ before after. (start : Content) → IsRead text feed.old.pending start before
-        → (whole : Text) × IsTextOf (S.faults shelf.old) (S.faults shelf.new) start after whole
+        → (whole : Text) × IsTextOf (S.faults shelf.old) (S.faults shelf.new) start after whole × ReadsAhead result whole
         × WhereTold (O.held out.old) (O.held out.new) (Outcome result whole)) }
     ensures is_open { IsTrue (S.is_open shelf.new) }
     ensures mark { S.mark shelf.new ≡ S.mark shelf.old }

@@ -6,7 +6,7 @@ ghost use Rattle.fsw_outside.specs.Files.{file_named};
 ghost use Rattle.fsw_outside.specs.Causes.{HasRisen};
 ghost use Rattle.scenario.specs.Texts.{Text};
 ghost use Rattle.rehearsal.specs.Reading.{OpensOnce};
-ghost use Rattle.rehearsal.specs.Outcome.{IsText, IsTextOf, Outcome};
+ghost use Rattle.rehearsal.specs.Outcome.{IsText, IsTextOf, ReadsAhead, Outcome};
 
 use crate::feeding::{Feed, Next, read_on};
 use crate::report::{Report, Status};
@@ -29,7 +29,7 @@ fn run_open<R: Threads + Sync, S: Shelf, O: Sink, G: Gate>(
     requires opened { IsTrue (S.is_open shelf.old) }
     requires workers { (1 ≤ workers) × (workers ≤ 16) }
     ensures outcome { WhereTold (S.told shelf.old) (S.told shelf.new) (λ start after.
-        (whole : Text) × IsTextOf (S.faults shelf.old) (S.faults shelf.new) start after whole
+        (whole : Text) × IsTextOf (S.faults shelf.old) (S.faults shelf.new) start after whole × ReadsAhead result whole
         × WhereTold (O.held out.old) (O.held out.new) (Outcome result whole)) }
     ensures is_open { IsTrue (S.is_open shelf.new) }
     ensures mark { S.mark shelf.new ≡ S.mark shelf.old }
@@ -68,7 +68,7 @@ pub fn run_scenario<R: Threads + Sync, S: Shelf, O: Sink, G: Gate>(
 ) -> Report
     requires { (1 ≤ workers) × (workers ≤ 16) }
     ensures outcome { WhereTold (S.told shelf.old) (S.told shelf.new) (λ before after.
-        (text : Text) × IsText (S.is_open shelf.new) (S.faults shelf.old) (S.faults shelf.new) (file_named before.files name.now) after.rest text
+        (text : Text) × IsText (S.is_open shelf.new) (S.faults shelf.old) (S.faults shelf.new) (file_named before.files name.now) after.rest text × ReadsAhead result text
         × WhereTold (O.held out.old) (O.held out.new) (Outcome result text)) }
     ensures opening { WhereTold (S.told shelf.old) (S.told shelf.new) (OpensOnce name.now) }
     ensures mark { S.mark shelf.new ≡ S.faults shelf.old }

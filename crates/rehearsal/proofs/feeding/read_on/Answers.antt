@@ -82,7 +82,7 @@ returns-in-Header-clause-reads g c = λ text gave h.
 pub returns-in-Frame-clause-reads : goal.returns-in-Frame-clause-reads
 returns-in-Frame-clause-reads g c = λ text gave h.
     let i = c.reads.invariant.reads text gave h in
-    (i.0, held c.reads.reader c.next.new.self c.reads.feed i.0 gave _ i.1 (c.in-Frame.ensures.frame refl i.0 gave i.1.stands), i.2)
+    (i.0, (held c.reads.reader c.next.new.self c.reads.feed i.0 gave _ i.1 (c.in-Frame.ensures.frame refl i.0 gave i.1.stands), c.in-Frame.ensures.stop tt i.0 gave i.1.stands), i.2)
 
 pub returns-in-End-clause-reads : goal.returns-in-End-clause-reads
 returns-in-End-clause-reads g c = λ text gave h.
@@ -94,4 +94,4 @@ pub returns-in-Bad-clause-reads : goal.returns-in-Bad-clause-reads
 returns-in-Bad-clause-reads g c = λ text gave h.
     let i = c.reads.invariant.reads text gave h in
     let m = c.in-Bad.ensures.last tt i.0 gave i.1.stands in
-    (i.0, (held c.reads.reader c.next.new.self c.reads.feed i.0 gave gave i.1 m.0, m.1, m.2), i.2)
+    (i.0, (held c.reads.reader c.next.new.self c.reads.feed i.0 gave gave i.1 m.0, m.1, m.2, λ at why bad. c.in-Bad.ensures.bad at why i.0 gave tt i.1.stands bad), i.2)

@@ -11,7 +11,7 @@ returns-clause-complete g c = λ asked bytes is ended well wrote after tells.
       o.0,
       o.1,
       λ file new told.
-          let inner = o.2.2 new told in
+          let inner = o.2.3 new told in
           let write = λ (failed : c.rehearse-report.result.status ≡ statuses.WriteFailed). not_risen _ new _ _ told wrote (c.rehearse-report.ensures.write_failed failed) in
           (inner.0, inner.1, completes c.rehearse-report.result _ _ _ bytes after.rest _ o.2.0 inner.0 new file o.2.1 ended read (c.rehearse-report.ensures.opened asked is) write inner.2),
     )

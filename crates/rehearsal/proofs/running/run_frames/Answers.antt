@@ -14,6 +14,7 @@ use Rattle.scenario.proofs.TextLaws.{given_first}
 use Rattle.rehearsal.proofs.TextFacts.{no_later_head, can_run, few_frames}
 use Rattle.rehearsal.proofs.Endings.{not_open_at_end, not_open_at_bad}
 use Rattle.rehearsal.proofs.Outcomes.{whole_of, is_closed, text_of, closed_same, open_after, tells_some, reading_same, reading_whole, items_whole, frames_more, setup_append, log_in_more, log_in_none, parts_whole, read_failed, done, refused_at, write_failed, runs_next}
+use Rattle.rehearsal.proofs.Ahead.{ahead_by, bad_ahead, cut_ahead, one_more}
 use Rattle.rehearsal.proofs.running.run_frames.Goals as goal
 
 pub frames-init : goal.frames-init
@@ -50,6 +51,7 @@ returns-in-Failed-clause-outcome g c = λ text gave h b none some after tells.
           let same = reading_same a.0 c.read_on.new.feed.pending end a.1.4 (is_open ∙ sym a.1.3) in (
             whole_of a.0 c.read_on.new.feed.pending end,
             text_of a.0 c.read_on.new.feed.pending start after (g.S.Shelf.faults c.args.shelf.now) (g.S.Shelf.faults c.read_on.new.shelf) (later.2 start (earlier.2 start r)),
+            ahead_by c.at.result _ (whole_of a.0 c.read_on.new.feed.pending end) c.at.ensures tt,
             told_map i.7 (λ old new written.
                 read_failed c.at.result c.frames.frames a.0 (whole_of a.0 c.read_on.new.feed.pending end) i.1 old new c.at.ensures same a.1.1 a.1.2 i.5 written),
           ),
@@ -67,6 +69,7 @@ returns-in-End-clause-outcome g c = λ text gave h b none some.
     let same = reading_whole a.0 c.read_on.new.feed.pending end closed (not_open_at_end (reading a.0).ending a.1.2) in (
       whole_of a.0 c.read_on.new.feed.pending end,
       text_of a.0 c.read_on.new.feed.pending start after (g.S.Shelf.faults c.args.shelf.now) (g.S.Shelf.faults c.read_on.new.shelf) read,
+      ahead_by c.at-in-End.result _ (whole_of a.0 c.read_on.new.feed.pending end) c.at-in-End.ensures tt,
       told_map i.7 (λ old new written.
           done c.at-in-End.result c.frames.frames a.0 (whole_of a.0 c.read_on.new.feed.pending end) i.1 old new c.at-in-End.ensures same a.1.1 a.1.2 i.5 written),
     ))
@@ -83,6 +86,7 @@ returns-in-Bad-clause-outcome g c = λ text gave h b none some.
     let same = reading_whole a.0 c.read_on.new.feed.pending end closed (not_open_at_bad (reading a.0).ending c.in-Bad.line c.in-Bad.reason a.1.2) in (
       whole_of a.0 c.read_on.new.feed.pending end,
       text_of a.0 c.read_on.new.feed.pending start after (g.S.Shelf.faults c.args.shelf.now) (g.S.Shelf.faults c.read_on.new.shelf) read,
+      ahead_by c.refused.result _ (whole_of a.0 c.read_on.new.feed.pending end) c.refused.ensures (bad_ahead a.0 (whole_of a.0 c.read_on.new.feed.pending end) i.1 c.read_on.new.feed.pending same a.1.1 refl a.1.0.few a.1.3),
       told_map i.7 (λ old new written.
           refused_at c.refused.result c.in-Bad.line c.in-Bad.reason c.frames.frames a.0 (whole_of a.0 c.read_on.new.feed.pending end) i.1 old new c.refused.ensures same a.1.1 a.1.2 i.5 written),
     ))
@@ -106,7 +110,7 @@ frame-requires-in-Frame-clause-started g c =
     let s = c.requires.holds in
     let i = c.frames.invariant.ran s.0 s.1 s.2 s.3 s.4 s.5 in
     let a = c.in-Frame.ensures.reads i.0 i.1 i.2 in
-    let stands = subst (λ (item : Given). Stands c.read_on.new.reader a.0 (i.1 ++ item ∷ [])) (sym c.frame.ensures) a.1.stands in
+    let stands = subst (λ (item : Given). Stands c.read_on.new.reader a.0 (i.1 ++ item ∷ [])) (sym c.frame.ensures) a.1.0.stands in
     let held = runs_next c.frames.bench i.1 c.frame.result.now i.3 (can_run c.read_on.new.reader a.0 i.1 c.frame.result.now stands) in
     search (rules, held)
 
@@ -115,16 +119,17 @@ returns-in_default-clause-outcome g c = λ text gave h b none some.
     let i = c.frames.invariant.ran text gave h b none some in
     let a = c.in-Frame.ensures.reads i.0 i.1 i.2 in
     let well = c.in-Frame.ensures.well (λ other. cc) ∙ c.frames.invariant.read_well in
-    let stands = subst (λ (item : Given). Stands c.read_on.new.reader a.0 (i.1 ++ item ∷ [])) (sym c.frame.ensures) a.1.stands in
+    let stands = subst (λ (item : Given). Stands c.read_on.new.reader a.0 (i.1 ++ item ∷ [])) (sym c.frame.ensures) a.1.0.stands in
     let first_of_now = given_first c.read_on.new.reader a.0 (i.1 ++ Whole c.frame.result.now ∷ []) stands in
     told_then i.6 a.2 (λ before middle after first second start r.
     let read = second start (first start r) in
     let end : Bool = is_closed after.rest (g.S.Shelf.faults c.args.shelf.now) (g.S.Shelf.faults c.read_on.new.shelf) in
-    let closed = closed_same c.read_on.new.reader c.read_on.new.feed a.0 _ start after (g.S.Shelf.faults c.args.shelf.now) (g.S.Shelf.faults c.read_on.new.shelf) a.1 read well in
+    let closed = closed_same c.read_on.new.reader c.read_on.new.feed a.0 _ start after (g.S.Shelf.faults c.args.shelf.now) (g.S.Shelf.faults c.read_on.new.shelf) a.1.0 read well in
     let grown = items_whole a.0 c.read_on.new.feed.pending end closed in
     let items = parts_whole (i.1 ++ Whole c.frame.result.now ∷ []) first_of_now.0 grown.0 (reading a.0).items (reading (whole_of a.0 c.read_on.new.feed.pending end)).items first_of_now.1 grown.1 in (
       whole_of a.0 c.read_on.new.feed.pending end,
       text_of a.0 c.read_on.new.feed.pending start after (g.S.Shelf.faults c.args.shelf.now) (g.S.Shelf.faults c.read_on.new.shelf) read,
+      ahead_by c.at-in_default.result _ (whole_of a.0 c.read_on.new.feed.pending end) c.at-in_default.ensures (cut_ahead a.0 i.1 first_of_now.0 c.frame.result.now c.read_on.new.feed.pending end c.frames.frames closed first_of_now.1 (one_more c.frames.reader i.0 i.1 i.2.stands i.4) i.5 a.1.1 a.1.0.few),
       told_then i.7 (c.in_default.ensures.lines (setup_of i.1) (frames_of i.1) i.3) (λ old middle new written part.
           write_failed c.at-in_default.result c.frames.frames (whole_of a.0 c.read_on.new.feed.pending end) i.1 (first_of_now.0 ++ grown.0) c.frame.result.now old middle new
           c.at-in_default.ensures i.4 items i.5 written part),
@@ -135,7 +140,7 @@ overflow_add-frames g c =
     let s = c.requires.holds in
     let i = c.frames.invariant.ran s.0 s.1 s.2 s.3 s.4 s.5 in
     let a = c.in-Frame.ensures.reads i.0 i.1 i.2 in
-    let stands = subst (λ (item : Given). Stands c.read_on.new.reader a.0 (i.1 ++ item ∷ [])) (sym c.frame.ensures) a.1.stands in
+    let stands = subst (λ (item : Given). Stands c.read_on.new.reader a.0 (i.1 ++ item ∷ [])) (sym c.frame.ensures) a.1.0.stands in
     let few = few_frames c.read_on.new.reader a.0 (i.1 ++ Whole c.frame.result.now ∷ []) stands in
     let more = ap (length {A = Frame}) (frames_more i.1 c.frame.result.now) ∙ length-append (frames_of i.1) (c.frame.result.now ∷ []) in
     let number = i.5 in
@@ -146,7 +151,7 @@ frames-smaller g c =
     let s = c.requires.holds in
     let i = c.frames.invariant.ran s.0 s.1 s.2 s.3 s.4 s.5 in
     let a = c.in-Frame.ensures.reads i.0 i.1 i.2 in
-    let stands = subst (λ (item : Given). Stands c.read_on.new.reader a.0 (i.1 ++ item ∷ [])) (sym c.frame.ensures) a.1.stands in
+    let stands = subst (λ (item : Given). Stands c.read_on.new.reader a.0 (i.1 ++ item ∷ [])) (sym c.frame.ensures) a.1.0.stands in
     let few = few_frames c.read_on.new.reader a.0 (i.1 ++ Whole c.frame.result.now ∷ []) stands in
     let more = ap (length {A = Frame}) (frames_more i.1 c.frame.result.now) ∙ length-append (frames_of i.1) (c.frame.result.now ∷ []) in
     let number = i.5 in
@@ -159,7 +164,7 @@ frames-preserved g c = record {
       let i = c.frames.invariant.ran text gave h b none some in
       let a = c.in-Frame.ensures.reads i.0 i.1 i.2 in
       let got : List Given = i.1 ++ Whole c.frame.result.now ∷ [] in
-      let holds = subst (λ (item : Given). Holds c.read_on.new.reader c.read_on.new.feed a.0 (i.1 ++ item ∷ [])) (sym c.frame.ensures) a.1 in
+      let holds = subst (λ (item : Given). Holds c.read_on.new.reader c.read_on.new.feed a.0 (i.1 ++ item ∷ [])) (sym c.frame.ensures) a.1.0 in
       let stands = c.in-Ok.ensures.stands (setup_of i.1) (frames_of i.1) i.3 in
       let setup = setup_append i.1 (Whole c.frame.result.now ∷ []) i.4 in
       let frames = frames_more i.1 c.frame.result.now in (

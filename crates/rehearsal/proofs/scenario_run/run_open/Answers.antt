@@ -10,6 +10,7 @@ use Rattle.rehearsal.proofs.TextFacts.{no_first_frame}
 use Rattle.rehearsal.proofs.Endings.{not_open_at_end, not_open_at_bad}
 use Rattle.rehearsal.proofs.Outcomes.{whole_of, is_closed, text_of, closed_same, open_after, tells_some, reading_same, reading_whole, read_failed, done, refused_at}
 use Rattle.rehearsal.proofs.Beginnings.{unread, begins, read_none, no_frames, no_log, header_setup, header_alone, out_of_memory, opened}
+use Rattle.rehearsal.proofs.Ahead.{ahead_by, bad_ahead}
 use Rattle.rehearsal.proofs.scenario_run.run_open.Goals as goal
 
 pub returns-in_default-clause-outcome : goal.returns-in_default-clause-outcome
@@ -17,13 +18,14 @@ returns-in_default-clause-outcome g c = told_nothing _ _ (λ start.
     let end : Bool = is_closed start.rest (g.S.Shelf.faults c.args.shelf.now) (g.S.Shelf.faults c.args.shelf.now) in (
       whole_of unread [] end,
       text_of unread [] start start (g.S.Shelf.faults c.args.shelf.now) (g.S.Shelf.faults c.args.shelf.now) (read_none (record { pending = []; total = 0; ended = false }) start refl),
+      ahead_by c.at.result _ (whole_of unread [] end) c.at.ensures tt,
       told_nothing _ _ (λ held. out_of_memory c.at.result (whole_of unread [] end) held c.at.ensures),
     ))
 
 pub unreachable-requires : goal.unreachable-requires
 unreachable-requires g c =
     let a = c.in-Frame.ensures.reads unread [] (begins c.in-Ok.reader c.new-feed.result c.in-Ok.ensures.stands c.new-feed.ensures) in
-    no_first_frame c.read_on.new.reader a.0 _ a.1.stands
+    no_first_frame c.read_on.new.reader a.0 _ a.1.0.stands
 
 pub returns-in_default-open-clause-outcome : goal.returns-in_default-open-clause-outcome
 returns-in_default-open-clause-outcome g c =
@@ -32,6 +34,7 @@ returns-in_default-open-clause-outcome g c =
     let end : Bool = is_closed after.rest (g.S.Shelf.faults c.args.shelf.now) (g.S.Shelf.faults c.read_on.new.shelf) in (
       whole_of a.0 c.read_on.new.feed.pending end,
       text_of a.0 c.read_on.new.feed.pending start after (g.S.Shelf.faults c.args.shelf.now) (g.S.Shelf.faults c.read_on.new.shelf) (first start (read_none c.new-feed.result start c.new-feed.ensures)),
+      ahead_by c.at-in_default-open.result _ (whole_of a.0 c.read_on.new.feed.pending end) c.at-in_default-open.ensures tt,
       told_nothing _ _ (λ held. out_of_memory c.at-in_default-open.result (whole_of a.0 c.read_on.new.feed.pending end) held c.at-in_default-open.ensures),
     ))
 
@@ -59,6 +62,7 @@ returns-in-Failed-clause-outcome g c = λ after tells.
       (
         whole_of a.0 c.read_on.new.feed.pending end,
         text_of a.0 c.read_on.new.feed.pending first.0 after (g.S.Shelf.faults c.args.shelf.now) (g.S.Shelf.faults c.read_on.new.shelf) (first.2 first.0 (read_none c.new-feed.result first.0 c.new-feed.ensures)),
+        ahead_by c.at-in-Failed.result _ (whole_of a.0 c.read_on.new.feed.pending end) c.at-in-Failed.ensures tt,
         told_nothing _ _ (λ held. read_failed c.at-in-Failed.result 0 a.0 (whole_of a.0 c.read_on.new.feed.pending end) [] held held c.at-in-Failed.ensures same a.1.1 a.1.2 (no_frames [] refl) (no_log [] held refl)),
       ),
     )
@@ -73,6 +77,7 @@ returns-in-End-clause-outcome g c =
     let same = reading_whole a.0 c.read_on.new.feed.pending end closed (not_open_at_end (reading a.0).ending a.1.2) in (
       whole_of a.0 c.read_on.new.feed.pending end,
       text_of a.0 c.read_on.new.feed.pending start after (g.S.Shelf.faults c.args.shelf.now) (g.S.Shelf.faults c.read_on.new.shelf) read,
+      ahead_by c.at-in-End.result _ (whole_of a.0 c.read_on.new.feed.pending end) c.at-in-End.ensures tt,
       told_nothing _ _ (λ held. done c.at-in-End.result 0 a.0 (whole_of a.0 c.read_on.new.feed.pending end) [] held held c.at-in-End.ensures same a.1.1 a.1.2 (no_frames [] refl) (no_log [] held refl)),
     ))
 
@@ -86,6 +91,7 @@ returns-in-Bad-clause-outcome g c =
     let same = reading_whole a.0 c.read_on.new.feed.pending end closed (not_open_at_bad (reading a.0).ending c.in-Bad.line c.in-Bad.reason a.1.2) in (
       whole_of a.0 c.read_on.new.feed.pending end,
       text_of a.0 c.read_on.new.feed.pending start after (g.S.Shelf.faults c.args.shelf.now) (g.S.Shelf.faults c.read_on.new.shelf) read,
+      ahead_by c.refused.result _ (whole_of a.0 c.read_on.new.feed.pending end) c.refused.ensures (bad_ahead a.0 (whole_of a.0 c.read_on.new.feed.pending end) [] c.read_on.new.feed.pending same a.1.1 refl a.1.0.few a.1.3),
       told_nothing _ _ (λ held. refused_at c.refused.result c.in-Bad.line c.in-Bad.reason 0 a.0 (whole_of a.0 c.read_on.new.feed.pending end) [] held held c.refused.ensures same a.1.1 a.1.2 (no_frames [] refl) (no_log [] held refl)),
     ))
 
@@ -102,4 +108,4 @@ returns-clause-outcome g c =
     let well = c.in-Header.ensures.well (λ other. cc) in
     told_then a.2 ran (λ start middle after first second.
     let o = second start (first start (read_none c.new-feed.result start c.new-feed.ensures)) in
-    (o.0, subst (λ (n : ℕ). IsTextOf n (g.S.Shelf.faults c.run_frames.new.shelf) start after o.0) well o.1, o.2))
+    (o.0, subst (λ (n : ℕ). IsTextOf n (g.S.Shelf.faults c.run_frames.new.shelf) start after o.0) well o.1, o.2, o.3))
