@@ -1,5 +1,5 @@
 -- Areas cut from a block, and what changing their bytes leaves.
-use Rattle.std.proofs.Common.{◌≡◌, ℕ, zero, suc, ◌+◌, ◌-◌, ◌<◌, ◌≤◌, Bool, true, false, cond, List, [], ◌∷◌, ◌++◌, length, map, get_or, take, drop, Option, Some, slice_get, option_map, refl, sym, ap, ◌∙◌, arith, length-drop, length-take, add-zero, add-one}
+use Rattle.std.proofs.Common.{◌≡◌, ℕ, zero, suc, ◌+◌, ◌-◌, ◌<◌, ◌≤◌, Bool, true, false, cond, List, [], ◌∷◌, ◌++◌, length, get_or, take, drop, Some, slice_get, option_map, refl, sym, ap, ◌∙◌, arith, length-drop, length-take, add-zero, add-one}
 use Rattle.std.proofs.lemmas.List.{ext_get_or, take-append-le, drop-append-le, map-append, take_all}
 use Rattle.std.proofs.lemmas.Grind.{common_steps}
 use Rattle.std.proofs.lemmas.List.Sums.{sum_by-cons, sum_by_more, sum_by_more_le}

@@ -2,3 +2,4 @@ pub mod Maps
 pub mod Parts
 pub mod Areas
 pub mod Soundness
+pub mod BankLaws

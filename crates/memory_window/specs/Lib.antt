@@ -5,3 +5,4 @@ pub mod Landing
 pub mod Numbers
 pub mod Access
 pub mod Window
+pub mod Banks

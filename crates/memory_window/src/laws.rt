@@ -1,10 +1,11 @@
 //! Laws of the definitions, for the crates above and for the reader.
-ghost use Rattle.std.specs.Prelude.{◌≡◌, ℕ, ◌<◌, List, None, length, get_or, option_map, nat_eq, IsTrue, if◌then◌else◌};
+ghost use Rattle.std.specs.Prelude.{◌≡◌, ℕ, ◌+◌, ◌*◌, ◌<◌, List, None, length, get_or, option_map, nat_eq, IsTrue, if◌then◌else◌};
 ghost use Rattle.memory_window.specs.declared.regions.Region.{Region};
 ghost use Rattle.memory_window.specs.declared.operations.MemOp.{MemOp};
 ghost use Rattle.memory_window.specs.Regions.{blank, holds, map_fault_of};
-ghost use Rattle.memory_window.specs.Memory.{Memory, byte_at, regions_of, upset_at};
+ghost use Rattle.memory_window.specs.Memory.{Memory, byte_at, each_from, regions_of, upset_at};
 ghost use Rattle.memory_window.specs.Landing.{land, landed};
+ghost use Rattle.memory_window.specs.Banks.{bank_size, bank_of, bank_holds, bank_at};
 
 /// Of the regions of a map at most one has an address.
 pub fn regions_are_apart()
@@ -21,4 +22,17 @@ pub fn landing_is_by_address()
 pub fn upset_is_by_address()
     ensures bytes { (m : Memory) → (at value a : ℕ) → byte_at (upset_at m at value).areas a ≡ option_map (λ x. if nat_eq a at then value else x) (byte_at m.areas a) }
     ensures map { (m : Memory) → (at value : ℕ) → regions_of (upset_at m at value).areas ≡ regions_of m.areas }
+{}
+
+/// Each address of a region lies in exactly one of its banks.
+#[tactic(auto, using(crate::proofs::BankLaws::bank_has, crate::proofs::BankLaws::bank_is))]
+pub fn each_address_has_one_bank()
+    ensures some { (r : Region) → (at : ℕ) → IsTrue (holds at r) → IsTrue (bank_holds (bank_at r at) r at) }
+    ensures one { (r : Region) → (at n : ℕ) → IsTrue (bank_holds n r at) → n ≡ bank_at r at }
+{}
+
+/// What operations make of a bank by itself is that bank of what they make of its region.
+#[tactic(auto, using(crate::proofs::BankLaws::bank_alone))]
+pub fn banks_land_alone()
+    ensures { (files : List (List ℕ)) → (ops : List MemOp) → (at n : ℕ) → (bytes : List ℕ) → bank_of n (each_from (landed files ops) at bytes) ≡ each_from (landed files ops) (at + n * bank_size) (bank_of n bytes) }
 {}
