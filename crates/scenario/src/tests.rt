@@ -110,14 +110,16 @@ fn check_row(rt: &impl Abort, alloc: Global, row: &str) -> Result<(), Fail> {
     let part = columns.next().unwrap_or("");
     let tail = columns.next().unwrap_or("");
     let text = repeated(alloc, head, part, times, tail)?;
-    let seen = read_text(alloc, text.as_slice(), 4096)?;
+    let seen = read_text(alloc, text.as_slice(), usize::MAX)?;
     assert_eq!(rt;
         (seen.frames, seen.last),
         (frames, answer(line, reason)),
         "at {row}"
     );
-    let again = read_text(alloc, text.as_slice(), 7)?;
-    assert_eq!(rt; again, seen, "at {row}");
+    for size in [1, 7, 4096] {
+        let again = read_text(alloc, text.as_slice(), size)?;
+        assert_eq!(rt; again, seen, "at {row}");
+    }
     Ok(())
 }
 
