@@ -55,3 +55,6 @@ fn main(rt: HostRuntime) -> ExitCode {
     );
     ExitCode::from(report.status as u8)
 }
+
+#[cfg(test)]
+mod tests;

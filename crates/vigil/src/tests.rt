@@ -1,0 +1,7 @@
+//! Whole rehearsals over memory.
+
+mod faults;
+mod lengths;
+mod refusals;
+mod rows;
+mod runs;
