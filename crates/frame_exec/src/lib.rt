@@ -5,3 +5,6 @@ mod bench;
 mod stages;
 
 pub use bench::Bench;
+
+#[cfg(test)]
+mod tests;
