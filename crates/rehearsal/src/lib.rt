@@ -15,3 +15,6 @@ pub use rehearsing::vigil;
 pub use report::{Report, Status};
 pub use telling::{ErrorLine, line_of, tell};
 pub use words::Words;
+
+#[cfg(test)]
+mod tests;

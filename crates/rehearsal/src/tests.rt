@@ -1,0 +1,111 @@
+use crate::{Plan, Report, Status, Words, accept, line_of, vigil};
+use fsw_outside::{MemShelf, MemSink, OpenGate};
+use std::alloc::Global;
+use std::test::Fail;
+
+/// The words of a text, in which a `/` separates them.
+fn words_of(alloc: Global, text: &str) -> Result<Words, Fail> {
+    let mut words = Words::open(alloc)?;
+    for word in text.split('/') {
+        words.add(word)?;
+    }
+    Ok(words)
+}
+
+/// Words, how many workers they ask for, and the place of the scenario's name; no workers where they are refused.
+const WORDS: [(&str, u32, usize); 14] = [
+    ("v1.txt", 1, 0),
+    ("", 1, 0),
+    ("drill:", 1, 0),
+    ("drill:+7", 1, 0),
+    ("--workers/1/v1.txt", 1, 2),
+    ("--workers/01/v1.txt", 1, 2),
+    ("--workers/16/drill:1234567", 16, 2),
+    ("--workers/0/v1.txt", 0, 0),
+    ("--workers/17/v1.txt", 0, 0),
+    ("--workers/+1/v1.txt", 0, 0),
+    ("--workers/1/--workers", 0, 0),
+    ("drill:7", 0, 0),
+    ("-", 0, 0),
+    ("v1.txt/a", 0, 0),
+];
+
+#[test]
+fn words_are_accepted_or_refused(rt: HostRuntime) -> Result<(), Fail> {
+    assert_eq!(rt; accept(&Words::open(rt.alloc())?), None);
+    for (text, workers, scenario) in WORDS {
+        let wanted = if workers == 0 {
+            None
+        } else {
+            Some(Plan { workers, scenario })
+        };
+        assert_eq!(rt; accept(&words_of(rt.alloc(), text)?), wanted, "at {text}");
+    }
+    Ok(())
+}
+
+/// Each status and its line.
+const LINES: [(Status, &str); 7] = [
+    (Status::Done, ""),
+    (Status::WordsRefused, "vigil: words refused\n"),
+    (
+        Status::FileRefused,
+        "vigil: file 3 refused, reason 7, entry 12\n",
+    ),
+    (
+        Status::ScenarioRefused,
+        "vigil: scenario refused at line 12, reason 7\n",
+    ),
+    (Status::ReadFailed, "vigil: read failed on file 3\n"),
+    (Status::WriteFailed, "vigil: write failed\n"),
+    (Status::NoMemory, "vigil: out of memory\n"),
+];
+
+#[test]
+fn each_status_has_its_line(rt: HostRuntime) -> Result<(), Fail> {
+    for (status, line) in LINES {
+        let report = Report {
+            status,
+            file: 3,
+            line: 12,
+            reason: 7,
+            frames: 5,
+        };
+        assert_eq!(rt; line_of(&report).as_str(), line);
+    }
+    Ok(())
+}
+
+/// A scenario, how many frames it has, and its log.
+const RUNS: [(&str, u32, &str); 2] = [
+    ("epoch 1000\nregion RAM 0x1000 256\nstart\nend\n", 0, ""),
+    (
+        "epoch 1000\nregion RAM 0x1000 256\nstart\nsend 1888C000000100AE\ntick\ntick\nend\n",
+        2,
+        "1 pkt 0808C0000025000003E900004D4D000000000000000000000000000000000000001000020000004200000001\n",
+    ),
+];
+
+#[test]
+fn scenario_is_rehearsed(rt: HostRuntime) -> Result<(), Fail> {
+    let words = words_of(rt.alloc(), "v1.txt")?;
+    for (text, frames, log) in RUNS {
+        let mut shelf = MemShelf::new(rt.alloc(), &[])?;
+        shelf.put("v1.txt", text.as_bytes())?;
+        let mut out = MemSink::new(rt.alloc(), &[], 1000)?;
+        let mut err = MemSink::new(rt.alloc(), &[], 1000)?;
+        let report = vigil(
+            &rt,
+            rt.alloc(),
+            &words,
+            &mut shelf,
+            &mut out,
+            &mut err,
+            &OpenGate,
+        );
+        assert_eq!(rt; report, Report::at(Status::Done, frames));
+        assert_eq!(rt; out.bytes(), log.as_bytes());
+        assert_eq!(rt; err.bytes(), b"".as_slice());
+    }
+    Ok(())
+}
