@@ -1,12 +1,12 @@
 -- How far reading goes ahead of what was run.
-use Rattle.std.proofs.Common.{◌≡◌, ℕ, ◌+◌, ◌<◌, ◌≤◌, Bool, true, false, List, [], ◌∷◌, ◌++◌, length, get_or, suc, refl, sym, ◌∙◌, ap, subst, arith, append-nil, length-append, inl, inr}
+use Rattle.std.proofs.Common.{◌≡◌, ℕ, ◌+◌, ◌<◌, ◌≤◌, Bool, true, false, List, [], ◌∷◌, ◌++◌, length, get_or, suc, refl, sym, ◌∙◌, ap, subst, arith, append-nil, length-append}
 use Rattle.std.specs.Prelude.{slice_index}
 use Rattle.std.specs.List.{AllByRecursion}
 use Rattle.memory_window.specs.declared.regions.Region.{Region}
 use Rattle.scenario.specs.declared.reader.Reader.{Reader}
 use Rattle.scenario.specs.declared.reason.Reason.{Reason}
 use Rattle.scenario.specs.FrameLists.{Frame}
-use Rattle.scenario.specs.Texts.{Text, Given, Head, Whole, Reading, Bad, reading, Grows, IsGoodFrame, AreGood}
+use Rattle.scenario.specs.Texts.{Text, Given, Head, Whole, Reading, Bad, reading, IsGoodFrame, AreGood}
 use Rattle.scenario.specs.Standing.{Stands}
 use Rattle.scenario.proofs.TextLaws.{texts_grow, given_are_good, items_have_stops, stops_stay}
 use Rattle.rehearsal.specs.declared.report.Report.{Report}

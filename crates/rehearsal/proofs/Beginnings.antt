@@ -1,12 +1,10 @@
 -- How a scenario's reading begins.
-use Rattle.std.proofs.Common.{◌≡◌, ℕ, ◌<◌, Bool, true, false, List, [], ◌∷◌, ◌++◌, length, refl, sym, ◌∙◌, ap, subst, append-nil, arith, Option, Some, IsTrue}
+use Rattle.std.proofs.Common.{◌≡◌, ℕ, Bool, false, List, [], ◌∷◌, ◌++◌, length, refl, sym, ◌∙◌, ap, append-nil, arith, Option, Some, IsTrue}
 use Rattle.fsw_outside.specs.Files.{Content}
 use Rattle.memory_window.specs.declared.regions.Region.{Region}
 use Rattle.scenario.specs.declared.reader.Reader.{Reader}
-use Rattle.scenario.specs.declared.item.Item.TheVariants as answers
-use Rattle.scenario.specs.Texts.{Text, Given, Head, Whole, Reading, Open, reading, read_bytes, read}
+use Rattle.scenario.specs.Texts.{Text, Given, Head, Open, reading, read_bytes, read}
 use Rattle.scenario.specs.Standing.{Stands}
-use Rattle.scenario.specs.Answers.{answer_at_end}
 use Rattle.rehearsal.specs.Fed.{Fed, nothing_read}
 use Rattle.rehearsal.specs.Reading.{Holds, IsRead}
 use Rattle.rehearsal.specs.declared.report.Status.TheVariants as statuses

@@ -1,16 +1,15 @@
 -- A scenario that ends well is run to its end.
-use Rattle.std.proofs.Common.{◌≡◌, ℕ, ◌<◌, Bool, true, false, List, [], ◌∷◌, ◌++◌, length, refl, sym, ◌∙◌, ap, subst, arith, inl, inr, Option, Some, IsTrue}
-use Rattle.std.specs.Prelude.{◌==◌, ◌&&◌, IsSome}
+use Rattle.std.proofs.Common.{◌≡◌, ℕ, Bool, true, false, List, [], ◌++◌, length, refl, sym, ◌∙◌, ap, subst, arith, inl, inr, Option, Some, IsTrue}
+use Rattle.std.specs.Prelude.{◌==◌, ◌&&◌}
 use Rattle.std.proofs.lemmas.Bool.Decides.{nat_tests}
-use Rattle.fsw_outside.specs.Told.{WhereTold}
 use Rattle.fsw_outside.specs.Causes.{HasRisen}
 use Rattle.scenario.specs.declared.item.Item.TheVariants as answers
-use Rattle.scenario.specs.Texts.{Text, Given, Reading, Ending, Ended, Open, reading}
+use Rattle.scenario.specs.Texts.{Text, Reading, Ending, Ended, Open, reading}
 use Rattle.scenario.specs.Answers.{answer_at_end}
 use Rattle.rehearsal.specs.declared.report.Status.{Status}
 use Rattle.rehearsal.specs.declared.report.Status.TheVariants as statuses
 use Rattle.rehearsal.specs.declared.report.Report.{Report}
-use Rattle.rehearsal.specs.Outcome.{IsText, IsWhole, OutcomeOf, Outcome, Completes}
+use Rattle.rehearsal.specs.Outcome.{IsText, OutcomeOf, Outcome, Completes}
 use Rattle.rehearsal.proofs.Outcomes.{tells_some, reading_whole}
 use Rattle.rehearsal.proofs.Endings.{not_open_at_bad}
 use Rattle.rehearsal.proofs.Pieces.{empty_of}

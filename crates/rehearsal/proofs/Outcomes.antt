@@ -1,5 +1,5 @@
 -- What the run of the frames comes to, by the text that was handed out.
-use Rattle.std.proofs.Common.{◌≡◌, ℕ, ◌+◌, ◌<◌, ◌≤◌, Bool, true, false, cond, List, [], ◌∷◌, ◌++◌, length, refl, sym, ◌∙◌, ap, subst, append_assoc, append-nil, length-append, arith, inl, inr, Option, Some}
+use Rattle.std.proofs.Common.{◌≡◌, ℕ, ◌<◌, Bool, true, false, List, [], ◌∷◌, ◌++◌, length, refl, sym, ◌∙◌, ap, subst, append_assoc, append-nil, arith, inl, inr, Option, Some}
 use Rattle.std.specs.Prelude.{◌==◌, ◌&&◌, IsSome}
 use Rattle.std.proofs.lemmas.Bool.Decides.{nat_tests}
 use Rattle.std.proofs.lemmas.Grind.{flat_map-append}
@@ -8,9 +8,9 @@ use Rattle.fsw_outside.specs.Written.{AppendsPart}
 use Rattle.scenario.specs.declared.reader.Reader.{Reader}
 use Rattle.scenario.specs.declared.item.Item.TheVariants as answers
 use Rattle.scenario.specs.FrameLists.{Frame}
-use Rattle.scenario.specs.Texts.{Text, Given, Head, Whole, Reading, Ending, Bad, Ended, Unended, Open, reading}
+use Rattle.scenario.specs.Texts.{Text, Given, Head, Whole, Reading, Open, reading}
 use Rattle.scenario.specs.Answers.{answer_at_end}
-use Rattle.frame_exec.specs.Runs.{Setup, frame_lines, log_of}
+use Rattle.frame_exec.specs.Runs.{Setup, frame_lines}
 use Rattle.frame_exec.specs.declared.bench.Bench.{Bench}
 use Rattle.frame_exec.specs.Standing.{Stands as BenchStands, CanRun}
 use Rattle.frame_exec.proofs.Frames.{log_more, log_none}
@@ -20,7 +20,7 @@ use Rattle.rehearsal.specs.Outcome.{frame_in_item, frames_of, setup_of, log_in, 
 use Rattle.rehearsal.specs.declared.report.Status.TheVariants as statuses
 use Rattle.rehearsal.specs.declared.report.Report.{Report}
 use Rattle.scenario.proofs.TextLaws.{texts_grow}
-use Rattle.rehearsal.proofs.Endings.{open_at_more, ended_at_end, not_open_at_end, not_open_at_bad}
+use Rattle.rehearsal.proofs.Endings.{open_at_more, ended_at_end}
 
 -- the text that was handed out: the bytes that were fed and those that are pending
 abbrev pub whole_of : Text → List ℕ → Bool → Text

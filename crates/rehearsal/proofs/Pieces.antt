@@ -1,15 +1,13 @@
 -- What the feeding of a piece and the reading of the next one leave.
-use Rattle.std.proofs.Common.{◌≡◌, ℕ, ◌+◌, ◌*◌, ◌-◌, ◌<◌, ◌≤◌, Bool, true, false, cond, List, [], ◌∷◌, ◌++◌, length, take, drop, refl, sym, ◌∙◌, ap, subst, append_assoc, append-nil, length-append, length-drop, arith, Option, Some}
+use Rattle.std.proofs.Common.{◌≡◌, ℕ, ◌+◌, ◌<◌, ◌≤◌, Bool, true, false, List, [], ◌∷◌, ◌++◌, length, take, drop, refl, sym, ◌∙◌, ap, subst, append_assoc, append-nil, length-append, length-drop, arith}
 use Rattle.std.specs.Prelude.{◌==◌}
 use Rattle.std.proofs.lemmas.Bool.Decides.{nat_tests}
 use Rattle.std.proofs.lemmas.List.{take-append-drop, length-take-le}
 use Rattle.rehearsal.specs.declared.feeding.Next.TheVariants as nexts
-use Rattle.fsw_outside.specs.Told.{WhereTold}
 use Rattle.fsw_outside.specs.Files.{Content}
-use Rattle.fsw_outside.proofs.Telling.{told_nothing}
 use Rattle.scenario.specs.declared.reader.Reader.{Reader}
 use Rattle.scenario.specs.declared.item.Item.TheVariants as answers
-use Rattle.scenario.specs.Texts.{Text, Given, Ending, Bad, Ended, Unended, Open, reading}
+use Rattle.scenario.specs.Texts.{Text, Given, Open, reading}
 use Rattle.scenario.specs.Answers.{answer_at_end}
 use Rattle.scenario.proofs.TextLaws.{open_is_bounded}
 use Rattle.rehearsal.proofs.Endings.{open_at_more}

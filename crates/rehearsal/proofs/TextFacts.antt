@@ -1,19 +1,18 @@
 -- What the laws of texts say of frames, by the items that a reader gave.
-use Rattle.std.proofs.Common.{◌≡◌, ℕ, ◌+◌, ◌<◌, ◌≤◌, Bool, true, false, List, [], ◌∷◌, ◌++◌, length, refl, sym, ◌∙◌, ap, subst, arith, append-nil, length-append, All, slice_index_or, suc, zero}
+use Rattle.std.proofs.Common.{◌≡◌, ℕ, ◌<◌, ◌≤◌, true, List, [], ◌∷◌, ◌++◌, length, sym, ◌∙◌, arith, length-append, slice_index_or, suc, zero}
 use Rattle.std.specs.List.{AllByRecursion}
 use Rattle.memory_window.specs.declared.regions.Region.{Region}
 use Rattle.memory_window.specs.Regions.{is_mapped}
 use Rattle.scenario.specs.declared.reader.Reader.{Reader}
 use Rattle.scenario.specs.declared.frame.Upset.{Upset}
 use Rattle.scenario.specs.FrameLists.{Frame}
-use Rattle.scenario.specs.Texts.{Text, Given, Head, Whole, Reading, Open, reading, Grows, IsGoodFrame, AreGood}
+use Rattle.scenario.specs.Texts.{Text, Given, Head, Whole, IsGoodFrame, AreGood}
 use Rattle.scenario.specs.Standing.{Stands, is_finished}
 use Rattle.scenario.proofs.TextLaws.{given_are_good, closed_is}
-use Rattle.frame_exec.specs.Runs.{Setup}
 use Rattle.frame_exec.specs.Standing.{CanRun}
 use Rattle.rehearsal.specs.Fed.{Fed}
 use Rattle.rehearsal.specs.Reading.{Holds}
-use Rattle.rehearsal.specs.Outcome.{frame_in_item, frames_of, setup_of}
+use Rattle.rehearsal.specs.Outcome.{frames_of, setup_of}
 
 -- what holds of each element, by its place
 all_of : {A : Type 0} (P : A → Type 0) (xs : List A) → AllByRecursion P xs → (k : ℕ) (d : A) → k < length xs → P (slice_index_or xs k d)

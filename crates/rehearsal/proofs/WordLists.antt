@@ -1,7 +1,6 @@
 -- Lists of one word and of three.
-use Rattle.std.proofs.Common.{◌≡◌, ◌≢◌, ℕ, ◌<◌, ◌≤◌, Bool, true, false, List, [], ◌∷◌, length, refl, sym, ◌∙◌, ap, arith, slice_index_or, Option, Some, None, ◌⊎◌, inl, inr, cond}
+use Rattle.std.proofs.Common.{◌≡◌, ◌≢◌, ℕ, ◌≤◌, Bool, true, false, List, [], ◌∷◌, length, refl, arith, slice_index_or, Option, Some, None, ◌⊎◌, inl, inr, cond}
 use Rattle.std.specs.Prelude.{◌&&◌, option_map}
-use Rattle.rehearsal.specs.declared.accepting.Plan.{Plan}
 use Rattle.rehearsal.specs.AcceptedWords.{Asked, accepted_words, is_scenario, is_workers, workers_in, IsPlan}
 
 -- one word that names no scenario

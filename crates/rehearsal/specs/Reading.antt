@@ -1,5 +1,5 @@
 -- How far the reading of the scenario's file has come, and what the reader gave.
-use Rattle.std.specs.Prelude.{◌≡◌, ℕ, ◌+◌, ◌*◌, ◌-◌, ◌==◌, ◌&&◌, List, [], ◌∷◌, ◌++◌, length, slice_index, ◌≤◌, Bool, true, false, cond, Option, Some, None, is_some, if◌then◌else◌, Result, Ok, Err}
+use Rattle.std.specs.Prelude.{◌≡◌, ℕ, ◌+◌, ◌*◌, ◌-◌, List, [], ◌∷◌, ◌++◌, length, slice_index, ◌≤◌, true, false, cond, Some, None, is_some, if◌then◌else◌, Result, Ok, Err}
 use Rattle.fsw_outside.specs.Files.{Content, file_named}
 use Rattle.fsw_outside.specs.declared.traits.Failed.{Failed}
 use Rattle.scenario.specs.declared.reader.Reader.{Reader}
@@ -7,7 +7,7 @@ use Rattle.scenario.specs.declared.item.Item.TheVariants as answers
 use Rattle.scenario.specs.declared.reason.Reason.{Reason}
 use Rattle.scenario.specs.Texts.{Text, Given, Bad, reading}
 use Rattle.scenario.specs.Answers.{answer_at_end}
-use Rattle.scenario.specs.Standing.{Stands, Shows, left, header_in, frame_in}
+use Rattle.scenario.specs.Standing.{Stands, left, header_in, frame_in}
 use Rattle.rehearsal.specs.Fed.{Fed}
 use Rattle.rehearsal.specs.declared.feeding.Next.{Next}
 use Rattle.rehearsal.specs.declared.feeding.Next.TheVariants as nexts

@@ -1,4 +1,4 @@
-use Rattle.std.proofs.Common.{sym, ◌∙◌}
+use Rattle.std.proofs.Common.{◌∙◌}
 use Rattle.rehearsal.proofs.WordLists.{others_refused}
 use Rattle.rehearsal.proofs.accepting.accept.Goals as goal
 

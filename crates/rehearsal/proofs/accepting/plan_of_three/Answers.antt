@@ -1,4 +1,4 @@
-use Rattle.std.proofs.Common.{◌≡◌, true, false, sym, ◌∙◌, ap, inl, inr, slice_index_or, []}
+use Rattle.std.proofs.Common.{sym, ◌∙◌, ap, inl, inr}
 use Rattle.rehearsal.specs.AcceptedWords.{is_scenario, is_workers, workers_in}
 use Rattle.rehearsal.proofs.WordLists.{three_refused, three_accepted}
 use Rattle.rehearsal.proofs.accepting.plan_of_three.Goals as goal

@@ -1,9 +1,5 @@
-use Rattle.std.proofs.Common.{◌≡◌, ℕ, List, [], false, take, sym, ◌∙◌, ap, subst, refl}
-use Rattle.fsw_outside.specs.Files.{Content}
+use Rattle.std.proofs.Common.{◌≡◌, ℕ, List, [], take, sym, ◌∙◌, ap, subst, refl}
 use Rattle.fsw_outside.proofs.Telling.{told_then, told_map}
-use Rattle.scenario.specs.declared.item.Item.TheVariants as answers
-use Rattle.scenario.specs.Texts.{Text, Given, reading}
-use Rattle.scenario.specs.Answers.{answer_at_end}
 use Rattle.scenario.specs.Standing.{fed}
 use Rattle.rehearsal.specs.Fed.{Fed}
 use Rattle.rehearsal.specs.Reading.{IsRead}

@@ -1,5 +1,4 @@
-use Rattle.std.proofs.Common.{◌≡◌, ℕ, List, Some}
-use Rattle.fsw_outside.specs.Files.{file_named}
+use Rattle.std.proofs.Common.{◌≡◌}
 use Rattle.rehearsal.specs.declared.report.Status.TheVariants as statuses
 use Rattle.rehearsal.proofs.Completeness.{completes, not_risen}
 use Rattle.rehearsal.proofs.rehearsing.vigil.Goals as goal

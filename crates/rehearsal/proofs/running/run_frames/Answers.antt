@@ -1,15 +1,12 @@
-use Rattle.std.proofs.Common.{◌≡◌, ℕ, ◌+◌, ◌<◌, ◌≤◌, Bool, true, false, List, [], ◌∷◌, ◌++◌, length, sym, ◌∙◌, ap, subst, refl, append-nil, length-append, arith, rules, Fits, w32}
-use Rattle.fsw_outside.specs.Files.{Content}
-use Rattle.fsw_outside.specs.Written.{AppendsPart}
+use Rattle.std.proofs.Common.{ℕ, ◌+◌, ◌<◌, Bool, List, [], ◌∷◌, ◌++◌, length, sym, ◌∙◌, ap, subst, refl, append-nil, length-append, arith, rules}
 use Rattle.fsw_outside.proofs.Pieces.{appends_more}
 use Rattle.fsw_outside.proofs.Telling.{told_then, told_map, told_nothing}
 use Rattle.scenario.specs.FrameLists.{Frame}
-use Rattle.scenario.specs.Texts.{Text, Given, Whole, reading}
+use Rattle.scenario.specs.Texts.{Given, Whole, reading}
 use Rattle.scenario.specs.Standing.{Stands}
-use Rattle.frame_exec.specs.Standing.{Stands as BenchStands}
 use Rattle.frame_exec.specs.Runs.{frame_lines}
-use Rattle.rehearsal.specs.Reading.{IsRead, Holds}
-use Rattle.rehearsal.specs.Outcome.{frames_of, setup_of, log_in, Outcome}
+use Rattle.rehearsal.specs.Reading.{Holds}
+use Rattle.rehearsal.specs.Outcome.{frames_of, setup_of, log_in}
 use Rattle.scenario.proofs.TextLaws.{given_first}
 use Rattle.rehearsal.proofs.TextFacts.{no_later_head, can_run, few_frames}
 use Rattle.rehearsal.proofs.Endings.{not_open_at_end, not_open_at_bad}

@@ -1,11 +1,8 @@
-use Rattle.std.proofs.Common.{◌≡◌, ℕ, ◌<◌, Bool, false, List, [], ◌∷◌, length, sym, ◌∙◌, ap, subst, refl, rules, arith}
-use Rattle.fsw_outside.specs.Files.{Content}
+use Rattle.std.proofs.Common.{ℕ, ◌<◌, Bool, false, [], ◌∷◌, length, sym, ◌∙◌, subst, refl, arith}
 use Rattle.fsw_outside.proofs.Telling.{told_then, told_map, told_nothing}
-use Rattle.scenario.specs.Texts.{Text, Given, reading}
+use Rattle.scenario.specs.Texts.{Given, reading}
 use Rattle.scenario.specs.Standing.{header_in}
-use Rattle.frame_exec.specs.Runs.{Setup}
-use Rattle.frame_exec.specs.Standing.{Stands as BenchStands}
-use Rattle.rehearsal.specs.Outcome.{frames_of, setup_of, IsTextOf}
+use Rattle.rehearsal.specs.Outcome.{IsTextOf}
 use Rattle.rehearsal.proofs.TextFacts.{no_first_frame}
 use Rattle.rehearsal.proofs.Endings.{not_open_at_end, not_open_at_bad}
 use Rattle.rehearsal.proofs.Outcomes.{whole_of, is_closed, text_of, closed_same, open_after, tells_some, reading_same, reading_whole, read_failed, done, refused_at}

@@ -1,7 +1,6 @@
-use Rattle.std.proofs.Common.{◌≡◌, ℕ, ◌<◌, Bool, true, false, List, [], ◌∷◌, length, sym, ◌∙◌, ap, subst, refl}
-use Rattle.fsw_outside.specs.Files.{Content}
-use Rattle.fsw_outside.proofs.Telling.{told_then, told_map, told_nothing}
-use Rattle.scenario.specs.Texts.{Text, Given, Reading, reading}
+use Rattle.std.proofs.Common.{Bool, [], sym, ap, refl}
+use Rattle.fsw_outside.proofs.Telling.{told_nothing}
+use Rattle.scenario.specs.Texts.{Reading}
 use Rattle.scenario.specs.Answers.{answer_at_end}
 use Rattle.rehearsal.proofs.Outcomes.{whole_of, is_closed, open_after, tells_some, reading_same, read_failed}
 use Rattle.rehearsal.proofs.Beginnings.{unread, no_frames, no_log, nothing_reads, none_handed_out}

@@ -1,4 +1,4 @@
-use Rattle.std.proofs.Common.{◌<◌, ℕ, List, length, take, ap, subst}
+use Rattle.std.proofs.Common.{◌<◌, ℕ, List, take, ap, subst}
 use Rattle.scenario.specs.Standing.{Stands, fed}
 use Rattle.rehearsal.specs.Fed.{Fed}
 use Rattle.rehearsal.proofs.Pieces.{less_pending, fed_on}
