@@ -120,8 +120,8 @@ fn a_frame_has_64_items(rt: HostRuntime) -> Result<(), Fail> {
     Ok(())
 }
 
-// In each of 1,025 frames eight commands are accepted and eight refused: 16,400 events, whose sequence count begins
-// anew after 16,384, and both counts, which begin anew after 256.
+// In each of 8,750 frames eight no-ops are accepted and eight commands refused: 140,000 events, whose sequence count
+// begins anew after 16,384, and both counts, which begin anew after 256.
 #[test]
 fn counts_begin_anew(rt: HostRuntime) -> Result<(), Fail> {
     let mut frame = String::new(rt.alloc());
@@ -132,21 +132,21 @@ fn counts_begin_anew(rt: HostRuntime) -> Result<(), Fail> {
         rt.alloc(),
         "",
         frame.as_str(),
-        1025,
+        8750,
         "send 1889C000000100AF\ntick\ntick\nend\n",
     )?;
     let mut log = String::new(rt.alloc());
     let mut first = 0u32;
-    for number in 1..1026u32 {
+    for number in 1..8751u32 {
         push_events(&mut log, number, first, 8, 16, 2)?;
         push_events(&mut log, number, first.saturating_add(8), 8, 1, 3)?;
         first = first.saturating_add(16);
     }
     push_line(
         &mut log,
-        Line::Text("1026 pkt 0887C0000009000007EA000008080000"),
+        Line::Text("8751 pkt 0887C000000900002617000070700000"),
     )?;
-    assert_log(&rt, text.as_str(), 1027, log.as_str())
+    assert_log(&rt, text.as_str(), 8752, log.as_str())
 }
 
 #[test]

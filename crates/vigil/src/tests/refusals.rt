@@ -71,6 +71,53 @@ const REFUSED: [Refused<'static>; 9] = [
     },
 ];
 
+// Maps that are refused at `start`, each at its line: two regions that share a byte, unaligned starts and lengths, an
+// empty region, a region past the last address, and four bytes too many. A ninth region is refused at its own line.
+const REFUSED_MAPS: [Refused<'static>; 7] = [
+    Refused {
+        text: "epoch 1000\nregion RAM 0x1000 256\nregion EEPROM 0x10FC 4\nstart\nend\n",
+        line: 4,
+        reason: 4,
+        frames: 0,
+    },
+    Refused {
+        text: "epoch 1000\nregion RAM 0x1002 256\nstart\nend\n",
+        line: 3,
+        reason: 4,
+        frames: 0,
+    },
+    Refused {
+        text: "epoch 1000\nregion RAM 0x1000 254\nstart\nend\n",
+        line: 3,
+        reason: 4,
+        frames: 0,
+    },
+    Refused {
+        text: "epoch 1000\nregion RAM 0x1000 0\nstart\nend\n",
+        line: 3,
+        reason: 4,
+        frames: 0,
+    },
+    Refused {
+        text: "epoch 1000\nregion RAM 0xFFFFFFFC 8\nstart\nend\n",
+        line: 3,
+        reason: 4,
+        frames: 0,
+    },
+    Refused {
+        text: "epoch 1000\nregion RAM 0 4194304\nregion MEM32 0x800000 4\nstart\nend\n",
+        line: 4,
+        reason: 4,
+        frames: 0,
+    },
+    Refused {
+        text: "epoch 1000\nregion RAM 0 4\nregion RAM 8 4\nregion RAM 16 4\nregion RAM 24 4\nregion RAM 32 4\nregion RAM 40 4\nregion RAM 48 4\nregion RAM 56 4\nregion RAM 64 4\nstart\nend\n",
+        line: 10,
+        reason: 4,
+        frames: 0,
+    },
+];
+
 fn assert_refused<R: Threads + Sync + AllocGlobal + Abort>(
     rt: &R,
     refused: &Refused<'_>,
@@ -91,6 +138,14 @@ fn scenario_refusals(rt: HostRuntime) -> Result<(), Fail> {
     for refused in &REFUSED {
         assert_refused(&rt, refused, 4096)?;
         assert_refused(&rt, refused, 1)?;
+    }
+    Ok(())
+}
+
+#[test]
+fn maps_are_refused_at_start(rt: HostRuntime) -> Result<(), Fail> {
+    for refused in &REFUSED_MAPS {
+        assert_refused(&rt, refused, 4096)?;
     }
     Ok(())
 }

@@ -111,3 +111,20 @@ fn upsets_come_before_the_image(rt: HostRuntime) -> Result<(), Fail> {
     ];
     assert_lines(&rt, HEADER, body, 2, &lines)
 }
+
+// Protection is asked of commands alone: an upset changes a protected EEPROM byte.
+#[test]
+fn upset_of_a_protected_byte(rt: HostRuntime) -> Result<(), Fail> {
+    let body = "send 1888C000000602830800002000\ntick\nupset 0x2000 18\ntick\nend\n";
+    let lines = [
+        Line::Text("1 pkt 088AC000000E000003E90000080000200000000012"),
+        Line::Event(1, 0, 18, 2),
+    ];
+    assert_lines(
+        &rt,
+        "epoch 1000\nregion EEPROM 0x2000 64\nstart\n",
+        body,
+        2,
+        &lines,
+    )
+}

@@ -11,7 +11,7 @@ use std::thread::Threads;
 pub const HEADER: &str = "epoch 1000\nregion RAM 0x1000 256\nstart\n";
 
 /// How many bytes an output has room for.
-const ROOM: u32 = 4_000_000;
+const ROOM: u32 = 16_000_000;
 
 /// Which calls of the outside fail, counted from 0, and how many bytes a call moves at most.
 #[derive(Clone, Copy)]
