@@ -104,7 +104,7 @@ stands_after b setup frames frame epoch well number ran = record {
 }
 
 -- a bench that was opened stands for no frames
-pub stands_opened : (b : Bench) (setup : Setup) → b.epoch ≡ setup.epoch → b.failed ≡ false → b.number ≡ 0 → MmStands [] b.mm → b.bus ≡ empty_pipes → LogStands [] b.log → b.ram ≡ start_memory setup.regions
+pub stands_opened : (b : Bench) (setup : Setup) → b.epoch ≡ setup.epoch → b.failed ≡ false → b.number ≡ 0 → MmStands [] b.mm.value → b.bus ≡ empty_pipes → LogStands [] b.log → b.ram ≡ start_memory setup.regions
     → Stands b setup []
 unfolding run_of beginning
 stands_opened b setup epoch well number mm pipes made memory = record {

@@ -31,8 +31,8 @@ mm_reads b = record { time = b.epoch + b.number; commands = b.bus.mm; image = b.
 -- MM was woken, unless it is held
 pub record WakesMm (held : Bool) (old new : Bench) : Type 0 where
   pub run : IsSameRun old new
-  pub mm : (history : List MmInput) → MmStands history old.mm → MmStands (if held then history else (history ++ mm_reads old ∷ [])) new.mm
-  pub items : (history : List MmInput) → MmStands history old.mm → new.out.items ≡ (if held then [] else mm_items history (mm_reads old))
+  pub mm : (history : List MmInput) → MmStands history old.mm.value → MmStands (if held then history else (history ++ mm_reads old ∷ [])) new.mm.value
+  pub items : (history : List MmInput) → MmStands history old.mm.value → new.out.items ≡ (if held then [] else mm_items history (mm_reads old))
   pub operations : new.ops ≡ (if held then [] else mm_operations (mm_reads old))
   pub pipes : new.bus ≡ (if held then old.bus else with_packets names.Mm [] old.bus)
   pub log : new.log ≡ old.log
@@ -46,7 +46,7 @@ pub record CanSend (b : Bench) : Type 0 where
 
 -- the applications were woken in a frame after s
 pub record WakesIn (setup : Setup) (s : State) (frame : Frame) (b : Bench) : Type 0 where
-  pub mm : MmStands (mm_after setup s frame) b.mm
+  pub mm : MmStands (mm_after setup s frame) b.mm.value
   pub items : b.out.items ≡ items_at setup s frame
   pub operations : b.ops ≡ operations_at setup s frame
   pub pipes : b.bus ≡ left_in_pipes frame s.pipes
@@ -66,7 +66,7 @@ pub record Sends (sends : List (List ℕ)) (old new : Bench) : Type 0 where
 
 -- the frame was run after s
 pub record RunsIn (setup : Setup) (s : State) (frame : Frame) (b : Bench) : Type 0 where
-  pub mm : MmStands (mm_after setup s frame) b.mm
+  pub mm : MmStands (mm_after setup s frame) b.mm.value
   pub sent : b.sent.items ≡ sent_at setup s frame
   pub drops : b.drops.items ≡ drops_from (left_in_pipes frame s.pipes) (offers_at setup s frame)
   pub pipes : b.bus ≡ after_offers (left_in_pipes frame s.pipes) (offers_at setup s frame)

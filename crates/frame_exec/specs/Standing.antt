@@ -12,7 +12,7 @@ use Rattle.frame_exec.specs.Runs.{Setup, State, run_of}
 -- the bench has what a run has come to
 pub record Has (b : Bench) (s : State) : Type 0 where
   pub number : b.number ≡ s.number
-  pub mm : MmStands s.mm b.mm
+  pub mm : MmStands s.mm b.mm.value
   pub pipes : b.bus ≡ s.pipes
   pub made : LogStands s.made b.log
   pub memory : b.ram ≡ s.memory

@@ -28,7 +28,9 @@ pub struct Bench {
     // one more than the last frame's number, which may be the largest of four bytes
     number: u64,
     failed: bool,
-    mm: Mm,
+    mm: Box<Mm>,
+    // the place of the state after the frame: the two places take turns, so that a state is copied once a frame
+    next_mm: Box<Mm>,
     out: Outbox,
     ops: Ops,
     sent: Outbox,
@@ -65,7 +67,8 @@ impl Bench {
             epoch: header.epoch,
             number: 0,
             failed: false,
-            mm: Mm::start(),
+            mm: Box::new(alloc, Mm::start())?,
+            next_mm: Box::new(alloc, Mm::start())?,
             out: Outbox::open(alloc, MM_ITEMS)?,
             ops: Ops::new(),
             sent: Outbox::open(alloc, ITEMS)?,
@@ -126,15 +129,15 @@ impl Bench {
             return;
         }
         self.bus.take_all(PipeName::Mm, &mut self.commands);
-        let mm = self.mm;
-        mm.step(
+        self.mm.step(
             self.commands.packets(),
             self.ram.window(),
             self.epoch + self.number as u32,
-            &mut self.mm,
+            &mut self.next_mm,
             &mut self.out,
             &mut self.ops,
         );
+        std::mem::swap(&mut self.mm, &mut self.next_mm);
     }
 
     // Writes the frame's upsets, and wakes the applications on its image.

@@ -1,9 +1,10 @@
-use Rattle.std.proofs.Common.{List, [], ◌++◌, sym, ◌∙◌, ap, subst}
+use Rattle.std.proofs.Common.{List, [], ◌++◌, sym, ◌∙◌, ap, subst, Box, Global}
 use Rattle.std.specs.List.{flat_map}
 use Rattle.bus_pipes.specs.declared.names.Out.{Out}
 use Rattle.memory_window.specs.Memory.{Memory}
 use Rattle.memory_window.specs.Landing.{land}
 use Rattle.memory_window.specs.declared.operations.MemOp.{MemOp}
+use Rattle.mm_core.specs.declared.step.Mm.{Mm}
 use Rattle.mm_core.specs.Standing.{Stands as MmStands}
 use Rattle.packet_log.specs.Standing.{Stands as LogStands}
 use Rattle.frame_exec.specs.Sending.{makes}
@@ -17,7 +18,7 @@ returns-clause-runs c = λ setup s epoch has.
     let d = c.send.ensures in
     let sent = sent_is setup s c.args.input.now c.wake.new.self.out.items c.send.new.self.sent.items w.items (d.sent s.made w.made) in
     record {
-      mm = subst (MmStands (mm_after setup s c.args.input.now)) (sym d.mm) w.mm;
+      mm = subst (λ (mm : Box Mm Global). MmStands (mm_after setup s c.args.input.now) mm.value) (sym d.mm) w.mm;
       sent = sent;
       drops = dropped_is setup s c.args.input.now c.wake.new.self.bus c.send.new.self.sent.items c.send.new.self.drops.items w.pipes sent d.drops;
       pipes = offered_is setup s c.args.input.now c.wake.new.self.bus c.send.new.self.bus c.send.new.self.sent.items w.pipes sent d.pipes;
