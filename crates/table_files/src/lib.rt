@@ -2,5 +2,11 @@
 #![tactic(auto)]
 
 mod fault;
+mod files;
+mod headers;
+mod kinds;
 
-pub use fault::EntryFault;
+pub use fault::{AddFault, EntryFault, FileFault};
+pub use files::Files;
+pub use headers::{FileImage, read_file};
+pub use kinds::TableKind;

@@ -1,0 +1,81 @@
+-- Lists of files: a file of the list, one file more, and tables that are there already.
+use Rattle.std.proofs.Common.{◌≡◌, ℕ, ◌<◌, Bool, true, false, List, [], ◌∷◌, ◌++◌, length, map, get_or, refl, sym, ap, subst, ◌∙◌, arith, zero, suc, Option, Some, None, length-append, Vec, Global}
+use Rattle.std.specs.Prelude.{◌||◌}
+use Rattle.std.specs.List.{list_any}
+use Rattle.std.proofs.lemmas.List.{get_or-map, length-map}
+use Rattle.std.proofs.lemmas.List.Elements.{All-append}
+use Rattle.std.proofs.lemmas.List.Folds.{list_any-append}
+use Rattle.std.proofs.lemmas.Grind.{common_steps}
+use Rattle.table_files.specs.declared.fault.FileFault.{FileFault}
+use Rattle.table_files.specs.declared.fault.AddFault.TheVariants.{File, Twice}
+use Rattle.table_files.specs.declared.kinds.TableKind.{TableKind}
+use Rattle.table_files.specs.Headers.{file_fault_of, IsFile, kind_of_file}
+use Rattle.table_files.specs.Files.{are_same, are_same_table, is_there, has_twice, addition_of, AreFiles}
+
+-- a file of the list has no fault
+pub accepted_at : (held : List (Vec ℕ Global)) (i : ℕ) (file : Vec ℕ Global) → AreFiles (map (λ f. f.items) held) → i < length held → file ≡ get_or held i file → IsFile file.items
+accepted_at held i file files within found =
+    let there : get_or (map (λ (f : Vec ℕ Global). f.items) held) i [] ≡ file.items = get_or-map (λ (f : Vec ℕ Global). f.items) held i file [] within ∙ ap (λ (f : Vec ℕ Global). f.items) (sym found) in
+    subst IsFile there (files.accepted i [] (rw (length-map held (λ (f : Vec ℕ Global). f.items)) within))
+
+-- a test of the bytes, over the files
+pub any_of_bytes : (p : List ℕ → Bool) (held : List (Vec ℕ Global)) → list_any p (map (λ f. f.items) held) ≡ list_any (λ f. p f.items) held
+any_of_bytes p [] = refl
+any_of_bytes p (f ∷ held) = ap (λ (rest : Bool). p f.items || rest) (any_of_bytes p held)
+
+none_same : (kind : Option TableKind) → are_same kind None ≡ false
+none_same None = refl
+none_same (Some kind) = refl
+
+-- a file that is no table is not there
+pub no_table_there : (files : List (List ℕ)) (file : List ℕ) → kind_of_file file ≡ None → is_there files file ≡ false
+unfolding is_there
+no_table_there [] file none = refl
+no_table_there (held ∷ files) file none =
+    let here : are_same (kind_of_file held) (kind_of_file file) ≡ false = rw none (none_same (kind_of_file held)) in
+    rw here (no_table_there files file none)
+
+-- a table is there where one of its kind is
+pub table_there : (held : List (Vec ℕ Global)) (file : List ℕ) (kind : TableKind) → kind_of_file file ≡ Some kind → is_there (map (λ f. f.items) held) file ≡ list_any (λ f. are_same (kind_of_file f.items) (Some kind)) held
+unfolding is_there
+table_there held file kind is =
+    ap (λ (k : Option TableKind). list_any (λ (f : List ℕ). are_same (kind_of_file f) k) (map (λ (f : Vec ℕ Global). f.items) held)) is
+    ∙ any_of_bytes (λ (f : List ℕ). are_same (kind_of_file f) (Some kind)) held
+
+-- the test at lists and bytes that are the same
+pub same_there : (held lent : List (Vec ℕ Global)) (files : List (List ℕ)) (bytes file : List ℕ) → map (λ f. f.items) held ≡ files → lent ≡ held → file ≡ bytes
+    → is_there files bytes ≡ is_there (map (λ f. f.items) lent) file
+same_there held lent files bytes file view is same = rw (← view, is, same) refl
+
+pub adds_faulty : (files : List (List ℕ)) (file : List ℕ) (fault : FileFault) → file_fault_of file ≡ Some fault → addition_of files file ≡ Some (File fault)
+unfolding addition_of
+adds_faulty files file fault is = rw is refl
+
+pub adds_twice : (files : List (List ℕ)) (file : List ℕ) → file_fault_of file ≡ None → is_there files file ≡ true → addition_of files file ≡ Some Twice
+unfolding addition_of
+adds_twice files file ok there = rw (ok, there) refl
+
+pub adds_well : (files : List (List ℕ)) (file : List ℕ) → file_fault_of file ≡ None → is_there files file ≡ false → addition_of files file ≡ None
+unfolding addition_of
+adds_well files file ok new = rw (ok, new) refl
+
+-- one file more, whose table isn't among them
+once_more : (files : List (List ℕ)) (file : List ℕ) → has_twice files ≡ false → list_any (λ held. are_same_table held file) files ≡ false → has_twice (files ++ file ∷ []) ≡ false
+once_more [] file once new = refl
+once_more (held ∷ files) file once new =
+    let rest : has_twice (files ++ file ∷ []) ≡ false = once_more files file (grind (arith, common_steps)) (grind (arith, common_steps)) in
+    let here : list_any (are_same_table held) files ≡ false = grind (arith, common_steps) in
+    let other : are_same_table held file ≡ false = grind (arith, common_steps) in
+    rw (list_any-append (are_same_table held) files (file ∷ []), rest, here, other) refl
+
+pub one_more : (files : List (List ℕ)) (file : List ℕ) → AreFiles files → length files < 100 → file_fault_of file ≡ None → is_there files file ≡ false → AreFiles (files ++ file ∷ [])
+unfolding is_there
+one_more files file are room ok new = record {
+  accepted = All-append IsFile files (file ∷ []) are.accepted (λ k d lt. one k d lt);
+  once = once_more files file are.once new;
+  few = simp length-append (omega arith);
+}
+  where
+    one : (k : ℕ) (d : List ℕ) → k < 1 → IsFile (get_or (file ∷ []) k d)
+    one zero d lt = ok
+    one (suc k) d lt = absurd (omega arith)

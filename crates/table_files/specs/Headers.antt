@@ -1,0 +1,78 @@
+-- Files: their headers (made after the cFE's), and the first fault that they have.
+use Rattle.std.specs.Prelude.{◌≡◌, ℕ, ◌-◌, ◌==◌, Bool, not, ◌&&◌, nat_lt, if◌then◌else◌, List, length, take, drop, Option, Some, None, is_none}
+use Rattle.packet_forms.specs.Numbers.{be32_at}
+use Rattle.table_files.specs.declared.fault.FileFault.{FileFault}
+use Rattle.table_files.specs.declared.fault.FileFault.TheVariants.{Short, ContentType, Subtype, Partial, Name, Size}
+use Rattle.table_files.specs.declared.kinds.TableKind.{TableKind}
+use Rattle.table_files.specs.declared.headers.FileImage.{FileImage}
+use Rattle.table_files.specs.declared.headers.FileImage.TheVariants.{Table, Load}
+use Rattle.table_files.specs.Kinds.{named_kind, fits_kind, IsTable}
+
+-- the header of every file has 64 bytes: the content type first, then the subtype
+unfoldable pub content_type : List ℕ → ℕ
+content_type file = be32_at file 0
+
+unfoldable pub subtype : List ℕ → ℕ
+subtype file = be32_at file 4
+
+-- the header of a table has 52 bytes more: reserved, the offset, the number of bytes, the name in 40 bytes
+unfoldable pub table_offset : List ℕ → ℕ
+table_offset file = be32_at file 68
+
+unfoldable pub table_size : List ℕ → ℕ
+table_size file = be32_at file 72
+
+unfoldable pub table_name : List ℕ → List ℕ
+table_name file = take 40 (drop 76 file)
+
+-- the fault of a table whose name says this kind, if any: how many bytes its header says, and how many there are
+abbrev pub table_fault : Option TableKind → ℕ → ℕ → Option FileFault
+table_fault None said size = Some Name
+table_fault (Some kind) said size = if (said == size) && fits_kind kind size then None else Some Size
+
+-- the first fault of a file, in the order in which they are asked, or none where it is accepted
+unfoldable pub file_fault_of : List ℕ → Option FileFault
+file_fault_of file =
+    if nat_lt (length file) 64 then Some Short
+    else if not (content_type file == 0x63464531) then Some ContentType
+    else if not (subtype file == 8) then Some Subtype
+    else if nat_lt (length file) 116 then Some Short
+    else if not (table_offset file == 0) then Some Partial
+    else table_fault (named_kind (table_name file)) (table_size file) (length file - 116)
+
+-- a file has no fault
+abbrev pub IsFile : List ℕ → Type 0
+IsFile file = file_fault_of file ≡ None
+
+-- whether a file's bytes are to be loaded into memory, where it has no fault
+unfoldable pub is_load : List ℕ → Bool
+is_load file = subtype file == 100
+
+-- the kind of a table file; none where the file has a fault or is no table
+unfoldable pub kind_of_file : List ℕ → Option TableKind
+kind_of_file file = if is_none (file_fault_of file) && not (is_load file) then named_kind (table_name file) else None
+
+-- the bytes behind the headers
+unfoldable pub payload_of_file : List ℕ → List ℕ
+payload_of_file file = drop (if is_load file then 80 else 116) file
+
+-- the address at which the bytes of a load file go
+unfoldable pub address_of_file : List ℕ → ℕ
+address_of_file file = be32_at file 64
+
+-- what a table file is read as
+pub record IsTableFile (file : List ℕ) (kind : TableKind) (payload : List ℕ) : Type 0 where
+  pub kind_is : kind_of_file file ≡ Some kind
+  pub payload_is : payload ≡ payload_of_file file
+  pub size : IsTable kind (length payload)
+
+-- what a load file is read as
+pub record IsLoadFile (file : List ℕ) (at : ℕ) (bytes : List ℕ) : Type 0 where
+  pub kind_is : kind_of_file file ≡ None
+  pub at_is : at ≡ address_of_file file
+  pub bytes_are : bytes ≡ payload_of_file file
+
+-- an image shows what a file is
+abbrev pub Shows : List ℕ → FileImage → Type 0
+Shows file (Table kind payload) = IsTableFile file kind payload.now
+Shows file (Load at bytes) = IsLoadFile file at bytes.now

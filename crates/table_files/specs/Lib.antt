@@ -1,0 +1,4 @@
+pub mod Kinds
+pub mod Faults
+pub mod Headers
+pub mod Files

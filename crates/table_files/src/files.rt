@@ -1,0 +1,109 @@
+//! The files that were handed over.
+ghost use Rattle.std.specs.Prelude.{◌≡◌, ◌<◌, ◌≤◌, [], ◌∷◌, ◌++◌, length, IfOk, OnOk, OnErr, IfErr, None, Some, map};
+ghost use Rattle.std.specs.List.{list_any};
+ghost use Rattle.table_files.specs.Headers.{Shows, kind_of_file};
+ghost use Rattle.table_files.specs.Files.{AreFiles, addition_of, Refuses, are_same, is_there, file_at};
+
+use crate::fault::AddFault;
+use crate::headers::{FileImage, find_fault, image_of, kind_of_file};
+use crate::kinds::TableKind;
+use fsw_outside::NoMemory;
+use std::alloc::Global;
+use std::marker::Model;
+
+/// The files that were handed over, seen as the list of their bytes in the order of adding. There are at most 100,
+/// `read_file` accepts each, and no two are tables of one kind.
+#[derive(Drop)]
+pub struct Files {
+    files: Vec<Vec<u8>>,
+}
+
+impl Model for Files {
+    ghost use Rattle.std.specs.Prelude.{ℕ, List, map};
+
+    ghost Value = { List (List ℕ) };
+
+    ghost use Rattle.table_files.specs.Files.{AreFiles};
+
+    ghost view = { λ f. map (λ file. file.items) f.files.items };
+
+    ghost invariant = { λ f. AreFiles (map (λ file. file.items) f.files.items) };
+}
+
+impl Files {
+    /// No files.
+    pub fn open(alloc: Global) -> Result<Files, NoMemory>
+        ensures { IfOk result (λ files. files ≡ []) }
+    {
+        Ok(Files {
+            files: Vec::new(alloc),
+        })
+    }
+
+    /// How many files there are.
+    pub fn len(&self) -> u32
+        ensures len { result ≡ length self.now }
+        ensures files { AreFiles self.now }
+    {
+        self.files.len() as u32
+    }
+
+    /// Adds a file, whose bytes are moved in. There may be fewer than 100 files before, and `bytes` may have at most
+    /// 65,700. After an `Err` the files are as before: `File` where `read_file` refuses the bytes, `Twice` where they
+    /// are a table of a kind that is there already; `NoMemory` comes only where neither holds.
+    pub fn add(&mut self, bytes: Vec<u8>) -> Result<(), AddFault>
+        requires room { length self.old < 100 }
+        requires small { length bytes.items ≤ 65700 }
+        ensures added { OnOk result (self.new ≡ self.old ++ bytes.items ∷ []) }
+        ensures accepted { OnOk result (addition_of self.old bytes.items ≡ None) }
+        ensures refused { IfErr result (Refuses (addition_of self.old bytes.items)) }
+        ensures same { OnErr result (self.new ≡ self.old) }
+    {
+        if let Some(fault) = find_fault(&bytes) {
+            return Err(AddFault::File(fault));
+        }
+        if is_there(&self.files, &bytes) {
+            return Err(AddFault::Twice);
+        }
+        let Ok(()) = self.files.push(bytes) else {
+            return Err(AddFault::NoMemory);
+        };
+        Ok(())
+    }
+
+    /// What the file of this number holds, counted from 1 in the order of adding: what `read_file` gives for its bytes.
+    pub fn get(&self, file: u32) -> FileImage<'_>
+        requires least { 1 ≤ file }
+        requires most { file ≤ length self.now }
+        ensures { Shows (file_at self.now file) result }
+    {
+        image_of(&self.files[file as usize - 1])
+    }
+}
+
+/// Whether a table of the file's kind is among the files. Neither has a fault.
+fn is_there(files: &[Vec<u8>], file: &[u8]) -> bool
+    ensures { result ≡ is_there (map (λ held. held.items) files.now) file.now }
+{
+    match kind_of_file(file) {
+        None => false,
+        Some(kind) => has_kind(files, kind),
+    }
+}
+
+/// Whether a table of this kind is among the files.
+fn has_kind(files: &[Vec<u8>], kind: TableKind) -> bool
+    ensures { result ≡ list_any (λ held. are_same (kind_of_file held.items) (Some kind)) files.now }
+{
+    files.iter().any(|held| is_of_kind(held, kind))
+}
+
+/// Whether a file is a table of this kind.
+fn is_of_kind(file: &[u8], kind: TableKind) -> bool
+    ensures { result ≡ are_same (kind_of_file file.now) (Some kind) }
+{
+    match kind_of_file(file) {
+        None => false,
+        Some(held) => held.is_same(kind),
+    }
+}

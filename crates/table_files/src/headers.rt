@@ -1,0 +1,147 @@
+//! The headers of a file, and what it holds behind them.
+ghost use Rattle.std.specs.Prelude.{◌≡◌, ◌≤◌, ◌-◌, length, drop, false, IfOk, MatchResult, Some, None};
+ghost use Rattle.table_files.specs.Kinds.{named_kind};
+ghost use Rattle.table_files.specs.Headers.{content_type, subtype, table_offset, table_size, table_name, table_fault, file_fault_of, IsFile, is_load, kind_of_file, Shows};
+
+use crate::fault::FileFault;
+use crate::kinds::{TableKind, named_kind};
+use packet_forms::be32;
+
+/// What a file holds.
+#[derive(Clone, Copy, Debug, PartialEq, Eq)]
+pub enum FileImage<'a> {
+    /// A table.
+    Table { kind: TableKind, payload: &'a [u8] },
+    /// Bytes to be loaded into memory from the address `at` on.
+    Load { at: u32, bytes: &'a [u8] },
+}
+
+/// The content type of every file.
+const CONTENT_TYPE: u32 = 0x6346_4531;
+
+/// The subtype of a table.
+const TABLE: u32 = 8;
+
+/// The subtype of bytes to be loaded.
+const LOAD: u32 = 100;
+
+/// What the file of these bytes holds, or the first of its faults: 1 `Short`, under 64 bytes; 2 `ContentType`;
+/// 3 `Subtype`, not a table's; `Short` again, under 116 bytes; 4 `Partial`, the offset isn't 0; 5 `Name`, the 40 bytes
+/// aren't a known name and zero bytes; 6 `Size`, the header's number of bytes isn't the number of those behind the
+/// headers, or that isn't the table's. Nothing is copied.
+pub fn read_file(bytes: &[u8]) -> Result<FileImage<'_>, FileFault>
+    ensures fault { MatchResult result (λ _. file_fault_of bytes.now ≡ None) (λ fault. file_fault_of bytes.now ≡ Some fault) }
+    ensures image { IfOk result (Shows bytes.now) }
+{
+    if let Some(fault) = find_fault(bytes) {
+        return Err(fault);
+    }
+    Ok(image_of(bytes))
+}
+
+/// The first fault of a file.
+#[tactic(auto, unfolding(crate::specs::Headers::file_fault_of, crate::specs::Headers::content_type, crate::specs::Headers::subtype, crate::specs::Headers::table_offset))]
+pub(crate) fn find_fault(bytes: &[u8]) -> Option<FileFault>
+    ensures { result ≡ file_fault_of bytes.now }
+{
+    if bytes.len() < 64 {
+        return Some(FileFault::Short);
+    }
+    if be32(bytes, 0) != CONTENT_TYPE {
+        return Some(FileFault::ContentType);
+    }
+    if be32(bytes, 4) != TABLE {
+        return Some(FileFault::Subtype);
+    }
+    if bytes.len() < 116 {
+        return Some(FileFault::Short);
+    }
+    if be32(bytes, 68) != 0 {
+        return Some(FileFault::Partial);
+    }
+    table_fault(bytes)
+}
+
+/// The fault of a table's name or of its size.
+#[tactic(auto, unfolding(crate::specs::Headers::table_size))]
+fn table_fault(bytes: &[u8]) -> Option<FileFault>
+    requires { 116 ≤ length bytes.now }
+    ensures { result ≡ table_fault (named_kind (table_name bytes.now)) (table_size bytes.now) (length bytes.now - 116) }
+{
+    let Some(kind) = named_kind(name_field(bytes)) else {
+        return Some(FileFault::Name);
+    };
+    let size = bytes.len() - 116;
+    if be32(bytes, 72) as usize == size && kind.fits(size) {
+        None
+    } else {
+        Some(FileFault::Size)
+    }
+}
+
+/// The 40 bytes of a table's name.
+#[tactic(auto, unfolding(crate::specs::Headers::table_name))]
+fn name_field(bytes: &[u8]) -> &[u8]
+    requires { 116 ≤ length bytes.now }
+    ensures { result.now ≡ table_name bytes.now }
+{
+    &bytes[76..116]
+}
+
+/// What a file without a fault holds.
+pub(crate) fn image_of(bytes: &[u8]) -> FileImage<'_>
+    requires { IsFile bytes.now }
+    ensures { Shows bytes.now result }
+{
+    if is_load(bytes) {
+        return FileImage::Load {
+            at: be32(bytes, 64),
+            bytes: behind(bytes, 80),
+        };
+    }
+    FileImage::Table {
+        kind: kind_of(bytes),
+        payload: behind(bytes, 116),
+    }
+}
+
+/// The kind of a table file; None where the file has a fault or is no table.
+#[tactic(auto, unfolding(crate::specs::Headers::kind_of_file))]
+pub(crate) fn kind_of_file(bytes: &[u8]) -> Option<TableKind>
+    ensures { result ≡ kind_of_file bytes.now }
+{
+    match read_file(bytes) {
+        Ok(FileImage::Table { kind, payload: _ }) => Some(kind),
+        Ok(FileImage::Load { at: _, bytes: _ }) => None,
+        Err(_) => None,
+    }
+}
+
+/// The kind of a table file without a fault.
+fn kind_of(bytes: &[u8]) -> TableKind
+    requires file { IsFile bytes.now }
+    requires table { is_load bytes.now ≡ false }
+    ensures { kind_of_file bytes.now ≡ Some result }
+{
+    match named_kind(name_field(bytes)) {
+        Some(kind) => kind,
+        None => unreachable!(),
+    }
+}
+
+/// The bytes from a place on.
+fn behind(bytes: &[u8], at: usize) -> &[u8]
+    requires { at ≤ length bytes.now }
+    ensures { result.now ≡ drop at bytes.now }
+{
+    &bytes[at..]
+}
+
+/// Whether a file's bytes are to be loaded.
+#[tactic(auto, unfolding(crate::specs::Headers::is_load, crate::specs::Headers::subtype))]
+fn is_load(bytes: &[u8]) -> bool
+    requires { 8 ≤ length bytes.now }
+    ensures { result ≡ is_load bytes.now }
+{
+    be32(bytes, 4) == LOAD
+}

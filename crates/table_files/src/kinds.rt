@@ -1,0 +1,138 @@
+//! The kinds of tables: their names, and how many bytes their payloads have.
+ghost use Rattle.std.specs.Prelude.{◌≡◌, ◌==◌, map};
+ghost use Rattle.std.specs.List.{list_all};
+ghost use Rattle.table_files.specs.Kinds.{is_same_kind, fits_kind, is_padded, known_by, kind_among, named_kind};
+
+/// Which table a file holds. A number tells tables of one sort apart.
+#[derive(Clone, Copy, Debug, PartialEq, Eq)]
+pub enum TableKind {
+    /// The application monitors.
+    AppMon,
+    /// The event monitors.
+    EventMon,
+    /// The execution counters.
+    ExeCount,
+    /// The message actions.
+    MsgActs,
+    /// An absolute time sequence, 1 or 2.
+    Ats(u8),
+    /// A relative time sequence, 1 to 64.
+    Rts(u8),
+    /// A dwell table, 1 to 4.
+    Dwell(u8),
+    /// The checksum entries of EEPROM.
+    Eeprom,
+    /// The checksum entries of memory.
+    Memory,
+}
+
+/// A table that is known by its name.
+struct TableRow {
+    name: &'static str,
+    kind: TableKind,
+}
+
+/// The tables whose names are known.
+const TABLE_ROWS: [TableRow; 6] = [
+    TableRow {
+        name: "MD.DWELL_TABLE1",
+        kind: TableKind::Dwell(1),
+    },
+    TableRow {
+        name: "MD.DWELL_TABLE2",
+        kind: TableKind::Dwell(2),
+    },
+    TableRow {
+        name: "MD.DWELL_TABLE3",
+        kind: TableKind::Dwell(3),
+    },
+    TableRow {
+        name: "MD.DWELL_TABLE4",
+        kind: TableKind::Dwell(4),
+    },
+    TableRow {
+        name: "CS.DefEepromTbl",
+        kind: TableKind::Eeprom,
+    },
+    TableRow {
+        name: "CS.DefMemoryTbl",
+        kind: TableKind::Memory,
+    },
+];
+
+impl TableKind {
+    /// Whether it is the same table.
+    #[tactic(auto, unfolding(crate::specs::Kinds::is_same_kind))]
+    pub(crate) fn is_same(self, other: TableKind) -> bool
+        ensures { result ≡ is_same_kind self other }
+    {
+        match (self, other) {
+            (TableKind::AppMon, TableKind::AppMon) => true,
+            (TableKind::EventMon, TableKind::EventMon) => true,
+            (TableKind::ExeCount, TableKind::ExeCount) => true,
+            (TableKind::MsgActs, TableKind::MsgActs) => true,
+            (TableKind::Ats(n), TableKind::Ats(m)) => n == m,
+            (TableKind::Rts(n), TableKind::Rts(m)) => n == m,
+            (TableKind::Dwell(n), TableKind::Dwell(m)) => n == m,
+            (TableKind::Eeprom, TableKind::Eeprom) => true,
+            (TableKind::Memory, TableKind::Memory) => true,
+            _ => false,
+        }
+    }
+
+    /// Whether its payload may have so many bytes.
+    pub(crate) fn fits(self, size: usize) -> bool
+        ensures { result ≡ fits_kind self size }
+    {
+        match self {
+            TableKind::AppMon => size == 768,
+            TableKind::EventMon => size == 384,
+            TableKind::ExeCount => size == 704,
+            TableKind::MsgActs => size == 544,
+            TableKind::Ats(_) => size <= 65_536,
+            TableKind::Rts(_) => size <= 2_048,
+            TableKind::Dwell(_) => size == 204,
+            TableKind::Eeprom | TableKind::Memory => size == 192,
+        }
+    }
+}
+
+/// The kind that the bytes of a name field say: a known name, and zero bytes up to the field's end.
+#[tactic(auto, unfolding(crate::specs::Kinds::named_kind))]
+pub(crate) fn named_kind(field: &[u8]) -> Option<TableKind>
+    ensures { result ≡ named_kind field.now }
+{
+    kind_among(&TABLE_ROWS, field)
+}
+
+/// The kind of the first of these tables whose name a field has.
+fn kind_among(rows: &[TableRow], field: &[u8]) -> Option<TableKind>
+    ensures { result ≡ kind_among (map known_by rows.now) field.now }
+{
+    let mut rest = rows;
+    while let [row, others @ ..] = rest {
+        if is_padded(row.name, field) {
+            return Some(row.kind);
+        }
+        rest = others;
+    }
+    None
+}
+
+/// Whether a field begins with a name and has only zero bytes behind it.
+#[tactic(auto, unfolding(crate::specs::Kinds::is_padded))]
+fn is_padded(name: &str, field: &[u8]) -> bool
+    ensures { result ≡ is_padded name.now field.now }
+{
+    let name = name.as_bytes();
+    if !field.starts_with(name) {
+        return false;
+    }
+    are_zeros(&field[name.len()..])
+}
+
+fn are_zeros(bytes: &[u8]) -> bool
+    ensures { result ≡ list_all (λ b. b == 0) bytes.now }
+{
+    bytes.iter().all(|byte| *byte == 0)
+}
