@@ -1,2 +1,3 @@
 pub mod Forms
 pub mod NameForms
+pub mod Checks

@@ -3,3 +3,4 @@ pub mod Packets
 pub mod Faults
 pub mod Names
 pub mod Built
+pub mod Crc

@@ -1,6 +1,7 @@
 //! Laws of the definitions, as contracts of functions that do nothing.
 
-ghost use Rattle.std.specs.Prelude.{◌≡◌, ◌≤◌, ◌<◌, ◌↔◌, ℕ, List, [], ◌∷◌, length, true, None, codes};
+ghost use Rattle.std.specs.Prelude.{◌≡◌, ◌≤◌, ◌<◌, ◌↔◌, ℕ, List, [], ◌∷◌, ◌++◌, length, true, None, codes};
+ghost use Rattle.packet_forms.specs.Crc.{crc_of};
 ghost use Rattle.packet_forms.specs.Packets.{IsPacket, is_command_id};
 ghost use Rattle.packet_forms.specs.Faults.{fault_of};
 ghost use Rattle.packet_forms.specs.Names.{name_of};
@@ -22,4 +23,16 @@ pub fn built_packets_read_back()
 pub fn worked_packets()
     ensures noop { command_of 0x1888 0 [] ≡ 0x18 ∷ 0x88 ∷ 0xC0 ∷ 0x00 ∷ 0x00 ∷ 0x01 ∷ 0x00 ∷ 0xAE ∷ [] }
     ensures event { event_of (name_of (codes "MM")) 16 2 1001 ≡ 0x08 ∷ 0x08 ∷ 0xC0 ∷ 0x00 ∷ 0x00 ∷ 0x25 ∷ 0x00 ∷ 0x00 ∷ 0x03 ∷ 0xE9 ∷ 0x00 ∷ 0x00 ∷ 0x4D ∷ 0x4D ∷ 0 ∷ 0 ∷ 0 ∷ 0 ∷ 0 ∷ 0 ∷ 0 ∷ 0 ∷ 0 ∷ 0 ∷ 0 ∷ 0 ∷ 0 ∷ 0 ∷ 0 ∷ 0 ∷ 0 ∷ 0 ∷ 0x00 ∷ 0x10 ∷ 0x00 ∷ 0x02 ∷ 0x00 ∷ 0x00 ∷ 0x00 ∷ 0x42 ∷ 0x00 ∷ 0x00 ∷ 0x00 ∷ 0x01 ∷ [] }
+{}
+
+/// A check goes on: of no bytes, and of two lists one after the other.
+pub fn checks_go_on()
+    ensures none { (c : ℕ) → crc_of c [] ≡ c }
+    ensures both { (c : ℕ) (xs ys : List ℕ) → crc_of c (xs ++ ys) ≡ crc_of (crc_of c xs) ys }
+{}
+
+/// The checks of the digits 1 to 9 that begin with 0 and with 0xFFFF.
+pub fn worked_checks()
+    ensures digits { crc_of 0 (codes "123456789") ≡ 0xBB3D }
+    ensures from_ones { crc_of 0xFFFF (codes "123456789") ≡ 0x4B37 }
 {}

@@ -2,6 +2,8 @@
 #![tactic(auto)]
 
 mod build;
+mod crc;
+mod crc_rows;
 mod draft;
 pub mod laws;
 mod name;
@@ -10,6 +12,7 @@ mod packet;
 mod pieces;
 
 pub use build::{command, event, telemetry};
+pub use crc::crc16;
 pub use name::{Counter, Name};
 pub use numbers::{be16, be32};
 pub use packet::{Packet, PacketFault};

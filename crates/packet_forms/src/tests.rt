@@ -95,3 +95,29 @@ fn names(rt: HostRuntime) -> Result<(), Fail> {
     assert_eq!(rt; Counter::default().name.text(), "A");
     Ok(())
 }
+
+// The check value of CRC-16/ARC and of CRC-16/MODBUS, which begins with 0xFFFF, and two frames of Modbus.
+#[test]
+fn published_checks(rt: HostRuntime) -> Result<(), Fail> {
+    assert_eq!(rt; crc16(0, b"123456789"), 0xBB3D);
+    assert_eq!(rt; crc16(0xFFFF, b"123456789"), 0x4B37);
+    assert_eq!(rt; crc16(0xFFFF, &[0x01, 0x03, 0, 0, 0, 0x0A]), 0xCDC5);
+    assert_eq!(rt; crc16(0xFFFF, &[0x11, 0x03, 0, 0x6B, 0, 0x03]), 0x8776);
+    assert_eq!(rt;
+        crc16(0, b"The quick brown fox jumps over the lazy dog"),
+        0xFCDF
+    );
+    assert_eq!(rt; crc16(0x1234, &[]), 0x1234);
+    Ok(())
+}
+
+// A check goes on from that of the first part, wherever the list is cut.
+#[test]
+fn check_in_two_parts(rt: HostRuntime) -> Result<(), Fail> {
+    let text = b"The quick brown fox jumps over the lazy dog";
+    for cut in 0..text.len() {
+        let first = crc16(0, &text[..cut]);
+        assert_eq!(rt; crc16(first, &text[cut..]), 0xFCDF);
+    }
+    Ok(())
+}
