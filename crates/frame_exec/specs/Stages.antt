@@ -7,6 +7,7 @@ use Rattle.bus_pipes.specs.Delivery.{after_offers, drops_from}
 use Rattle.bus_pipes.specs.declared.names.PipeName.TheVariants as names
 use Rattle.bus_pipes.specs.declared.names.Out.{Out}
 use Rattle.memory_window.specs.Access.{Admitted}
+use Rattle.memory_window.specs.Operations.{IsBacked}
 use Rattle.memory_window.specs.Landing.{land}
 use Rattle.mm_core.specs.Output.{Input as MmInput, mm_items, mm_operations}
 use Rattle.mm_core.specs.Standing.{Stands as MmStands}
@@ -38,11 +39,12 @@ pub record WakesMm (held : Bool) (old new : Bench) : Type 0 where
   pub log : new.log ≡ old.log
   pub memory : new.ram ≡ old.ram
 
--- What the wakeups leave can be sent and landed: the items are few and have ids that are counted, the operations are admitted.
+-- What the wakeups leave can be sent and landed: the items are few and have ids that are counted, the operations are admitted and name no load file.
 pub record CanSend (b : Bench) : Type 0 where
   pub few : length b.out.items ≤ 272
   pub counted : All (λ (item : Out). is_item_counted item ≡ true) b.out.items
   pub admitted : All (Admitted b.ram) b.ops
+  pub backed : All (IsBacked []) b.ops
 
 -- the applications were woken in a frame after s
 pub record WakesIn (setup : Setup) (s : State) (frame : Frame) (b : Bench) : Type 0 where

@@ -3,7 +3,7 @@ use Rattle.std.proofs.Common.{◌≡◌, ℕ, ◌+◌, ◌/◌, ◌≤◌, ◌^�
 use Rattle.std.specs.List.{list_any}
 use Rattle.std.proofs.lemmas.Grind.{common_steps}
 use Rattle.memory_window.specs.declared.operations.MemOp.{MemOp}
-use Rattle.memory_window.specs.declared.operations.MemOp.TheVariants.{Poke, Fill, Bytes, Protect}
+use Rattle.memory_window.specs.declared.operations.MemOp.TheVariants.{Poke, Fill, Bytes, FromFile, Protect}
 use Rattle.memory_window.specs.Regions.{ends_late}
 use Rattle.memory_window.specs.Operations.{IsSound}
 use Rattle.memory_window.specs.Memory.{Area, Memory, home, regions_of}
@@ -32,4 +32,7 @@ sound-of m (Fill at len byte) within h =
 sound-of m (Bytes at part) within h =
     let found = bytes-area at (length part) (home m.areas at (length part)) (is_guarded m.areas m.guarded at (length part)) h.admits in
     (h.can_ask, home-within m.areas at (length part) found.0 found.1 within)
+sound-of m (FromFile load at len) within h =
+    let found = bytes-area at len (home m.areas at len) (is_guarded m.areas m.guarded at len) h.admits in
+    (h.can_ask, home-within m.areas at len found.0 found.1 within)
 sound-of m (Protect region on) within h = tt

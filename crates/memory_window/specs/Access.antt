@@ -3,7 +3,7 @@ use Rattle.std.specs.Prelude.{◌≡◌, ℕ, zero, suc, ◌/◌, ◌%◌, ◌^�
 use Rattle.memory_window.specs.declared.access.AccessFault.{AccessFault}
 use Rattle.memory_window.specs.declared.access.AccessFault.TheVariants.{Outside, Unaligned, WrongSize, Protected}
 use Rattle.memory_window.specs.declared.operations.MemOp.{MemOp}
-use Rattle.memory_window.specs.declared.operations.MemOp.TheVariants.{Poke, Fill, Bytes, Protect}
+use Rattle.memory_window.specs.declared.operations.MemOp.TheVariants.{Poke, Fill, Bytes, FromFile, Protect}
 use Rattle.memory_window.specs.Numbers.{number_of}
 use Rattle.memory_window.specs.Operations.{is_size}
 use Rattle.memory_window.specs.Regions.{allows, unit_of, spans, is_eeprom}
@@ -55,6 +55,7 @@ abbrev pub admits_of : Memory → MemOp → Result (Unit {0}) AccessFault
 admits_of image (Poke size at value) = unless_guarded (read_of size image at) (is_guarded image.areas image.guarded at (size / 8))
 admits_of image (Fill at len byte) = unless_guarded (bytes_of image at len) (is_guarded image.areas image.guarded at len)
 admits_of image (Bytes at part) = unless_guarded (bytes_of image at (length part)) (is_guarded image.areas image.guarded at (length part))
+admits_of image (FromFile load at len) = unless_guarded (bytes_of image at len) (is_guarded image.areas image.guarded at len)
 admits_of image (Protect region on) = Ok tt
 
 -- what must hold of an operation before it is asked whether it is admitted
@@ -62,6 +63,7 @@ abbrev pub CanAsk : Memory → MemOp → Type 0
 CanAsk image (Poke size at value) = IsTrue (is_size size) × (value < 2 ^ size)
 CanAsk image (Fill at len byte) = 0 < len
 CanAsk image (Bytes at part) = 0 < length part
+CanAsk image (FromFile load at len) = 0 < len
 CanAsk image (Protect region on) = IsSome (is_protected image region)
 
 -- that an operation can be asked for and is admitted

@@ -1,6 +1,6 @@
 //! Landing operations on one run of bytes.
 ghost use Rattle.std.specs.Prelude.{◌≡◌, ℕ, ◌+◌, ◌<◌, ◌≤◌, ◌^◌, [], length, slice_index, All};
-ghost use Rattle.memory_window.specs.Operations.{IsSound};
+ghost use Rattle.memory_window.specs.Operations.{IsSound, IsBacked};
 ghost use Rattle.memory_window.specs.Landing.{land_byte, landed};
 
 use crate::MemOp;
@@ -9,6 +9,7 @@ use crate::MemOp;
 pub(crate) fn bank_land(at: u32, bank: &mut [u8], ops: &[MemOp])
     requires fits { at + length bank.old ≤ 2 ^ 32 }
     requires sound { All IsSound ops.now }
+    requires backed { All (IsBacked []) ops.now }
     ensures { (k : ℕ) → k < length bank.old → slice_index bank.new k ≡ landed [] ops.now (at + k) (slice_index bank.old k) }
 {
     for op in ops {
@@ -19,6 +20,7 @@ pub(crate) fn bank_land(at: u32, bank: &mut [u8], ops: &[MemOp])
 fn land_one(at: u32, bank: &mut [u8], op: &MemOp)
     requires fits { at + length bank.old ≤ 2 ^ 32 }
     requires sound { IsSound op.now }
+    requires backed { IsBacked [] op.now }
     ensures { (k : ℕ) → k < length bank.old → slice_index bank.new k ≡ land_byte [] op.now (at + k) (slice_index bank.old k) }
 {
     let low = u64::from(at);

@@ -1,6 +1,6 @@
 //! Operations on memory.
 ghost use Rattle.std.specs.Prelude.{◌≡◌, ◌-◌, ◌*◌, ◌/◌, ◌%◌, ◌^◌, ◌<◌, ◌≤◌, []};
-ghost use Rattle.memory_window.specs.Operations.{is_size, op_at, op_len, op_byte, IsSound};
+ghost use Rattle.memory_window.specs.Operations.{is_size, op_at, op_len, op_byte, IsSound, IsBacked};
 
 use crate::Chunk;
 
@@ -13,6 +13,8 @@ pub enum MemOp {
     Fill { at: u32, len: u32, byte: u8 },
     /// Writes the bytes of `part`.
     Bytes { at: u32, part: Chunk },
+    /// Writes the bytes of the load file of this number, counted from 1. It has `len` bytes.
+    FromFile { load: u32, at: u32, len: u32 },
     /// Protects an EEPROM region, or takes its protection away. Regions are counted from 1.
     Protect { region: u32, on: bool },
 }
@@ -33,6 +35,7 @@ impl MemOp {
             MemOp::Poke { at, .. } => *at,
             MemOp::Fill { at, .. } => *at,
             MemOp::Bytes { at, .. } => *at,
+            MemOp::FromFile { at, .. } => *at,
             MemOp::Protect { .. } => 0,
         }
     }
@@ -45,13 +48,15 @@ impl MemOp {
             MemOp::Poke { size, .. } => u32::from(*size / 8),
             MemOp::Fill { len, .. } => *len,
             MemOp::Bytes { part, .. } => part.len(),
+            MemOp::FromFile { len, .. } => *len,
             MemOp::Protect { .. } => 0,
         }
     }
 
-    /// The `j`-th byte that it writes, counted from 0.
+    /// The `j`-th byte that it writes, counted from 0. No load file is at hand, so it isn't one from a file.
     pub(crate) fn byte(&self, j: u32) -> u8
         requires sound { IsSound self.now }
+        requires backed { IsBacked [] self.now }
         requires within { j < op_len self.now }
         ensures { result ≡ op_byte [] self.now j }
     {
@@ -59,6 +64,7 @@ impl MemOp {
             MemOp::Poke { size, value, .. } => byte_of(*size, *value, j),
             MemOp::Fill { byte, .. } => *byte,
             MemOp::Bytes { part, .. } => part.bytes()[j as usize],
+            MemOp::FromFile { .. } => unreachable!(),
             MemOp::Protect { .. } => 0,
         }
     }

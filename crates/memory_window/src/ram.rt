@@ -2,7 +2,7 @@
 ghost use Rattle.std.specs.Prelude.{◌≡◌, ◌≤◌, false, None, [], length, take, map, All, IfOk, IsTrue};
 ghost use Rattle.std.specs.List.{list_any};
 ghost use Rattle.memory_window.specs.Regions.{is_eeprom, is_mapped, ends_late, total_of, map_fault_of};
-ghost use Rattle.memory_window.specs.Operations.{IsSound, protect, protected_by};
+ghost use Rattle.memory_window.specs.Operations.{IsSound, IsBacked, protect, protected_by};
 ghost use Rattle.memory_window.specs.Landing.{land, landed};
 ghost use Rattle.memory_window.specs.Memory.{cut, changed, regions_of, start_memory, upset_at};
 ghost use Rattle.memory_window.specs.Access.{Admitted};
@@ -64,9 +64,10 @@ impl Ram {
         Window::over(self.map.regions(), &self.guarded, block)
     }
 
-    /// Makes the operations, in their order.
+    /// Makes the operations, in their order. No load file is at hand, so none of them is one from a file.
     pub fn land(&mut self, ops: &[MemOp])
-        requires { All (Admitted self.old) ops.now }
+        requires admitted { All (Admitted self.old) ops.now }
+        requires backed { All (IsBacked []) ops.now }
         ensures land { self.new ≡ land [] ops.now self.old }
         ensures map { regions_of self.new.areas ≡ regions_of self.old.areas }
     {
@@ -95,6 +96,7 @@ fn land_store(store: &mut Store, regions: &[Region], ops: &[MemOp])
     requires whole { total_of regions.now ≡ length store.old }
     requires within { list_any ends_late regions.now ≡ false }
     requires sound { All IsSound ops.now }
+    requires backed { All (IsBacked []) ops.now }
     ensures areas { cut regions.now store.new ≡ changed (landed [] ops.now) (cut regions.now store.old) }
     ensures len { length store.new ≡ length store.old }
 {
@@ -120,6 +122,7 @@ fn land_all(block: &mut [u8], regions: &[Region], ops: &[MemOp])
     requires whole { total_of regions.now ≡ length block.old }
     requires within { list_any ends_late regions.now ≡ false }
     requires sound { All IsSound ops.now }
+    requires backed { All (IsBacked []) ops.now }
     ensures { cut regions.now block.new ≡ changed (landed [] ops.now) (cut regions.now block.old) }
 {
     let mut from = 0;

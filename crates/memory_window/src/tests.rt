@@ -1,5 +1,7 @@
 //! Worked examples of maps, reads, protection, upsets and landing.
+ghost use Rattle.std.specs.Prelude.{◌<◌, []};
 ghost use Rattle.memory_window.specs.Access.{CanAsk};
+ghost use Rattle.memory_window.specs.Operations.{IsBacked};
 
 use crate::{
     AccessFault, Chunk, Kind, Map, MapFault, MemOp, Ops, Ram, Region, Window, is_mapped, is_size,
@@ -35,7 +37,8 @@ fn read(window: Window<'_>, size: u8, at: u32) -> Result<u32, AccessFault> {
 
 // Lands one operation where it is admitted.
 fn change(ram: &mut Ram, op: MemOp) -> Result<(), AccessFault>
-    requires { CanAsk ram.old op }
+    requires ask { CanAsk ram.old op }
+    requires backed { IsBacked [] op }
 {
     ram.window().admits(&op)?;
     ram.land(&[op]);
@@ -212,6 +215,28 @@ fn eeprom_protection_is_taken_away_and_set_again(rt: HostRuntime) {
         .is_ok()
     );
     assert!(rt; ram.window().read8(0x1007) == Ok(3));
+}
+
+// Whether the bytes of a load file of this length may be written from an address on.
+fn admits_file(window: Window<'_>, at: u32, len: u32) -> Result<(), AccessFault>
+    requires { 0 < len }
+{
+    let load = 1;
+    window.admits(&MemOp::FromFile { load, at, len })
+}
+
+#[test]
+fn load_files_are_admitted_as_ranges(rt: HostRuntime) {
+    let mut ram = numbered(&rt, rt.alloc());
+    let window = ram.window();
+    assert!(rt; admits_file(window, 0x1000, 8).is_ok());
+    assert!(rt; admits_file(window, 0x1001, 8) == Err(AccessFault::Outside));
+    assert!(rt; admits_file(window, 0x2001, 2) == Err(AccessFault::Unaligned));
+    assert!(rt; admits_file(window, 0x3004, 4).is_ok());
+    assert!(rt; admits_file(window, 0xFFFF_FFF9, 7) == Err(AccessFault::Protected));
+    assert!(rt; admits_file(window, 0xFFFF_FFF9, 8) == Err(AccessFault::Outside));
+    assert!(rt; protect(&mut ram, 5, false));
+    assert!(rt; admits_file(ram.window(), 0xFFFF_FFF9, 7).is_ok());
 }
 
 #[test]

@@ -164,6 +164,7 @@ impl<'a> Window<'a> {
             MemOp::Poke { size, at, .. } => self.admits_poke(*size, *at),
             MemOp::Fill { at, len, .. } => self.admits_range(*at, *len),
             MemOp::Bytes { at, part } => self.admits_range(*at, part.len()),
+            MemOp::FromFile { at, len, .. } => self.admits_range(*at, *len),
             MemOp::Protect { .. } => Ok(()),
         }
     }

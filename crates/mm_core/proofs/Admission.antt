@@ -1,4 +1,4 @@
--- What MM leaves is admitted, and what it makes gets sequence counts.
+-- What MM leaves is admitted and names no load file, and what it makes gets sequence counts.
 use Rattle.std.proofs.Common.{◌≡◌, ℕ, ◌<◌, ◌%◌, ◌^◌, Bool, true, false, cond, List, [], ◌∷◌, Option, Some, None, refl, subst, arith, lit<}
 use Rattle.std.specs.Prelude.{flat_map, option_to_list, is_none, Result, Ok, Err, is_some}
 use Rattle.std.specs.List.{All, AllPass}
@@ -13,7 +13,7 @@ use Rattle.commands.specs.declared.verdicts.Verdict.{Verdict}
 use Rattle.commands.specs.declared.verdicts.Verdict.TheVariants.{Other, Request, Refused, Accepted}
 use Rattle.commands.proofs.Answering.{none_fail, one_passes, telemetry_counted, answer_counted}
 use Rattle.memory_window.specs.Memory.{Memory}
-use Rattle.memory_window.specs.Operations.{is_size}
+use Rattle.memory_window.specs.Operations.{is_size, IsBacked}
 use Rattle.memory_window.specs.Access.{is_protected}
 use Rattle.memory_window.specs.declared.access.AccessFault.{AccessFault}
 use Rattle.memory_window.specs.declared.operations.MemOp.{MemOp}
@@ -91,6 +91,24 @@ pub operations_admitted : (image : Memory) (packets : List (List ℕ)) → All (
 unfolding command_operations
 operations_admitted image [] = none_fail (IsAdmitted image)
 operations_admitted image (p ∷ packets) = All-append (IsAdmitted image) (command_operations image p) (flat_map (command_operations image) packets) (verdict_admitted image p (verdict_in image p) refl) (operations_admitted image packets)
+
+instruction_backed : (instruction : Instruction) → All (IsBacked []) (option_to_list (operation_of instruction))
+instruction_backed Plain = none_fail (IsBacked [])
+instruction_backed (Peek size at) = none_fail (IsBacked [])
+instruction_backed (Poke size at value) = one_passes (IsBacked []) (ops.Poke size at (value % 2 ^ size)) tt
+instruction_backed (Protect region on) = one_passes (IsBacked []) (ops.Protect region on) tt
+
+verdict_backed : (payload : List ℕ) (verdict : Verdict) → All (IsBacked []) (option_to_list (verdict_operation payload verdict))
+verdict_backed payload Other = none_fail (IsBacked [])
+verdict_backed payload Request = none_fail (IsBacked [])
+verdict_backed payload (Refused reason) = none_fail (IsBacked [])
+verdict_backed payload (Accepted code) = instruction_backed (instruction_of code payload)
+
+-- no operation of these packets names a load file
+pub operations_backed : (image : Memory) (packets : List (List ℕ)) → All (IsBacked []) (flat_map (command_operations image) packets)
+unfolding command_operations
+operations_backed image [] = none_fail (IsBacked [])
+operations_backed image (p ∷ packets) = All-append (IsBacked []) (command_operations image p) (flat_map (command_operations image) packets) (verdict_backed (payload_of p) (verdict_in image p)) (operations_backed image packets)
 
 read_counted : (time size at : ℕ) (read : Result ℕ AccessFault) → AllPass is_item_counted (read_items time size at read)
 unfolding peek_packet is_counted

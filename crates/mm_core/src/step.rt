@@ -6,6 +6,7 @@ ghost use Rattle.bus_pipes.specs.Counted.{is_item_counted};
 ghost use Rattle.commands.specs.declared.verdicts.Verdict.{Verdict};
 ghost use Rattle.mm_core.specs.Image.{image_of};
 ghost use Rattle.memory_window.specs.Access.{Admitted};
+ghost use Rattle.memory_window.specs.Operations.{IsBacked};
 ghost use Rattle.memory_window.specs.Window.{seen};
 ghost use Rattle.mm_core.specs.Verdicts.{verdict_in};
 ghost use Rattle.mm_core.specs.Output.{Input, command_items, command_operations, mm_items, mm_operations};
@@ -56,6 +57,7 @@ impl Mm {
         ensures items { (history : List Input) → Stands history self.now → out.new.items ≡ mm_items history (input_of now commands.now window.entry) }
         ensures ops { ops.new ≡ mm_operations (input_of now commands.now window.entry) }
         ensures admitted { All (Admitted (seen window.entry)) ops.new }
+        ensures backed { All (IsBacked []) ops.new }
         ensures counted { AllPass is_item_counted out.new.items }
         ensures few { length out.new.items ≤ 17 * length commands.now }
         ensures room { out.new.room ≡ out.old.room }

@@ -26,4 +26,5 @@ returns-clause-can_send c = record {
   few = omega (arith, c.step.ensures.few, c.take_all.ensures.few, ap length c.packets.ensures.value);
   counted = c.step.ensures.counted;
   admitted = admitted_by c.window.result c.args.self.now.ram c.step.new.ops c.window.ensures.window c.step.ensures.admitted;
+  backed = c.step.ensures.backed;
 }

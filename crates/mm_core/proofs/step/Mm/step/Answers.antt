@@ -12,7 +12,7 @@ use Rattle.mm_core.specs.Verdicts.{verdict_in}
 use Rattle.mm_core.specs.Output.{verdicts_of, items_after, mm_items, command_items, command_operations, mm_operations}
 use Rattle.mm_core.specs.Standing.{StandsFor, Stands, input_of}
 use Rattle.mm_core.proofs.Wakeups.{items_none, verdicts_front, verdicts_more, items_step, counted_step}
-use Rattle.mm_core.proofs.Admission.{operations_admitted, command_counted}
+use Rattle.mm_core.proofs.Admission.{operations_admitted, operations_backed, command_counted}
 use Rattle.mm_core.proofs.step.Mm.step.Goals as goal
 use Rattle.mm_core.proofs.step.Mm.step.Goals.{After-loop-packet}
 
@@ -71,3 +71,6 @@ returns-clause-ops c = c.loop-packet.invariant.ops ∙ ap (λ (packets : List (L
 pub returns-clause-admitted : goal.returns-clause-admitted
 unfolding IsAdmitted image_of
 returns-clause-admitted c = rw c.loop-packet.invariant.ops (operations_admitted (image_of c.args.window) (take c.loop-packet.packet-index c.args.commands.now))
+
+pub returns-clause-backed : goal.returns-clause-backed
+returns-clause-backed c = rw c.loop-packet.invariant.ops (operations_backed (image_of c.args.window) (take c.loop-packet.packet-index c.args.commands.now))
