@@ -3,7 +3,6 @@ use Rattle.std.proofs.Common.{◌≡◌, ℕ, ◌≤◌, ◌-◌, Bool, true, fa
 use Rattle.std.specs.Prelude.{◌&&◌, not, is_none}
 use Rattle.std.proofs.lemmas.Grind.{common_steps}
 use Rattle.std.proofs.lemmas.Bool.Decides.{nat_tests}
-use Rattle.packet_forms.specs.Numbers.{be32_at}
 use Rattle.table_files.specs.declared.kinds.TableKind.{TableKind}
 use Rattle.table_files.specs.declared.kinds.TableKind.TheVariants.{Dwell, Eeprom, Memory}
 use Rattle.table_files.specs.Kinds.{IsTable, fits_kind, is_padded, named_kind, kind_among, known_tables, KnownTable}
@@ -92,10 +91,15 @@ loaded true kind = refl
 loaded false kind = refl
 
 -- what a load file is read as
-pub load_file : (file : List ℕ) (at : ℕ) (bytes : List ℕ) → is_load file ≡ true → at ≡ be32_at file 64 → bytes ≡ drop 80 file → IsLoadFile file at bytes
-unfolding kind_of_file payload_of_file address_of_file
+pub load_file : (file : List ℕ) (at : ℕ) (bytes : List ℕ) → is_load file ≡ true → at ≡ address_of_file file → bytes ≡ drop 80 file → IsLoadFile file at bytes
+unfolding kind_of_file payload_of_file
 load_file file at bytes load said is = record {
   kind_is = rw load (loaded (is_none (file_fault_of file)) (named_kind (table_name file)));
   at_is = said;
   bytes_are = rw load is;
 }
+
+-- the bytes of a load file
+pub loaded_bytes : (file : List ℕ) → is_load file ≡ true → payload_of_file file ≡ drop 80 file
+unfolding payload_of_file
+loaded_bytes file load = rw load refl

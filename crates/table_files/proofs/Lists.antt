@@ -1,6 +1,6 @@
 -- Lists of files: a file of the list, one file more, and tables that are there already.
-use Rattle.std.proofs.Common.{◌≡◌, ℕ, ◌<◌, Bool, true, false, List, [], ◌∷◌, ◌++◌, length, map, get_or, refl, sym, ap, subst, ◌∙◌, arith, zero, suc, Option, Some, None, length-append, Vec, Global}
-use Rattle.std.specs.Prelude.{◌||◌}
+use Rattle.std.proofs.Common.{All, ◌≡◌, ℕ, ◌<◌, Bool, true, false, List, [], ◌∷◌, ◌++◌, length, map, get_or, refl, sym, ap, subst, ◌∙◌, arith, zero, suc, Option, Some, None, length-append, Vec, Global}
+use Rattle.std.specs.Prelude.{◌||◌, filter, option_map}
 use Rattle.std.specs.List.{list_any}
 use Rattle.std.proofs.lemmas.List.{get_or-map, length-map}
 use Rattle.std.proofs.lemmas.List.Elements.{All-append}
@@ -9,14 +9,14 @@ use Rattle.std.proofs.lemmas.Grind.{common_steps}
 use Rattle.table_files.specs.declared.fault.FileFault.{FileFault}
 use Rattle.table_files.specs.declared.fault.AddFault.TheVariants.{File, Twice}
 use Rattle.table_files.specs.declared.kinds.TableKind.{TableKind}
-use Rattle.table_files.specs.Headers.{file_fault_of, IsFile, kind_of_file}
-use Rattle.table_files.specs.Files.{are_same, are_same_table, is_there, has_twice, addition_of, AreFiles}
+use Rattle.table_files.specs.Headers.{file_fault_of, IsFile, is_load, kind_of_file}
+use Rattle.table_files.specs.Files.{are_same, are_same_table, is_there, has_twice, addition_of, load_in, nth, load_of, AreFiles}
 
 -- a file of the list has no fault
-pub accepted_at : (held : List (Vec ℕ Global)) (i : ℕ) (file : Vec ℕ Global) → AreFiles (map (λ f. f.items) held) → i < length held → file ≡ get_or held i file → IsFile file.items
+pub accepted_at : (held : List (Vec ℕ Global)) (i : ℕ) (file : Vec ℕ Global) → All IsFile (map (λ f. f.items) held) → i < length held → file ≡ get_or held i file → IsFile file.items
 accepted_at held i file files within found =
     let there : get_or (map (λ (f : Vec ℕ Global). f.items) held) i [] ≡ file.items = get_or-map (λ (f : Vec ℕ Global). f.items) held i file [] within ∙ ap (λ (f : Vec ℕ Global). f.items) (sym found) in
-    subst IsFile there (files.accepted i [] (rw (length-map held (λ (f : Vec ℕ Global). f.items)) within))
+    subst IsFile there (files i [] (rw (length-map held (λ (f : Vec ℕ Global). f.items)) within))
 
 -- a test of the bytes, over the files
 pub any_of_bytes : (p : List ℕ → Bool) (held : List (Vec ℕ Global)) → list_any p (map (λ f. f.items) held) ≡ list_any (λ f. p f.items) held
@@ -79,3 +79,9 @@ one_more files file are room ok new = record {
     one : (k : ℕ) (d : List ℕ) → k < 1 → IsFile (get_or (file ∷ []) k d)
     one zero d lt = ok
     one (suc k) d lt = absurd (omega arith)
+
+-- address and bytes of the n-th load file
+pub load_there : (held lent : List (Vec ℕ Global)) (files : List (List ℕ)) (n : ℕ) (found : Option (List ℕ)) → map (λ f. f.items) held ≡ files → lent ≡ held
+    → found ≡ nth (filter is_load (map (λ f. f.items) lent)) n → option_map load_in found ≡ load_of files n
+unfolding load_of
+load_there held lent files n found view is same = rw (← view, same, is) refl

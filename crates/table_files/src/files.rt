@@ -1,11 +1,11 @@
 //! The files that were handed over.
-ghost use Rattle.std.specs.Prelude.{◌≡◌, ◌<◌, ◌≤◌, [], ◌∷◌, ◌++◌, length, IfOk, OnOk, OnErr, IfErr, None, Some, map};
+ghost use Rattle.std.specs.Prelude.{◌≡◌, ◌<◌, ◌≤◌, [], ◌∷◌, ◌++◌, length, filter, map, All, option_map, true, IfOk, OnOk, OnErr, IfErr, IfSome, None, Some};
 ghost use Rattle.std.specs.List.{list_any};
-ghost use Rattle.table_files.specs.Headers.{Shows, kind_of_file};
-ghost use Rattle.table_files.specs.Files.{AreFiles, addition_of, Refuses, are_same, is_there, file_at};
+ghost use Rattle.table_files.specs.Headers.{IsFile, is_load, kind_of_file, Shows};
+ghost use Rattle.table_files.specs.Files.{AreFiles, addition_of, Refuses, are_same, is_there, file_at, nth, load_of};
 
 use crate::fault::AddFault;
-use crate::headers::{FileImage, find_fault, image_of, kind_of_file};
+use crate::headers::{FileImage, find_fault, image_of, is_load, kind_of_file, load_in};
 use crate::kinds::TableKind;
 use fsw_outside::NoMemory;
 use std::alloc::Global;
@@ -79,6 +79,37 @@ impl Files {
     {
         image_of(&self.files[file as usize - 1])
     }
+
+    /// Address and bytes of the n-th load file, counted from 1 in the order of adding; None exactly where there is none.
+    pub fn load(&self, n: u32) -> Option<(u32, &[u8])>
+        ensures { option_map (λ load. (load.0, load.1.now)) result ≡ load_of self.now n }
+    {
+        match nth_load(&self.files, n) {
+            Some(file) => Some(load_in(file)),
+            None => None,
+        }
+    }
+}
+
+/// The n-th load file, counted from 1; none of the files has a fault.
+fn nth_load(files: &[Vec<u8>], n: u32) -> Option<&[u8]>
+    requires { All IsFile (map (λ file. file.items) files.now) }
+    ensures file { option_map (λ file. file.now) result ≡ nth (filter is_load (map (λ file. file.items) files.now)) n }
+    ensures load { IfSome result (λ file. IsFile file.now × (is_load file.now ≡ true)) }
+{
+    if n == 0 {
+        return None;
+    }
+    let mut before = n - 1;
+    for file in files {
+        if is_load(file) {
+            if before == 0 {
+                return Some(file);
+            }
+            before -= 1;
+        }
+    }
+    None
 }
 
 /// Whether a table of the file's kind is among the files. Neither has a fault.

@@ -1,7 +1,7 @@
 //! The headers of a file, and what it holds behind them.
 ghost use Rattle.std.specs.Prelude.{◌≡◌, ◌≤◌, ◌-◌, length, drop, false, IfOk, MatchResult, Some, None};
 ghost use Rattle.table_files.specs.Kinds.{named_kind};
-ghost use Rattle.table_files.specs.Headers.{content_type, subtype, table_offset, table_size, table_name, table_fault, file_fault_of, IsFile, is_load, kind_of_file, Shows};
+ghost use Rattle.table_files.specs.Headers.{content_type, subtype, table_offset, table_size, table_name, table_fault, file_fault_of, IsFile, is_load, kind_of_file, address_of_file, Shows};
 
 use crate::fault::FileFault;
 use crate::kinds::{TableKind, named_kind};
@@ -94,10 +94,8 @@ pub(crate) fn image_of(bytes: &[u8]) -> FileImage<'_>
     ensures { Shows bytes.now result }
 {
     if is_load(bytes) {
-        return FileImage::Load {
-            at: be32(bytes, 64),
-            bytes: behind(bytes, 80),
-        };
+        let (at, bytes) = load_in(bytes);
+        return FileImage::Load { at, bytes };
     }
     FileImage::Table {
         kind: kind_of(bytes),
@@ -129,6 +127,16 @@ fn kind_of(bytes: &[u8]) -> TableKind
     }
 }
 
+/// Address and bytes of a load file.
+#[tactic(auto, unfolding(crate::specs::Headers::address_of_file))]
+pub(crate) fn load_in(bytes: &[u8]) -> (u32, &[u8])
+    requires { 80 ≤ length bytes.now }
+    ensures at { result.0 ≡ address_of_file bytes.now }
+    ensures bytes { result.1.now ≡ drop 80 bytes.now }
+{
+    (be32(bytes, 64), behind(bytes, 80))
+}
+
 /// The bytes from a place on.
 fn behind(bytes: &[u8], at: usize) -> &[u8]
     requires { at ≤ length bytes.now }
@@ -139,7 +147,7 @@ fn behind(bytes: &[u8], at: usize) -> &[u8]
 
 /// Whether a file's bytes are to be loaded.
 #[tactic(auto, unfolding(crate::specs::Headers::is_load, crate::specs::Headers::subtype))]
-fn is_load(bytes: &[u8]) -> bool
+pub(crate) fn is_load(bytes: &[u8]) -> bool
     requires { 8 ≤ length bytes.now }
     ensures { result ≡ is_load bytes.now }
 {

@@ -9,4 +9,4 @@ image_of-requires c =
     let held : List (Vec ℕ Global) = c.self.inside.files.items in
     let size : length held ≡ length c.args.self.now = sym (length-map held (λ (f : Vec ℕ Global). f.items)) ∙ ap length c.self.view_is in
     let within : c.args.file - 1 < length held = omega arith in
-    subst IsFile (sym c.deref.ensures.value) (accepted_at held (c.args.file - 1) c.index.result.now c.self.invariant within c.index.ensures)
+    subst IsFile (sym c.deref.ensures.value) (accepted_at held (c.args.file - 1) c.index.result.now c.self.invariant.accepted within c.index.ensures)
