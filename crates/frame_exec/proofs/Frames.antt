@@ -1,5 +1,5 @@
 -- A run at one more frame.
-use Rattle.std.proofs.Common.{◌≡◌, ℕ, ◌+◌, ◌<◌, List, [], ◌∷◌, ◌++◌, length, refl, sym, ◌∙◌, ap, subst, fold, arith, add-zero, zero-add, true, false, All}
+use Rattle.std.proofs.Common.{◌≡◌, ℕ, ◌+◌, ◌<◌, List, [], ◌∷◌, ◌++◌, length, refl, sym, ◌∙◌, ap, subst, fold, arith, add-zero, zero-add, true, false, All, Box, Global}
 use Rattle.std.specs.List.{flat_map}
 use Rattle.std.proofs.lemmas.List.Sums.{fold_push}
 use Rattle.histories.specs.Words.{along}
@@ -12,6 +12,8 @@ use Rattle.bus_pipes.specs.declared.names.Dropped.{Dropped}
 use Rattle.memory_window.specs.Regions.{is_mapped}
 use Rattle.memory_window.specs.Memory.{Memory, regions_of, start_memory}
 use Rattle.memory_window.specs.declared.regions.Region.{Region}
+use Rattle.memory_window.specs.declared.operations.MemOp.{MemOp}
+use Rattle.memory_window.specs.Landing.{land}
 use Rattle.memory_window.proofs.Areas.{regions-changed, regions-cut}
 use Rattle.mm_core.specs.Standing.{Stands as MmStands}
 use Rattle.packet_log.specs.Items.{item_line}
@@ -20,10 +22,11 @@ use Rattle.packet_log.specs.Standing.{Stands as LogStands}
 use Rattle.scenario.specs.declared.frame.Upset.{Upset}
 use Rattle.scenario.specs.FrameLists.{Frame}
 use Rattle.frame_exec.specs.declared.bench.Bench.{Bench}
+use Rattle.mm_core.specs.declared.step.Mm.{Mm}
 use Rattle.frame_exec.specs.Sending.{upset_by}
-use Rattle.frame_exec.specs.Runs.{Setup, State, beginning, image_at, left_in_pipes, sent_at, offers_at, after_frame, run_of, frame_lines, log_of, lines_at}
+use Rattle.frame_exec.specs.Runs.{Setup, State, beginning, image_at, left_in_pipes, sent_at, offers_at, after_frame, run_of, frame_lines, log_of, lines_at, mm_after, operations_at}
 use Rattle.frame_exec.specs.Standing.{Has, Stands, CanRun}
-use Rattle.frame_exec.specs.Stages.{RunsIn}
+use Rattle.frame_exec.specs.Stages.{RunsIn, IsLanded}
 
 -- what a run has come to, at one more frame
 pub run_more : (setup : Setup) (frames : List Frame) (frame : Frame) → run_of setup (frames ++ frame ∷ []) ≡ after_frame setup (run_of setup frames) frame
@@ -89,22 +92,33 @@ pub frame_lines_are : (setup : Setup) (frames : List Frame) (frame : Frame) (lin
 unfolding frame_lines
 frame_lines_are setup frames frame lines is = is
 
+-- memory behind a frame, by its image and the operations that landed
+pub landed_is : (setup : Setup) (s : State) (frame : Frame) (ops : List MemOp) (image now : Memory) → now ≡ land [] ops image → ops ≡ operations_at setup s frame → image ≡ image_at s frame
+    → now ≡ land [] (operations_at setup s frame) (image_at s frame)
+landed_is setup s frame ops image now a b c = a ∙ ap (λ (xs : List MemOp). land [] xs image) b ∙ ap (λ (m : Memory). land [] (operations_at setup s frame) m) c
+
 -- the bench has what the run has come to after one more frame
-pub has_after : (b : Bench) (setup : Setup) (s : State) (frame : Frame) → b.number ≡ s.number + 1 → RunsIn setup s frame b → Has b (after_frame setup s frame)
+pub has_after : (before b : Bench) (setup : Setup) (s : State) (frame : Frame) → IsLanded before b → b.number ≡ s.number + 1 → RunsIn setup s frame before → Has b (after_frame setup s frame)
 unfolding after_frame
-has_after b setup s frame number ran = record { number = number; mm = ran.mm; pipes = ran.pipes; made = ran.made; memory = ran.memory }
+has_after before b setup s frame landed number ran = record {
+  number = number;
+  mm = subst (λ (state : Box Mm Global). MmStands (mm_after setup s frame) state.value) (sym landed.mm.state) ran.mm;
+  pipes = landed.pipes ∙ ran.pipes;
+  made = subst (LogStands _) (sym landed.log) ran.made;
+  memory = landed_is setup s frame before.mm.ops before.ram b.ram landed.memory ran.operations ran.memory;
+}
 
 -- a bench stands for one more frame
-pub stands_after : (b : Bench) (setup : Setup) (frames : List Frame) (frame : Frame) → b.epoch ≡ setup.epoch → b.failed ≡ false → b.number ≡ (run_of setup frames).number + 1
-    → RunsIn setup (run_of setup frames) frame b → Stands b setup (frames ++ frame ∷ [])
-stands_after b setup frames frame epoch well number ran = record {
+pub stands_after : (before b : Bench) (setup : Setup) (frames : List Frame) (frame : Frame) → b.epoch ≡ setup.epoch → b.failed ≡ false → b.number ≡ (run_of setup frames).number + 1
+    → IsLanded before b → RunsIn setup (run_of setup frames) frame before → Stands b setup (frames ++ frame ∷ [])
+stands_after before b setup frames frame epoch well number landed ran = record {
   epoch = epoch;
   well = well;
-  has = subst (Has b) (sym (run_more setup frames frame)) (has_after b setup (run_of setup frames) frame number ran);
+  has = subst (Has b) (sym (run_more setup frames frame)) (has_after before b setup (run_of setup frames) frame landed number ran);
 }
 
 -- a bench that was opened stands for no frames
-pub stands_opened : (b : Bench) (setup : Setup) → b.epoch ≡ setup.epoch → b.failed ≡ false → b.number ≡ 0 → MmStands [] b.mm.value → b.bus ≡ empty_pipes → LogStands [] b.log → b.ram ≡ start_memory setup.regions
+pub stands_opened : (b : Bench) (setup : Setup) → b.epoch ≡ setup.epoch → b.failed ≡ false → b.number ≡ 0 → MmStands [] b.mm.state.value → b.bus ≡ empty_pipes → LogStands [] b.log → b.ram ≡ start_memory setup.regions
     → Stands b setup []
 unfolding run_of beginning
 stands_opened b setup epoch well number mm pipes made memory = record {

@@ -13,14 +13,15 @@ pub sent_none : (made : List (List ℕ)) → sent_of made [] ≡ []
 unfolding sent_of
 sent_none made = along_none (λ before item. as_sent (made ++ flat_map makes before) item)
 
--- the front of the items, one longer
-pub sent_front : (made : List (List ℕ)) (items : List Out) (i : ℕ) (item sent : Out) (earlier now : List Out) → i < length items → item ≡ get_or items i item
-    → earlier ≡ sent_of made (take i items) → sent ≡ as_sent (made ++ flat_map makes (take i items)) item → now ≡ earlier ++ sent ∷ [] → now ≡ sent_of made (take (i + 1) items)
+-- the front of the items, one longer, behind items that were sent
+pub sent_front : (made : List (List ℕ)) (start items : List Out) (i : ℕ) (item sent : Out) (earlier now : List Out) → i < length items → item ≡ get_or items i item
+    → earlier ≡ start ++ sent_of made (take i items) → sent ≡ as_sent (made ++ flat_map makes (take i items)) item → now ≡ earlier ++ sent ∷ [] → now ≡ start ++ sent_of made (take (i + 1) items)
 unfolding sent_of
-sent_front made items i item sent earlier now within is before one more =
-    more ∙ ap (λ (xs : List Out). xs ++ sent ∷ []) before ∙ ap (λ (x : Out). along (λ front y. as_sent (made ++ flat_map makes front) y) (take i items) ++ x ∷ []) one
+sent_front made start items i item sent earlier now within is before one more =
+    more ∙ ap (λ (xs : List Out). xs ++ sent ∷ []) before ∙ append_assoc start (along (λ front y. as_sent (made ++ flat_map makes front) y) (take i items)) (sent ∷ [])
+    ∙ ap (λ (xs : List Out). start ++ xs) (ap (λ (x : Out). along (λ front y. as_sent (made ++ flat_map makes front) y) (take i items) ++ x ∷ []) one
     ∙ sym (along_more (λ front y. as_sent (made ++ flat_map makes front) y) (take i items) item)
-    ∙ ap (along (λ front y. as_sent (made ++ flat_map makes front) y)) (sym (front_more items i item within is))
+    ∙ ap (along (λ front y. as_sent (made ++ flat_map makes front) y)) (sym (front_more items i item within is)))
 
 -- the packets that the front of the items makes, one longer
 pub made_front : (made : List (List ℕ)) (items : List Out) (i : ℕ) (item : Out) (counts : List ℕ) → i < length items → item ≡ get_or items i item

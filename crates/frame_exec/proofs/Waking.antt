@@ -1,5 +1,5 @@
 -- What MM reads where it is woken on a window over memory.
-use Rattle.std.proofs.Common.{◌≡◌, ℕ, ◌+◌, Bool, true, false, List, [], ◌∷◌, ◌++◌, ◌∙◌, ap, subst, refl, All, fold}
+use Rattle.std.proofs.Common.{◌≡◌, ℕ, ◌+◌, Bool, true, false, List, [], ◌∷◌, ◌++◌, ◌∙◌, ap, refl, fold}
 use Rattle.std.specs.Prelude.{if◌then◌else◌}
 use Rattle.std.specs.List.{list_any}
 use Rattle.bus_pipes.specs.Pipes.{Pipes, with_packets}
@@ -11,29 +11,21 @@ use Rattle.scenario.specs.FrameLists.{Frame}
 use Rattle.frame_exec.specs.Sending.{is_same, left_in_pipe, upset_by}
 use Rattle.frame_exec.specs.Runs.{Setup, State, is_held, image_at, mm_input_at, mm_after, items_at, operations_at, left_in_pipes}
 use Rattle.memory_window.specs.Memory.{Memory}
-use Rattle.memory_window.specs.Access.{Admitted}
 use Rattle.memory_window.specs.Window.{seen}
 use Rattle.memory_window.specs.declared.window.Window.{Window}
-use Rattle.memory_window.specs.declared.operations.MemOp.{MemOp}
 use Rattle.mm_core.specs.Image.{image_of}
 use Rattle.mm_core.specs.Output.{Input as MmInput, mm_items, mm_operations}
 use Rattle.mm_core.specs.Standing.{input_of}
 
--- the input of a wakeup
-pub mm_read : (now : ℕ) (commands packets : List (List ℕ)) (window : Window) (memory : Memory) → commands ≡ packets → seen window ≡ memory
-    → input_of now commands window ≡ record { time = now; commands = packets; image = memory }
-unfolding image_of
-mm_read now commands packets window memory same shows = rw (same, shows) refl
-
--- operations that the window admits
-pub admitted_by : (window : Window) (memory : Memory) (ops : List MemOp) → seen window ≡ memory → All (Admitted (seen window)) ops → All (Admitted memory) ops
-admitted_by window memory ops shows all = subst (λ (m : Memory). All (Admitted m) ops) shows all
+-- the input of a wakeup, by the packets that were taken
+pub mm_read : (now : ℕ) (commands packets : List (List ℕ)) (window : Window) → commands ≡ packets → input_of now commands window ≡ input_of now packets window
+mm_read now commands packets window same = ap (λ (xs : List (List ℕ)). input_of now xs window) same
 
 -- what MM reads in a frame, by the bench's fields
-pub reads_at : (setup : Setup) (s : State) (frame : Frame) (epoch number : ℕ) (packets : List (List ℕ)) (ram : Memory) → epoch ≡ setup.epoch → number ≡ s.number → packets ≡ s.pipes.mm → ram ≡ image_at s frame
-    → ◌≡◌ {A = MmInput} (record { time = epoch + number; commands = packets; image = ram }) (mm_input_at setup s frame)
-unfolding mm_input_at
-reads_at setup s frame epoch number packets ram a b c d = rw (a, b, c, d) refl
+pub reads_at : (setup : Setup) (s : State) (frame : Frame) (now : ℕ) (packets : List (List ℕ)) (window : Window) (ram : Memory) → now ≡ setup.epoch + s.number → packets ≡ s.pipes.mm → seen window ≡ ram → ram ≡ image_at s frame
+    → input_of now packets window ≡ mm_input_at setup s frame
+unfolding mm_input_at image_of
+reads_at setup s frame now packets window ram a b c d = rw (a, b, c, d) refl
 
 -- whether an application is held, by a list of those that are
 pub held_is : (app : App) (frame : Frame) (held : List App) (result : Bool) → result ≡ list_any (is_same app) held → held ≡ frame.held → result ≡ is_held app frame

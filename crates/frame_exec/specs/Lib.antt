@@ -1,4 +1,5 @@
 pub mod Sending
 pub mod Runs
 pub mod Standing
+pub mod Slots
 pub mod Stages

@@ -7,12 +7,12 @@ use Rattle.scenario.specs.declared.progress.Header.{Header}
 use Rattle.scenario.specs.declared.frame.Upset.{Upset}
 use Rattle.scenario.specs.FrameLists.{Frame}
 use Rattle.frame_exec.specs.declared.bench.Bench.{Bench}
-use Rattle.frame_exec.specs.Runs.{Setup, State, run_of}
+use Rattle.frame_exec.specs.Runs.{Setup, State, image_at, run_of}
 
 -- the bench has what a run has come to
 pub record Has (b : Bench) (s : State) : Type 0 where
   pub number : b.number ≡ s.number
-  pub mm : MmStands s.mm b.mm.value
+  pub mm : MmStands s.mm b.mm.state.value
   pub pipes : b.bus ≡ s.pipes
   pub made : LogStands s.made b.log
   pub memory : b.ram ≡ s.memory
@@ -22,6 +22,10 @@ pub record Stands (b : Bench) (setup : Setup) (frames : List Frame) : Type 0 whe
   pub epoch : b.epoch ≡ setup.epoch
   pub well : b.failed ≡ false
   pub has : Has b (run_of setup frames)
+
+-- A frame behind these frames was interrupted, as its lines couldn't all be written: its upsets are in memory, and none of its operations is.
+pub record IsInterrupted (b : Bench) (setup : Setup) (frames : List Frame) (frame : Frame) : Type 0 where
+  pub memory : b.ram ≡ image_at (run_of setup frames) frame
 
 -- a further frame can be run: its time is a number of four bytes, and its upsets lie in the map
 pub record CanRun (setup : Setup) (frames : List Frame) (frame : Frame) : Type 0 where

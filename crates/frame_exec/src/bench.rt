@@ -2,20 +2,18 @@
 
 ghost use Rattle.std.specs.Prelude.{◌≡◌};
 
+use crate::mm_slot::MmSlot;
 use crate::stages::{
     deliver_sent, is_held, put_drops, put_items, stamp_all, take_others, upset_all,
 };
-use bus_pipes::{Batch, Bus, Drops, Outbox, PipeName};
+use bus_pipes::{Batch, Bus, Drops, Outbox};
 use fsw_outside::{Failed, Gate, NoMemory, Sink};
-use memory_window::{Ops, Ram};
-use mm_core::Mm;
+use memory_window::Ram;
 use packet_log::Log;
 use scenario::{App, FrameInput, Header};
 use std::alloc::Global;
 use std::thread::Threads;
 
-/// How many items MM gives in a frame at most.
-const MM_ITEMS: u32 = 272;
 /// How many items all applications give in a frame at most.
 const ITEMS: u32 = 1461;
 /// How many packets are dropped in a frame at most.
@@ -28,24 +26,19 @@ pub struct Bench {
     // one more than the last frame's number, which may be the largest of four bytes
     number: u64,
     failed: bool,
-    mm: Box<Mm>,
-    // the place of the state after the frame: the two places take turns, so that a state is copied once a frame
-    next_mm: Box<Mm>,
-    out: Outbox,
-    ops: Ops,
+    mm: MmSlot,
     sent: Outbox,
     drops: Drops,
     commands: Batch,
     bus: Bus,
     log: Log,
     ram: Ram,
-    ghost mm_room: { out.room ≡ 272 },
     ghost sent_room: { sent.room ≡ 1461 },
     ghost drops_room: { drops.room ≡ 1525 },
 }
 
 impl Bench {
-    ghost use Rattle.std.specs.Prelude.{ℕ, ◌+◌, ◌<◌, ◌≤◌, List, [], ◌∷◌, ◌++◌, true, All, IfOk, OnOk, is_err};
+    ghost use Rattle.std.specs.Prelude.{ℕ, ◌+◌, ◌<◌, ◌≤◌, List, [], ◌∷◌, ◌++◌, true, All, IfOk, OnOk, OnErr, is_err};
     ghost use Rattle.fsw_outside.specs.Told.{WhereTold};
     ghost use Rattle.fsw_outside.specs.Causes.{HasCause};
     ghost use Rattle.fsw_outside.specs.Written.{WritesAll};
@@ -54,8 +47,9 @@ impl Bench {
     ghost use Rattle.scenario.specs.declared.frame.Upset.{Upset};
     ghost use Rattle.scenario.specs.FrameLists.{Frame};
     ghost use Rattle.frame_exec.specs.Runs.{Setup, State, frame_lines};
-    ghost use Rattle.frame_exec.specs.Standing.{Has, Stands, CanRun, setup_in};
-    ghost use Rattle.frame_exec.specs.Stages.{IsSameRun, WakesMm, WakesIn, CanSend, Sends, RunsIn, lines_in};
+    ghost use Rattle.frame_exec.specs.Standing.{Has, Stands, IsInterrupted, CanRun, setup_in};
+    ghost use Rattle.frame_exec.specs.Slots.{CanLand};
+    ghost use Rattle.frame_exec.specs.Stages.{IsSameRun, WakesIn, CanSend, Sends, RunsIn, lines_in};
 
     /// A bench that stands for no frames, with the memory of the header's map. The number of workers is from 1 to 16.
     pub fn open(alloc: Global, header: &Header, workers: u32) -> Result<Bench, NoMemory>
@@ -67,10 +61,7 @@ impl Bench {
             epoch: header.epoch,
             number: 0,
             failed: false,
-            mm: Box::new(alloc, Mm::start())?,
-            next_mm: Box::new(alloc, Mm::start())?,
-            out: Outbox::open(alloc, MM_ITEMS)?,
-            ops: Ops::new(),
+            mm: MmSlot::open(alloc)?,
             sent: Outbox::open(alloc, ITEMS)?,
             drops: Drops::open(alloc, DROPS)?,
             commands: Batch::new(),
@@ -87,7 +78,7 @@ impl Bench {
         self.failed
     }
 
-    /// Runs a frame, and writes its lines.
+    /// Runs a frame, writes its lines, and lands its operations once all of them were written.
     pub fn frame<R: Threads + Sync, G: Gate, O: Sink>(
         &mut self,
         rt: &R,
@@ -99,6 +90,7 @@ impl Bench {
         ensures lines { (setup : Setup) (frames : List Frame) → Stands self.old setup frames
             → WhereTold (O.held sink.old) (O.held sink.new) (WritesAll result (frame_lines setup frames input.now)) }
         ensures stands { (setup : Setup) (frames : List Frame) → Stands self.old setup frames → OnOk result (Stands self.new setup (frames ++ input.now ∷ [])) }
+        ensures interrupted { (setup : Setup) (frames : List Frame) → Stands self.old setup frames → OnErr result (IsInterrupted self.new setup frames input.now) }
         ensures cause { HasCause (O.held sink.new) (O.faults sink.old) (O.faults sink.new) result }
         ensures failed { self.new.failed ≡ is_err result }
     {
@@ -107,6 +99,7 @@ impl Bench {
         self.run(input);
         match self.write(sink) {
             Ok(()) => {
+                self.ram.land(self.mm.ops.items());
                 self.number += 1;
                 Ok(())
             }
@@ -117,29 +110,6 @@ impl Bench {
         }
     }
 
-    // Wakes MM, unless it is held.
-    fn wake_mm(&mut self, held: bool)
-        requires empty { self.old.out.items ≡ [] }
-        requires no_ops { self.old.ops ≡ [] }
-        requires time { self.old.epoch + self.old.number < 4294967296 }
-        ensures wakes { WakesMm held self.old self.new }
-        ensures can_send { CanSend self.new }
-    {
-        if held {
-            return;
-        }
-        self.bus.take_all(PipeName::Mm, &mut self.commands);
-        self.mm.step(
-            self.commands.packets(),
-            self.ram.window(),
-            self.epoch + self.number as u32,
-            &mut self.next_mm,
-            &mut self.out,
-            &mut self.ops,
-        );
-        std::mem::swap(&mut self.mm, &mut self.next_mm);
-    }
-
     // Writes the frame's upsets, and wakes the applications on its image.
     fn wake(&mut self, input: &FrameInput)
         requires time { self.old.epoch + self.old.number < 4294967296 }
@@ -148,11 +118,17 @@ impl Bench {
         ensures run { IsSameRun self.old self.new }
         ensures can_send { CanSend self.new }
     {
-        self.out.clear();
-        self.ops.clear();
         upset_all(&mut self.ram, input.upsets());
-        self.wake_mm(is_held(App::Mm, input.held()));
-        take_others(&mut self.bus, input.held(), &mut self.commands);
+        let now = self.epoch + self.number as u32;
+        let held = input.held();
+        self.mm.wake(
+            is_held(App::Mm, held),
+            &mut self.bus,
+            &mut self.commands,
+            self.ram.window(),
+            now,
+        );
+        take_others(&mut self.bus, held, &mut self.commands);
     }
 
     // Gives the items their counts, and offers the frame's packets and theirs to the pipes.
@@ -161,7 +137,7 @@ impl Bench {
         ensures { Sends input.now.sends self.old self.new }
     {
         self.sent.clear();
-        stamp_all(&mut self.log, self.out.items(), &mut self.sent);
+        stamp_all(&mut self.log, self.mm.out.items(), &mut self.sent);
         self.drops.clear();
         self.bus.deliver(input.sends(), &mut self.drops);
         deliver_sent(&mut self.bus, self.sent.items(), &mut self.drops);
@@ -173,10 +149,10 @@ impl Bench {
         requires upsets { All (λ (u : Upset). is_mapped (regions_of self.old.ram.areas) u.at ≡ true) input.now.upsets }
         ensures runs { (setup : Setup) (s : State) → self.old.epoch ≡ setup.epoch → Has self.old s → RunsIn setup s input.now self.new }
         ensures run { IsSameRun self.old self.new }
+        ensures can_land { CanLand self.new.ram self.new.mm.ops }
     {
         self.wake(input);
         self.send(input);
-        self.ram.land(self.ops.items());
     }
 
     // Writes the lines of the frame that was run.

@@ -2,6 +2,7 @@
 #![tactic(auto)]
 
 mod bench;
+mod mm_slot;
 mod stages;
 
 pub use bench::Bench;

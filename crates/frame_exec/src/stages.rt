@@ -96,14 +96,13 @@ fn stamp(log: &mut Log, item: &Out) -> Out
     }
 }
 
-/// The items as they are sent.
+/// Puts the items as they are sent behind those that were sent.
 pub(crate) fn stamp_all(log: &mut Log, items: &[Out], sent: &mut Outbox)
     requires room { length sent.old.items + length items.now ≤ sent.old.room }
     requires counted { All (λ item. is_item_counted item ≡ true) items.now }
-    requires empty { sent.old.items ≡ [] }
-    ensures sent { (made : List (List ℕ)) → LogStands made log.old → sent.new.items ≡ sent_of made items.now }
+    ensures sent { (made : List (List ℕ)) → LogStands made log.old → sent.new.items ≡ sent.old.items ++ sent_of made items.now }
     ensures stands { (made : List (List ℕ)) → LogStands made log.old → LogStands (made ++ flat_map makes items.now) log.new }
-    ensures few { length sent.new.items ≡ length items.now }
+    ensures few { length sent.new.items ≡ length sent.old.items + length items.now }
     ensures room { sent.new.room ≡ sent.old.room }
 {
     'items: for item in items {

@@ -1,4 +1,4 @@
-use Rattle.std.proofs.Common.{ℕ, ◌+◌, List, [], ◌∷◌, ◌++◌, length, refl, sym, ◌∙◌, ap, subst, append-nil, arith, take_all}
+use Rattle.std.proofs.Common.{ℕ, List, [], ◌∷◌, ◌++◌, refl, sym, ◌∙◌, ap, subst, append-nil, arith, take_all}
 use Rattle.std.specs.List.{flat_map}
 use Rattle.bus_pipes.specs.Held.{Held}
 use Rattle.bus_pipes.specs.declared.names.Out.{Out}
@@ -10,18 +10,18 @@ use Rattle.frame_exec.proofs.stages.stamp_all.Goals as goal
 
 pub items-init : goal.items-init
 items-init c = record {
-  sent = λ made stands. c.requires.empty ∙ sym (sent_none made);
+  sent = λ made stands. sym (ap (λ (xs : List Out). c.args.sent.now.items ++ xs) (sent_none made) ∙ append-nil c.args.sent.now.items);
   stands = λ made stands. subst (λ (packets : List (List ℕ)). LogStands packets c.args.log.now) (sym (append-nil made)) stands;
-  few = ap length c.requires.empty;
+  few = omega arith;
   room = refl;
 }
 
 pub items-preserved : goal.items-preserved
 items-preserved c = record {
-  sent = λ made stands. sent_front made c.args.items.now c.items.item-index c.item-item.result c.stamp.result c.items.sent.items c.push.new.self.items c.items-test.true c.item-item.is
+  sent = λ made stands. sent_front made c.args.sent.now.items c.args.items.now c.items.item-index c.item-item.result c.stamp.result c.items.sent.items c.push.new.self.items c.items-test.true c.item-item.is
       (c.items.invariant.sent made stands) (c.stamp.ensures.sent _ (c.items.invariant.stands made stands)) (ap (λ (h : Held Out). h.items) c.push.ensures.after ∙ items-adding c.items.sent (c.stamp.result ∷ []));
   stands = λ made stands. made_front made c.args.items.now c.items.item-index c.item-item.result c.stamp.new.log c.items-test.true c.item-item.is (c.stamp.ensures.stands _ (c.items.invariant.stands made stands));
-  few = c.push.ensures.size ∙ ap (λ (n : ℕ). n + 1) c.items.invariant.few;
+  few = omega (arith, c.push.ensures.size, c.items.invariant.few);
   room = c.push.ensures.room ∙ c.items.invariant.room;
 }
 

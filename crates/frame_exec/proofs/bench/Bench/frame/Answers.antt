@@ -1,4 +1,8 @@
-use Rattle.std.proofs.Common.{ℕ, ◌+◌, List, ◌++◌, ◌∙◌, ap, subst, arith}
+use Rattle.std.proofs.Common.{ℕ, ◌+◌, List, [], ◌++◌, refl, sym, ◌∙◌, ap, subst, arith, All}
+use Rattle.memory_window.specs.Access.{Admitted}
+use Rattle.memory_window.specs.Operations.{IsBacked}
+use Rattle.memory_window.specs.Landing.{land}
+use Rattle.memory_window.specs.declared.operations.MemOp.{MemOp}
 use Rattle.fsw_outside.specs.Written.{AppendsPart}
 use Rattle.fsw_outside.proofs.Telling.{told_map}
 use Rattle.frame_exec.specs.Runs.{run_of}
@@ -32,11 +36,21 @@ returns-in-Ok-clause-lines g c = λ setup frames stands.
     (c.run.ensures.run.number ∙ stands.has.number) r.sent r.drops) in
     told_map c.in-Ok.ensures.content (λ before after written. written ∙ ap (λ (bytes : List ℕ). before ++ bytes) lines)
 
+pub land-requires-clause-admitted : goal.land-requires-clause-admitted
+land-requires-clause-admitted g c = subst (λ (ops : List MemOp). All (Admitted c.run.new.self.ram) ops) (sym c.items.ensures.items) c.run.ensures.can_land.admitted
+
+pub land-requires-clause-backed : goal.land-requires-clause-backed
+land-requires-clause-backed g c = subst (λ (ops : List MemOp). All (IsBacked []) ops) (sym c.items.ensures.items) c.run.ensures.can_land.backed
+
 pub returns-in-Ok-clause-stands : goal.returns-in-Ok-clause-stands
 returns-in-Ok-clause-stands g c = λ setup frames stands.
-    let r = c.run.ensures.runs setup (run_of setup frames) stands.epoch stands.has in
-    stands_after _ setup frames c.args.input.now (c.run.ensures.run.epoch ∙ stands.epoch) (c.run.ensures.run.failed ∙ stands.well)
-    (ap (λ (n : ℕ). n + 1) (c.run.ensures.run.number ∙ stands.has.number)) (record { mm = r.mm; sent = r.sent; drops = r.drops; pipes = r.pipes; made = r.made; memory = r.memory })
+    stands_after c.run.new.self _ setup frames c.args.input.now (c.run.ensures.run.epoch ∙ stands.epoch) (c.run.ensures.run.failed ∙ stands.well)
+    (ap (λ (n : ℕ). n + 1) (c.run.ensures.run.number ∙ stands.has.number))
+    (record { mm = record { state = refl; ops = refl }; pipes = refl; log = refl; memory = c.land.ensures.land ∙ ap (λ (ops : List MemOp). land [] ops c.run.new.self.ram) c.items.ensures.items })
+    (c.run.ensures.runs setup (run_of setup frames) stands.epoch stands.has)
+
+pub returns-in-Err-clause-interrupted : goal.returns-in-Err-clause-interrupted
+returns-in-Err-clause-interrupted g c = λ setup frames stands. record { memory = (c.run.ensures.runs setup (run_of setup frames) stands.epoch stands.has).memory }
 
 pub returns-in-Err-clause-lines : goal.returns-in-Err-clause-lines
 returns-in-Err-clause-lines g c = λ setup frames stands.

@@ -11,7 +11,7 @@ use Rattle.frame_exec.proofs.bench.Bench.send.Goals as goal
 pub returns : goal.returns
 returns c = record {
   run = record { epoch = refl; number = refl; failed = refl };
-  sent = λ made stands. c.stamp_all.ensures.sent made stands ∙ ap (sent_of made) c.items.ensures;
+  sent = λ made stands. c.stamp_all.ensures.sent made stands ∙ ap (λ (xs : List Out). xs ++ sent_of made c.items.result.now) c.clear.ensures.none ∙ ap (sent_of made) c.items.ensures;
   made = λ made stands. subst (λ (items : List Out). LogStands (made ++ flat_map makes items) c.stamp_all.new.log) c.items.ensures (c.stamp_all.ensures.stands made stands);
   pipes = c.deliver_sent.ensures.after ∙ ap (λ (items : List Out). after_offers c.deliver.new.self (flat_map packet_in items)) c.items-2.ensures
       ∙ ap (λ (pipes : Pipes). after_offers pipes (flat_map packet_in c.stamp_all.new.sent.items)) (c.deliver.ensures.after ∙ ap (after_offers c.args.self.now.bus) c.sends.ensures.value);
@@ -19,7 +19,6 @@ returns c = record {
       ∙ ap (λ (packets : List (List ℕ)). drops_from c.args.self.now.bus packets ++ drops_from c.deliver.new.self (flat_map packet_in c.items-2.result.now)) c.sends.ensures.value
       ∙ ap (λ (pipes : Pipes). drops_from c.args.self.now.bus c.args.input.now.sends ++ drops_from pipes (flat_map packet_in c.items-2.result.now)) (c.deliver.ensures.after ∙ ap (after_offers c.args.self.now.bus) c.sends.ensures.value)
       ∙ ap (λ (items : List Out). drops_from c.args.self.now.bus c.args.input.now.sends ++ drops_from (after_offers c.args.self.now.bus c.args.input.now.sends) (flat_map packet_in items)) c.items-2.ensures;
-  mm = refl;
-  operations = refl;
+  mm = record { state = refl; ops = refl };
   memory = refl;
 }
