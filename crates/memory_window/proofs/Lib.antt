@@ -3,3 +3,4 @@ pub mod Parts
 pub mod Areas
 pub mod Soundness
 pub mod BankLaws
+pub mod Given

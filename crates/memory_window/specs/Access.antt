@@ -1,13 +1,14 @@
 -- Access: what a read or an operation meets, and the fault that it has.
-use Rattle.std.specs.Prelude.{◌≡◌, ℕ, zero, suc, ◌/◌, ◌%◌, ◌^◌, ◌<◌, Bool, false, not, ◌&&◌, ◌||◌, nat_eq, IsTrue, List, ◌∷◌, length, Option, None, Some, IsSome, Result, Ok, Err, slice_get, if◌then◌else◌}
+use Rattle.std.specs.Prelude.{◌≡◌, ℕ, zero, suc, ◌/◌, ◌%◌, ◌^◌, ◌<◌, Bool, false, not, ◌&&◌, ◌||◌, nat_eq, IsTrue, List, ◌∷◌, length, Option, None, Some, IsSome, Result, Ok, Err, is_ok, slice_get, if◌then◌else◌}
 use Rattle.memory_window.specs.declared.access.AccessFault.{AccessFault}
 use Rattle.memory_window.specs.declared.access.AccessFault.TheVariants.{Outside, Unaligned, WrongSize, Protected}
 use Rattle.memory_window.specs.declared.operations.MemOp.{MemOp}
 use Rattle.memory_window.specs.declared.operations.MemOp.TheVariants.{Poke, Fill, Bytes, FromFile, Protect}
 use Rattle.memory_window.specs.Numbers.{number_of}
 use Rattle.memory_window.specs.Operations.{is_size}
+use Rattle.memory_window.specs.declared.regions.Region.{Region}
 use Rattle.memory_window.specs.Regions.{allows, unit_of, spans, is_eeprom}
-use Rattle.memory_window.specs.Memory.{Area, Memory, home, part_of}
+use Rattle.memory_window.specs.Memory.{Area, Memory, home, part_of, start_memory}
 
 -- a read of so many bits at an address, in the area in which its bytes lie
 abbrev pub read_in : ℕ → ℕ → Option Area → Result ℕ AccessFault
@@ -29,6 +30,14 @@ bytes_in at len (Some r) =
 -- what the bytes of a range are
 abbrev pub bytes_of : Memory → ℕ → ℕ → Result (List ℕ) AccessFault
 bytes_of image at len = bytes_in at len (home image.areas at len)
+
+-- whether memory of these regions gives a read of so many bits at an address, whatever its bytes are
+unfoldable pub gives_read : List Region → ℕ → ℕ → Bool
+gives_read regions size at = is_ok (read_of size (start_memory regions) at)
+
+-- whether memory of these regions gives the bytes of a range, whatever they are
+unfoldable pub gives_bytes : List Region → ℕ → ℕ → Bool
+gives_bytes regions at len = is_ok (bytes_of (start_memory regions) at len)
 
 -- a region's flag, where it is an EEPROM region
 abbrev pub flag_of : Option Area → Option Bool → Option Bool

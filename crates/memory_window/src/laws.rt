@@ -1,10 +1,11 @@
 //! Laws of the definitions, for the crates above and for the reader.
-ghost use Rattle.std.specs.Prelude.{◌≡◌, ℕ, ◌+◌, ◌*◌, ◌<◌, List, None, length, get_or, option_map, nat_eq, IsTrue, if◌then◌else◌};
+ghost use Rattle.std.specs.Prelude.{◌≡◌, ℕ, ◌+◌, ◌*◌, ◌<◌, List, None, true, is_ok, Ok, length, get_or, option_map, nat_eq, IsTrue, if◌then◌else◌};
 ghost use Rattle.memory_window.specs.declared.regions.Region.{Region};
 ghost use Rattle.memory_window.specs.declared.operations.MemOp.{MemOp};
 ghost use Rattle.memory_window.specs.Regions.{blank, holds, map_fault_of};
 ghost use Rattle.memory_window.specs.Memory.{Memory, byte_at, each_from, regions_of, upset_at};
 ghost use Rattle.memory_window.specs.Landing.{land, landed};
+ghost use Rattle.memory_window.specs.Access.{read_of, bytes_of, gives_read, gives_bytes};
 ghost use Rattle.memory_window.specs.Banks.{bank_size, bank_of, bank_holds, bank_at};
 
 /// Of the regions of a map at most one has an address.
@@ -35,4 +36,18 @@ pub fn each_address_has_one_bank()
 #[tactic(auto, using(crate::proofs::BankLaws::bank_alone))]
 pub fn banks_land_alone()
     ensures { (files : List (List ℕ)) → (ops : List MemOp) → (at n : ℕ) → (bytes : List ℕ) → bank_of n (each_from (landed files ops) at bytes) ≡ each_from (landed files ops) (at + n * bank_size) (bank_of n bytes) }
+{}
+
+/// Whether memory gives a read or a range depends on its regions alone.
+#[tactic(auto, using(crate::proofs::Given::read_given, crate::proofs::Given::bytes_given))]
+pub fn what_is_given_is_by_regions()
+    ensures read { (image : Memory) → (size at : ℕ) → is_ok (read_of size image at) ≡ gives_read (regions_of image.areas) size at }
+    ensures bytes { (image : Memory) → (at len : ℕ) → is_ok (bytes_of image at len) ≡ gives_bytes (regions_of image.areas) at len }
+{}
+
+/// A read or a range that the regions give has a value.
+#[tactic(auto, using(crate::proofs::Given::read_value, crate::proofs::Given::range_bytes))]
+pub fn what_is_given_has_a_value()
+    ensures read { (image : Memory) → (size at : ℕ) → gives_read (regions_of image.areas) size at ≡ true → (value : ℕ) × (read_of size image at ≡ Ok value) }
+    ensures bytes { (image : Memory) → (at len : ℕ) → gives_bytes (regions_of image.areas) at len ≡ true → (bytes : List ℕ) × (bytes_of image at len ≡ Ok bytes) }
 {}

@@ -148,7 +148,8 @@ impl<'a> Window<'a> {
     /// The `len` bytes from `at` on. Nothing is copied.
     pub fn bytes(self, at: u32, len: u32) -> Result<&'a [u8], AccessFault>
         requires { 0 < len }
-        ensures { MatchResult result (λ bytes. bytes_of (seen self.entry) at len ≡ Ok bytes.now) (λ fault. bytes_of (seen self.entry) at len ≡ Err fault) }
+        ensures bytes { MatchResult result (λ bytes. bytes_of (seen self.entry) at len ≡ Ok bytes.now) (λ fault. bytes_of (seen self.entry) at len ≡ Err fault) }
+        ensures len { IfOk result (λ bytes. length bytes.now ≡ len) }
     {
         let part = self.reach_range(at, len)?;
         let from = (at - part.region.start) as usize;
