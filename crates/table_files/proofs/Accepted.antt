@@ -1,12 +1,13 @@
 -- What follows for a file from its having no fault.
-use Rattle.std.proofs.Common.{◌≡◌, ℕ, ◌≤◌, ◌-◌, Bool, true, false, List, [], ◌∷◌, length, drop, refl, sym, ap, ◌∙◌, arith, cond, subst, lit≤, Option, Some, None, length-drop}
+use Rattle.std.proofs.Common.{◌↔◌, IsTrue, ◌≡◌, ℕ, ◌≤◌, ◌-◌, Bool, true, false, List, [], ◌∷◌, length, drop, refl, sym, ap, ◌∙◌, arith, cond, subst, lit≤, Option, Some, None, length-drop}
 use Rattle.std.specs.Prelude.{◌&&◌, not, is_none}
 use Rattle.std.proofs.lemmas.Grind.{common_steps}
 use Rattle.std.proofs.lemmas.Bool.Decides.{nat_tests}
+use Rattle.table_files.specs.declared.fault.FileFault.{FileFault}
 use Rattle.table_files.specs.declared.kinds.TableKind.{TableKind}
 use Rattle.table_files.specs.declared.kinds.TableKind.TheVariants.{Dwell, Eeprom, Memory}
 use Rattle.table_files.specs.Kinds.{IsTable, fits_kind, is_padded, named_kind, kind_among, known_tables, KnownTable}
-use Rattle.table_files.specs.Headers.{table_name, table_size, table_fault, file_fault_of, is_load, kind_of_file, payload_of_file, address_of_file, IsTableFile, IsLoadFile}
+use Rattle.table_files.specs.Headers.{table_name, table_size, table_fault, file_fault_of, is_load, kind_of_file, payload_of_file, address_of_file, IsTableFile, IsLoadFile, IsTableOf}
 
 -- it has both headers of a table
 pub long : (file : List ℕ) → file_fault_of file ≡ None → 116 ≤ length file
@@ -29,6 +30,12 @@ unnamed (Some kind) said size ok none = let wrong : ⊥ = cc in wrong
 
 sized : (kind : TableKind) (said size : ℕ) → table_fault (Some kind) said size ≡ None → fits_kind kind size ≡ true
 sized kind said size ok = grind (arith, common_steps)
+
+said_size : (kind : TableKind) (said size : ℕ) → table_fault (Some kind) said size ≡ None → said ≡ size
+said_size kind said size ok = grind (arith, common_steps)
+
+none_of_size : (kind : TableKind) (said size : ℕ) → said ≡ size → IsTrue (fits_kind kind size) → table_fault (Some kind) said size ≡ None
+none_of_size kind said size is fits = grind (arith, common_steps)
 
 -- its name is known
 pub named : (file : List ℕ) → file_fault_of file ≡ None → named_kind (table_name file) ≡ None → ⊥
@@ -103,3 +110,55 @@ load_file file at bytes load said is = record {
 pub loaded_bytes : (file : List ℕ) → is_load file ≡ true → payload_of_file file ≡ drop 80 file
 unfolding payload_of_file
 loaded_bytes file load = rw load refl
+
+-- the headers of a file without a fault
+pub headers_of : (file : List ℕ) (kind : TableKind) → file_fault_of file ≡ None → named_kind (table_name file) ≡ Some kind → IsTableOf file kind
+unfolding file_fault_of
+headers_of file kind ok name =
+    let fault : table_fault (Some kind) (table_size file) (length file - 116) ≡ None = ap (λ (k : Option TableKind). table_fault k (table_size file) (length file - 116)) (sym name) ∙ table_accepted file ok in
+    record {
+      long = long file ok;
+      content = grind (arith, common_steps);
+      sort = grind (arith, common_steps);
+      whole = grind (arith, common_steps);
+      name = name;
+      said = said_size kind (table_size file) (length file - 116) fault;
+      fits = grind (arith, common_steps, sized kind (table_size file) (length file - 116) fault);
+    }
+
+-- headers of a table leave no fault
+pub no_fault : (file : List ℕ) (kind : TableKind) → IsTableOf file kind → file_fault_of file ≡ None
+unfolding file_fault_of
+no_fault file kind is =
+    let long = is.long in let content = is.content in let sort = is.sort in let whole = is.whole in
+    let last : table_fault (named_kind (table_name file)) (table_size file) (length file - 116) ≡ None = rw is.name (none_of_size kind (table_size file) (length file - 116) is.said is.fits) in
+    grind (arith, nat_tests)
+
+has_name : (file : List ℕ) (k : Option TableKind) → file_fault_of file ≡ None → named_kind (table_name file) ≡ k → (kind : TableKind) × IsTableOf file kind
+has_name file None ok is = absurd (named file ok is)
+has_name file (Some kind) ok is = (kind, headers_of file kind ok is)
+
+-- a file without a fault is a table
+pub some_table : (file : List ℕ) → file_fault_of file ≡ None → (kind : TableKind) × IsTableOf file kind
+some_table file ok = has_name file (named_kind (table_name file)) ok refl
+
+-- a file of a kind has no fault
+pub kind_accepted : (file : List ℕ) (kind : TableKind) → kind_of_file file ≡ Some kind → file_fault_of file ≡ None
+unfolding kind_of_file
+kind_accepted file kind is = by_fault (file_fault_of file) is
+  where
+    by_fault : (fault : Option FileFault) → cond (is_none fault && not (is_load file)) (named_kind (table_name file)) None ≡ Some kind → fault ≡ None
+    by_fault None is = refl
+    by_fault (Some fault) is = let wrong : ⊥ = cc in absurd wrong
+
+pub kind_has_headers : (file : List ℕ) (kind : TableKind) → (kind_of_file file ≡ Some kind) ↔ IsTableOf file kind
+kind_has_headers file kind = (
+  λ is. let ok = kind_accepted file kind is in headers_of file kind ok (sym (kind_named file ok) ∙ is),
+  λ is. kind_named file (no_fault file kind is) ∙ is.name,
+)
+
+pub size_of_kind : (file : List ℕ) (kind : TableKind) → kind_of_file file ≡ Some kind → IsTable kind (length (payload_of_file file))
+unfolding payload_of_file
+size_of_kind file kind is =
+    let ok = kind_accepted file kind is in
+    rw (no_load file ok) (table_file file kind (drop 116 file) ok is refl).size

@@ -1,5 +1,5 @@
 -- Lists of files: a file of the list, one file more, and tables that are there already.
-use Rattle.std.proofs.Common.{All, ◌≡◌, ℕ, ◌<◌, Bool, true, false, List, [], ◌∷◌, ◌++◌, length, map, get_or, refl, sym, ap, subst, ◌∙◌, arith, zero, suc, Option, Some, None, length-append, Vec, Global}
+use Rattle.std.proofs.Common.{eq-eqb, All, ◌≡◌, ℕ, ◌<◌, Bool, true, false, List, [], ◌∷◌, ◌++◌, length, map, get_or, refl, sym, ap, subst, ◌∙◌, arith, zero, suc, Option, Some, None, length-append, Vec, Global}
 use Rattle.std.specs.Prelude.{◌||◌, filter, option_map}
 use Rattle.std.specs.List.{list_any}
 use Rattle.std.proofs.lemmas.List.{get_or-map, length-map}
@@ -9,6 +9,8 @@ use Rattle.std.proofs.lemmas.Grind.{common_steps}
 use Rattle.table_files.specs.declared.fault.FileFault.{FileFault}
 use Rattle.table_files.specs.declared.fault.AddFault.TheVariants.{File, Twice}
 use Rattle.table_files.specs.declared.kinds.TableKind.{TableKind}
+use Rattle.table_files.specs.declared.kinds.TableKind.TheVariants.{AppMon, EventMon, ExeCount, MsgActs, Ats, Rts, Dwell, Eeprom, Memory}
+use Rattle.table_files.specs.Kinds.{is_same_kind}
 use Rattle.table_files.specs.Headers.{file_fault_of, IsFile, is_load, kind_of_file}
 use Rattle.table_files.specs.Files.{are_same, are_same_table, is_there, has_twice, addition_of, load_in, nth, load_of, AreFiles}
 
@@ -85,3 +87,45 @@ pub load_there : (held lent : List (Vec ℕ Global)) (files : List (List ℕ)) (
     → found ≡ nth (filter is_load (map (λ f. f.items) lent)) n → option_map load_in found ≡ load_of files n
 unfolding load_of
 load_there held lent files n found view is same = rw (← view, same, is) refl
+
+-- a kind is the same as itself
+same_self : (kind : TableKind) → is_same_kind kind kind ≡ true
+unfolding is_same_kind
+same_self AppMon = refl
+same_self EventMon = refl
+same_self ExeCount = refl
+same_self MsgActs = refl
+same_self (Ats n) = eq-eqb n n refl
+same_self (Rts n) = eq-eqb n n refl
+same_self (Dwell n) = eq-eqb n n refl
+same_self Eeprom = refl
+same_self Memory = refl
+
+same_tables : (file other : List ℕ) (kind : TableKind) → kind_of_file file ≡ Some kind → kind_of_file other ≡ Some kind → are_same_table file other ≡ true
+same_tables file other kind is also = rw (is, also) (same_self kind)
+
+any_false : {X : Type 0} (p : X → Bool) (xs : List X) (d : X) (j : ℕ) → list_any p xs ≡ false → j < length xs → p (get_or xs j d) ≡ false
+any_false p [] d j none lt = absurd (omega arith)
+any_false p (x ∷ xs) d zero none lt = grind (arith, common_steps)
+any_false p (x ∷ xs) d (suc j) none lt = any_false p xs d j (grind (arith, common_steps)) (omega arith)
+
+-- a table and a later one have different kinds
+apart : (files : List (List ℕ)) (i j : ℕ) (kind : TableKind) → has_twice files ≡ false → i < j → j < length files
+    → kind_of_file (get_or files i []) ≡ Some kind → kind_of_file (get_or files j []) ≡ Some kind → ⊥
+apart [] i j kind once before within is also = omega arith
+apart (file ∷ files) i zero kind once before within is also = omega arith
+apart (file ∷ files) zero (suc j) kind once before within is also =
+    let rest : list_any (are_same_table file) files ≡ false = grind (arith, common_steps) in
+    let no : are_same_table file (get_or files j []) ≡ false = any_false (are_same_table file) files [] j rest (omega arith) in
+    let yes : are_same_table file (get_or files j []) ≡ true = same_tables file (get_or files j []) kind is also in
+    let wrong : true ≡ false = sym yes ∙ no in
+    absurd (cc)
+apart (file ∷ files) (suc i) (suc j) kind once before within is also = apart files i j kind (grind (arith, common_steps)) (omega arith) (omega arith) is also
+
+-- of the files at most one is a table of a kind
+pub one_of_kind : (files : List (List ℕ)) (i j : ℕ) (kind : TableKind) → has_twice files ≡ false → i < length files → j < length files
+    → kind_of_file (get_or files i []) ≡ Some kind → kind_of_file (get_or files j []) ≡ Some kind → i ≡ j
+one_of_kind files i j kind once within also_within is also =
+    let not_before : ¬ (i < j) = λ lt. apart files i j kind once lt also_within is also in
+    let not_behind : ¬ (j < i) = λ lt. apart files j i kind once lt within also is in
+    omega arith

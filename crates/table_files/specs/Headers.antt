@@ -1,5 +1,5 @@
 -- Files: their headers (made after the cFE's), and the first fault that they have.
-use Rattle.std.specs.Prelude.{◌≡◌, ℕ, ◌-◌, ◌==◌, Bool, not, ◌&&◌, nat_lt, if◌then◌else◌, List, length, take, drop, Option, Some, None, is_none}
+use Rattle.std.specs.Prelude.{◌≡◌, ℕ, ◌-◌, ◌≤◌, IsTrue, ◌==◌, Bool, not, ◌&&◌, nat_lt, if◌then◌else◌, List, length, take, drop, Option, Some, None, is_none}
 use Rattle.packet_forms.specs.Numbers.{be32_at}
 use Rattle.table_files.specs.declared.fault.FileFault.{FileFault}
 use Rattle.table_files.specs.declared.fault.FileFault.TheVariants.{Short, ContentType, Subtype, Partial, Name, Size}
@@ -43,6 +43,16 @@ file_fault_of file =
 -- a file has no fault
 abbrev pub IsFile : List ℕ → Type 0
 IsFile file = file_fault_of file ≡ None
+
+-- a file has the headers of a known table, and as many bytes behind them as they and the table say
+pub record IsTableOf (file : List ℕ) (kind : TableKind) : Type 0 where
+  pub long : 116 ≤ length file
+  pub content : content_type file ≡ 0x63464531
+  pub sort : subtype file ≡ 8
+  pub whole : table_offset file ≡ 0
+  pub name : named_kind (table_name file) ≡ Some kind
+  pub said : table_size file ≡ length file - 116
+  pub fits : IsTrue (fits_kind kind (length file - 116))
 
 -- whether a file's bytes are to be loaded into memory, where it has no fault
 unfoldable pub is_load : List ℕ → Bool
