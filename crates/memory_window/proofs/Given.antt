@@ -1,11 +1,12 @@
 -- Whether memory gives a read or a range depends on its regions alone.
-use Rattle.std.proofs.Common.{◌≡◌, ℕ, ◌/◌, ◌%◌, Bool, true, false, not, ◌||◌, nat_eq, List, [], ◌∷◌, find, Option, None, Some, Result, Ok, Err, option_map, refl, sym, ap, ◌∙◌, if◌then◌else◌}
+use Rattle.std.proofs.Common.{◌≡◌, ℕ, ◌/◌, ◌%◌, Bool, true, false, not, ◌||◌, ◌&&◌, nat_eq, List, [], ◌∷◌, find, Option, None, Some, Result, Ok, Err, option_map, refl, sym, ap, ◌∙◌, if◌then◌else◌}
 use Rattle.std.specs.Prelude.{is_ok}
 use Rattle.memory_block.specs.Zeros.{zeros}
 use Rattle.memory_window.specs.declared.access.AccessFault.{AccessFault}
 use Rattle.memory_window.specs.declared.regions.Region.{Region}
 use Rattle.memory_window.specs.Regions.{allows, unit_of, spans, total_of}
 use Rattle.memory_window.specs.Memory.{Area, Memory, home, regions_of, start_memory}
+use Rattle.memory_window.specs.Fitting.{read_fits, bytes_fit}
 use Rattle.memory_window.specs.Access.{read_in, read_of, bytes_in, bytes_of, gives_read, gives_bytes}
 use Rattle.memory_window.proofs.Areas.{regions-cut}
 
@@ -22,32 +23,23 @@ home-region : (areas : List Area) (at n : ℕ) → option_map (λ (r : Area). r.
 home-region [] at n = refl
 home-region (r ∷ areas) at n = found-region r (home areas at n) (region_at (regions_of areas) at n) (spans at n r.region) (home-region areas at n)
 
--- whether a read is given, by the region in which it lies
-abbrev read_fits : ℕ → ℕ → Option Region → Bool
-read_fits size at None = false
-read_fits size at (Some r) = if not (nat_eq (at % (size / 8)) 0) then false else if not (allows r.kind size) then false else true
-
 read-fits : (size at : ℕ) (found : Option Area) → is_ok (read_in size at found) ≡ read_fits size at (option_map (λ (r : Area). r.region) found)
 read-fits size at None = refl
-read-fits size at (Some r) = by_case (not (nat_eq (at % (size / 8)) 0)) (not (allows r.region.kind size)) _
+read-fits size at (Some r) = by_case (nat_eq (at % (size / 8)) 0) (allows r.region.kind size) _
   where
-    by_case : (a b : Bool) (v : ℕ) → is_ok (if a then Err AccessFault.Unaligned else if b then Err AccessFault.WrongSize else Ok v) ≡ (if a then false else if b then false else true)
-    by_case true b v = refl
-    by_case false true v = refl
-    by_case false false v = refl
-
--- whether a range is given, by the region in which it lies
-abbrev bytes_fit : ℕ → ℕ → Option Region → Bool
-bytes_fit at len None = false
-bytes_fit at len (Some r) = if not (nat_eq (at % unit_of r.kind) 0) || not (nat_eq (len % unit_of r.kind) 0) then false else true
+    by_case : (a b : Bool) (v : ℕ) → is_ok (if not a then Err AccessFault.Unaligned else if not b then Err AccessFault.WrongSize else Ok v) ≡ (a && b)
+    by_case false b v = refl
+    by_case true false v = refl
+    by_case true true v = refl
 
 bytes-fit : (at len : ℕ) (found : Option Area) → is_ok (bytes_in at len found) ≡ bytes_fit at len (option_map (λ (r : Area). r.region) found)
 bytes-fit at len None = refl
-bytes-fit at len (Some r) = by_case (not (nat_eq (at % unit_of r.region.kind) 0) || not (nat_eq (len % unit_of r.region.kind) 0)) _
+bytes-fit at len (Some r) = by_case (nat_eq (at % unit_of r.region.kind) 0) (nat_eq (len % unit_of r.region.kind) 0) _
   where
-    by_case : (a : Bool) (bytes : List ℕ) → is_ok (if a then Err AccessFault.Unaligned else Ok bytes) ≡ (if a then false else true)
-    by_case true bytes = refl
-    by_case false bytes = refl
+    by_case : (a b : Bool) (bytes : List ℕ) → is_ok (if not a || not b then Err AccessFault.Unaligned else Ok bytes) ≡ (a && b)
+    by_case false b bytes = refl
+    by_case true false bytes = refl
+    by_case true true bytes = refl
 
 start-regions : (regions : List Region) → regions_of (start_memory regions).areas ≡ regions
 start-regions regions = regions-cut regions (zeros (total_of regions))
@@ -91,3 +83,17 @@ read_value_by regions image size at same h = read_value image size at (ap (λ (r
 
 pub range_bytes_by : (regions : List Region) (image : Memory) (at len : ℕ) → regions_of image.areas ≡ regions → gives_bytes regions at len ≡ true → (bytes : List ℕ) × (bytes_of image at len ≡ Ok bytes)
 range_bytes_by regions image at len same h = range_bytes image at len (ap (λ (rs : List Region). gives_bytes rs at len) same ∙ h)
+
+-- whether memory of regions gives a read, by the region in which it lies
+pub gives_read_is : (regions : List Region) (size at : ℕ) (found : Option Region) (fits : Bool) → found ≡ find (spans at (size / 8)) regions → fits ≡ read_fits size at found → fits ≡ gives_read regions size at
+unfolding gives_read
+gives_read_is regions size at found fits is by =
+    by ∙ ap (read_fits size at) (is ∙ sym (home-region (start_memory regions).areas at (size / 8) ∙ ap (λ (rs : List Region). region_at rs at (size / 8)) (start-regions regions)))
+    ∙ sym (read-fits size at (home (start_memory regions).areas at (size / 8)))
+
+-- whether memory of regions gives a range, by the region in which it lies
+pub gives_bytes_is : (regions : List Region) (at len : ℕ) (found : Option Region) (fits : Bool) → found ≡ find (spans at len) regions → fits ≡ bytes_fit at len found → fits ≡ gives_bytes regions at len
+unfolding gives_bytes
+gives_bytes_is regions at len found fits is by =
+    by ∙ ap (bytes_fit at len) (is ∙ sym (home-region (start_memory regions).areas at len ∙ ap (λ (rs : List Region). region_at rs at len) (start-regions regions)))
+    ∙ sym (bytes-fit at len (home (start_memory regions).areas at len))

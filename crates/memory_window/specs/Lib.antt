@@ -3,6 +3,7 @@ pub mod Operations
 pub mod Memory
 pub mod Landing
 pub mod Numbers
+pub mod Fitting
 pub mod Access
 pub mod Window
 pub mod Banks

@@ -3,6 +3,7 @@
 
 mod access;
 mod chunk;
+mod giving;
 mod landing;
 pub mod laws;
 mod operations;

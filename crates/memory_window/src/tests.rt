@@ -341,3 +341,35 @@ fn map_shows_its_regions(rt: HostRuntime) {
     assert!(rt; map.is_mapped(0x100F) && !map.is_mapped(0x1010) && is_mapped(&KINDS, 0xFFFF_FFFF));
     assert!(rt; is_size(16) && !is_size(24));
 }
+
+#[test]
+fn map_says_what_memory_gives(rt: HostRuntime) {
+    let regions = [
+        Region {
+            kind: Kind::Ram,
+            start: 0x1000,
+            len: 256,
+        },
+        Region {
+            kind: Kind::Mem16,
+            start: 0x2000,
+            len: 64,
+        },
+    ];
+    let map = Map::new(&regions).expect(&rt, "a map");
+    assert!(rt;
+        map.gives_read(32, 0x10FC) && !map.gives_read(32, 0x10FE) && !map.gives_read(8, 0x0FFF)
+    );
+    assert!(rt;
+        map.gives_read(16, 0x2002) && !map.gives_read(8, 0x2002) && !map.gives_read(16, 0x10FD)
+    );
+    for (at, len, given) in [
+        (0x1000, 256, true),
+        (0x1000, 257, false),
+        (0x2001, 2, false),
+        (0x2002, 3, false),
+        (0x2002, 4, true),
+    ] {
+        assert_eq!(rt; map.gives_bytes(at, len), given);
+    }
+}
