@@ -15,8 +15,8 @@ use Rattle.table_files.specs.Headers.{file_fault_of, IsFile, is_load, kind_of_fi
 use Rattle.table_files.specs.Files.{are_same, are_same_table, is_there, has_twice, addition_of, load_in, nth, load_of, AreFiles}
 
 -- a file of the list has no fault
-pub accepted_at : (held : List (Vec ℕ Global)) (i : ℕ) (file : Vec ℕ Global) → All IsFile (map (λ f. f.items) held) → i < length held → file ≡ get_or held i file → IsFile file.items
-accepted_at held i file files within found =
+pub accepted_at : (held : List (Vec ℕ Global)) (i : ℕ) (file : Vec ℕ Global) → All IsFile (map (λ f. f.items) held) → file ≡ get_or held i file → i < length held → IsFile file.items
+accepted_at held i file files found within =
     let there : get_or (map (λ (f : Vec ℕ Global). f.items) held) i [] ≡ file.items = get_or-map (λ (f : Vec ℕ Global). f.items) held i file [] within ∙ ap (λ (f : Vec ℕ Global). f.items) (sym found) in
     subst IsFile there (files i [] (rw (length-map held (λ (f : Vec ℕ Global). f.items)) within))
 

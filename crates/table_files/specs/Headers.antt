@@ -1,6 +1,6 @@
 -- Files: their headers (made after the cFE's), and the first fault that they have.
-use Rattle.std.specs.Prelude.{◌≡◌, ℕ, ◌-◌, ◌≤◌, IsTrue, ◌==◌, Bool, not, ◌&&◌, nat_lt, if◌then◌else◌, List, length, take, drop, Option, Some, None, is_none}
-use Rattle.packet_forms.specs.Numbers.{be32_at}
+use Rattle.std.specs.Prelude.{◌≡◌, ℕ, ◌-◌, ◌≤◌, IsTrue, ◌==◌, Bool, not, ◌&&◌, nat_lt, if◌then◌else◌, List, ◌++◌, length, replicate, take, drop, Option, Some, None, is_none}
+use Rattle.packet_forms.specs.Numbers.{be32_at, be32_bytes}
 use Rattle.table_files.specs.declared.fault.FileFault.{FileFault}
 use Rattle.table_files.specs.declared.fault.FileFault.TheVariants.{Short, ContentType, Subtype, Partial, Name, Size}
 use Rattle.table_files.specs.declared.kinds.TableKind.{TableKind}
@@ -24,6 +24,12 @@ table_size file = be32_at file 72
 
 unfoldable pub table_name : List ℕ → List ℕ
 table_name file = take 40 (drop 76 file)
+
+-- both headers of a table with this name and so many bytes behind them, where what isn't looked at is 0
+unfoldable pub table_headers : List ℕ → ℕ → List ℕ
+table_headers name size =
+    be32_bytes 0x63464531 ++ be32_bytes 8 ++ replicate 56 0
+    ++ be32_bytes 0 ++ be32_bytes 0 ++ be32_bytes size ++ name ++ replicate (40 - length name) 0
 
 -- the fault of a table whose name says this kind, if any: how many bytes its header says, and how many there are
 abbrev pub table_fault : Option TableKind → ℕ → ℕ → Option FileFault

@@ -4,8 +4,8 @@ ghost use Rattle.table_files.specs.Faults.{file_fault_number};
 
 use thiserror::Error;
 
-/// Why a file is refused: the first fault that it has, in the order of the numbers, but that a table file with
-/// content type and subtype is asked for its headers' length only then.
+/// Why a file is refused: the first fault that it has. They are asked in this order, but that a table is asked for the
+/// length of both its headers, as `Short`, right after the subtype (docs/FILES.md).
 #[derive(Clone, Copy, Debug, PartialEq, Eq, Error)]
 pub enum FileFault {
     #[error("the file ends within its headers")]
@@ -43,7 +43,7 @@ impl FileFault {
     }
 }
 
-/// Why a file isn't added.
+/// Why a file isn't added. `File` and `Twice` are asked first; where one of them holds, `NoMemory` isn't answered.
 #[derive(Clone, Copy, Debug, PartialEq, Eq, Error)]
 pub enum AddFault {
     #[error("the file is refused")]

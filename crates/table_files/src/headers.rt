@@ -25,10 +25,17 @@ const TABLE: u32 = 8;
 /// The subtype of bytes to be loaded.
 const LOAD: u32 = 100;
 
-/// What the file of these bytes holds, or the first of its faults: 1 `Short`, under 64 bytes; 2 `ContentType`;
-/// 3 `Subtype`, not a table's; `Short` again, under 116 bytes; 4 `Partial`, the offset isn't 0; 5 `Name`, the 40 bytes
-/// aren't a known name and zero bytes; 6 `Size`, the header's number of bytes isn't the number of those behind the
-/// headers, or that isn't the table's. Nothing is copied.
+/// What the file of these bytes holds, or the first of its faults (docs/FILES.md):
+///
+/// 1. `Short`: under 64 bytes
+/// 2. `ContentType`: the number of bytes 0 to 3 isn't 0x63464531
+/// 3. `Subtype`: the number of bytes 4 to 7 isn't 8
+/// 4. `Short` again: under 116 bytes
+/// 5. `Partial`: the offset, bytes 68 to 71, isn't 0
+/// 6. `Name`: bytes 76 to 115 aren't a known name and zero bytes behind it
+/// 7. `Size`: the number of bytes 72 to 75 isn't the number of bytes behind the headers, or that isn't the table's size
+///
+/// Nothing is copied: what is lent are the file's bytes behind the headers.
 pub fn read_file(bytes: &[u8]) -> Result<FileImage<'_>, FileFault>
     ensures fault { MatchResult result (λ _. file_fault_of bytes.now ≡ None) (λ fault. file_fault_of bytes.now ≡ Some fault) }
     ensures image { IfOk result (Shows bytes.now) }

@@ -1,4 +1,4 @@
-use Rattle.std.proofs.Common.{◌≡◌, ◌<◌, ◌-◌, ℕ, length, Vec, Global, List, sym, ap, subst, ◌∙◌, arith}
+use Rattle.std.proofs.Common.{◌≡◌, ℕ, length, Vec, Global, List, sym, ap, subst, ◌∙◌, arith}
 use Rattle.std.proofs.lemmas.List.{length-map}
 use Rattle.table_files.specs.Headers.{IsFile}
 use Rattle.table_files.proofs.Lists.{accepted_at}
@@ -8,5 +8,4 @@ pub image_of-requires : goal.image_of-requires
 image_of-requires c =
     let held : List (Vec ℕ Global) = c.self.inside.files.items in
     let size : length held ≡ length c.args.self.now = sym (length-map held (λ (f : Vec ℕ Global). f.items)) ∙ ap length c.self.view_is in
-    let within : c.args.file - 1 < length held = omega arith in
-    subst IsFile (sym c.deref.ensures.value) (accepted_at held (c.args.file - 1) c.index.result.now c.self.invariant.accepted within c.index.ensures)
+    subst IsFile (sym c.deref.ensures.value) (accepted_at held _ c.index.result.now c.self.invariant.accepted c.index.ensures (omega arith))
