@@ -1,0 +1,12 @@
+pub mod Tables
+pub mod Lists
+pub mod Reading
+pub mod Given
+pub mod Rounds
+pub mod Readings
+pub mod Instructions
+pub mod Verdicts
+pub mod Orders
+pub mod Output
+pub mod Streams
+pub mod Standing
