@@ -1,5 +1,5 @@
 -- Rounds at one more entry, and at one more wakeup.
-use Rattle.std.proofs.Common.{◌≡◌, ◌≢◌, ℕ, zero, suc, ◌+◌, ◌-◌, ◌*◌, ◌/◌, ◌%◌, ◌<◌, ◌≤◌, Bool, true, false, eqb, leb, ◌&&◌, List, [], ◌∷◌, ◌++◌, length, take, get_or, Some, refl, sym, ap, ◌∙◌, arith, add-one, ne_eqb, below_more, leb-true, le-leb}
+use Rattle.std.proofs.Common.{◌≡◌, ◌≢◌, ℕ, zero, suc, ◌+◌, ◌-◌, ◌*◌, ◌/◌, ◌%◌, ◌<◌, ◌≤◌, Bool, true, false, eqb, leb, ◌&&◌, List, [], ◌∷◌, ◌++◌, length, take, get_or, Some, None, refl, sym, ap, ◌∙◌, arith, add-one, ne_eqb, below_more, leb-true, le-leb}
 use Rattle.std.specs.Prelude.{flat_map}
 use Rattle.std.proofs.lemmas.List.{take_more, get_or_append_left, get_or_push, length_push}
 use Rattle.std.proofs.Math.Nat.{mul-mod_left, mul-div_cancel, div-lt_iff_lt-mul, mod-eq-sub-div-mul, div-mul-le_self}
@@ -132,3 +132,23 @@ round_due list since images r some_period is =
     let began : leb (since + delays_to_last list) (length images - 1) ≡ true = le-leb _ _ (omega arith) in
     let rounds : length images - 1 - (since + delays_to_last list) ≡ r * delays list = omega arith in
     rw (began, rounds, mul-mod_left r (delays list), mul-div_cancel r some_period) refl
+
+-- no round ends in the last wakeup, where its number is that of no round
+pub round_not_due : (list : List DwellEntry) (since : ℕ) (images : List Memory) → 0 < delays list → ((r : ℕ) → length images - 1 ≢ since + r * delays list + delays_to_last list) → round_at list since images ≡ None
+unfolding round_at is_due
+round_not_due list since images some_period other = rw none refl
+  where
+    k : ℕ
+    k = length images - 1
+
+    by_case : (b : Bool) → leb (since + delays_to_last list) (length images - 1) ≡ b → (b && eqb ((length images - 1 - (since + delays_to_last list)) % delays list) 0) ≡ false
+    by_case false is = refl
+    by_case true is = ne_eqb _ 0 (λ whole.
+        let began : since + delays_to_last list ≤ length images - 1 = leb-true _ _ is in
+        let x = length images - 1 - (since + delays_to_last list) in
+        let down = mod-eq-sub-div-mul (length images - 1 - (since + delays_to_last list)) (delays list) in
+        let small = div-mul-le_self (length images - 1 - (since + delays_to_last list)) (delays list) in
+        other ((length images - 1 - (since + delays_to_last list)) / delays list) (omega arith))
+
+    none : (leb (since + delays_to_last list) (length images - 1) && eqb ((length images - 1 - (since + delays_to_last list)) % delays list) 0) ≡ false
+    none = by_case (leb (since + delays_to_last list) (length images - 1)) refl

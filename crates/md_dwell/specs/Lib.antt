@@ -10,3 +10,4 @@ pub mod Orders
 pub mod Output
 pub mod Streams
 pub mod Standing
+pub mod Rows

@@ -2,7 +2,9 @@
 #![tactic(auto)]
 
 mod answers;
+mod giving;
 mod instructions;
+pub mod laws;
 mod loading;
 mod payload;
 mod reading;
@@ -12,6 +14,8 @@ mod tables;
 mod verdicts;
 
 pub use loading::load_dwell;
-pub use reading::is_given;
 pub use step::Md;
 pub use tables::{Dwell, DwellEntry};
+
+#[cfg(test)]
+mod tests;

@@ -2,20 +2,10 @@
 ghost use Rattle.std.specs.Prelude.{◌≡◌, ◌+◌, ◌≤◌, ◌++◌, length};
 ghost use Rattle.md_dwell.specs.Reading.{image_of, value_of, entry_bytes, bytes_of_value};
 ghost use Rattle.md_dwell.specs.Verdicts.{is_readable};
-ghost use Rattle.md_dwell.specs.Given.{is_given};
-ghost use Rattle.memory_window.specs.Memory.{regions_of};
-ghost use Rattle.memory_window.specs.Window.{seen};
 
 use crate::payload::Payload;
 use crate::tables::DwellEntry;
 use memory_window::Window;
-
-/// Whether an entry has length 0, or the window gives its read.
-pub fn is_given(window: Window<'_>, entry: DwellEntry) -> bool
-    ensures { result ≡ is_given (regions_of (seen window.entry).areas) entry }
-{
-    is_readable(window, entry)
-}
 
 /// Whether an entry has length 0, or its read meets no fault.
 #[tactic(auto, unfolding(crate::specs::Reading::image_of, crate::specs::Reading::value_of, crate::specs::Verdicts::is_readable))]
