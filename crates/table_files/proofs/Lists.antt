@@ -1,6 +1,7 @@
 -- Lists of files: a file of the list, one file more, and tables that are there already.
-use Rattle.std.proofs.Common.{eq-eqb, All, ◌≡◌, ℕ, ◌<◌, Bool, true, false, List, [], ◌∷◌, ◌++◌, length, map, get_or, refl, sym, ap, subst, ◌∙◌, arith, zero, suc, Option, Some, None, length-append, Vec, Global}
-use Rattle.std.specs.Prelude.{◌||◌, filter, option_map}
+use Rattle.std.proofs.Common.{◌↔◌, eq-eqb, All, ◌≡◌, ℕ, ◌<◌, Bool, true, false, List, [], ◌∷◌, ◌++◌, length, map, get_or, refl, sym, ap, subst, ◌∙◌, arith, zero, suc, Option, Some, None, length-append, Vec, Global}
+use Rattle.std.proofs.lemmas.Bool.Decides.{nat_tests}
+use Rattle.std.specs.Prelude.{◌==◌, ◌||◌, filter, option_map}
 use Rattle.std.specs.List.{list_any}
 use Rattle.std.proofs.lemmas.List.{get_or-map, length-map}
 use Rattle.std.proofs.lemmas.List.Elements.{All-append}
@@ -100,6 +101,26 @@ same_self (Rts n) = eq-eqb n n refl
 same_self (Dwell n) = eq-eqb n n refl
 same_self Eeprom = refl
 same_self Memory = refl
+
+same_number : (n m : ℕ) → (n == m) ≡ true → n ≡ m
+same_number n m h = grind (arith, nat_tests)
+
+-- kinds that are the same table are equal
+equal_same : (kind other : TableKind) → is_same_kind kind other ≡ true → kind ≡ other
+unfolding is_same_kind
+equal_same AppMon AppMon h = refl
+equal_same EventMon EventMon h = refl
+equal_same ExeCount ExeCount h = refl
+equal_same MsgActs MsgActs h = refl
+equal_same (Ats n) (Ats m) h = ap Ats (same_number n m h)
+equal_same (Rts n) (Rts m) h = ap Rts (same_number n m h)
+equal_same (Dwell n) (Dwell m) h = ap Dwell (same_number n m h)
+equal_same Eeprom Eeprom h = refl
+equal_same Memory Memory h = refl
+equal_same _ _ h = let wrong : ⊥ = cc in absurd wrong
+
+pub same_is_equal : (kind other : TableKind) → (is_same_kind kind other ≡ true) ↔ (kind ≡ other)
+same_is_equal kind other = (equal_same kind other, λ same. subst (λ (k : TableKind). is_same_kind kind k ≡ true) same (same_self kind))
 
 same_tables : (file other : List ℕ) (kind : TableKind) → kind_of_file file ≡ Some kind → kind_of_file other ≡ Some kind → are_same_table file other ≡ true
 same_tables file other kind is also = rw (is, also) (same_self kind)

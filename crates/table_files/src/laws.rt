@@ -1,10 +1,10 @@
 //! Laws of the definitions, as contracts of functions that do nothing.
 
-ghost use Rattle.std.specs.Prelude.{◌≡◌, ◌≤◌, ◌↔◌, ℕ, ◌+◌, List, [], ◌∷◌, ◌++◌, length, map, replicate, codes, Some, None};
+ghost use Rattle.std.specs.Prelude.{◌≡◌, ◌≤◌, ◌↔◌, ℕ, ◌+◌, List, [], ◌∷◌, ◌++◌, length, map, replicate, codes, true, Some, None};
 ghost use Rattle.table_files.specs.declared.kinds.TableKind.{TableKind};
 ghost use Rattle.table_files.specs.declared.kinds.TableKind.TheVariants.{Dwell, Eeprom, Memory};
 ghost use Rattle.table_files.specs.declared.fault.FileFault.TheVariants.{Size};
-ghost use Rattle.table_files.specs.Kinds.{IsTable, named_kind};
+ghost use Rattle.table_files.specs.Kinds.{IsTable, is_same_kind, named_kind};
 ghost use Rattle.table_files.specs.Headers.{IsFile, IsTableOf, kind_of_file, payload_of_file, file_fault_of, table_headers};
 ghost use Rattle.table_files.specs.Files.{AreFiles, file_at};
 
@@ -17,6 +17,11 @@ pub fn accepted_files_have_headers()
 /// The payload of a table has the size of its kind.
 pub fn payloads_have_the_kinds_size()
     ensures { (file : List ℕ) (kind : TableKind) → kind_of_file file ≡ Some kind → IsTable kind (length (payload_of_file file)) }
+{}
+
+/// Two kinds are the same table exactly where they are equal.
+pub fn same_kinds_are_equal()
+    ensures { (kind other : TableKind) → (is_same_kind kind other ≡ true) ↔ (kind ≡ other) }
 {}
 
 /// Of the files that are held at most one is a table of a kind.

@@ -3,26 +3,78 @@ use crate::{AddFault, FileFault, FileImage, Files, TableKind, read_file};
 use std::alloc::Global;
 use std::test::Fail;
 
-/// What the headers of a file say, and how many bytes it has in all.
-#[derive(Clone, Copy)]
-struct Draft {
-    content: u32,
-    subtype: u32,
-    offset: u32,
-    said: u32,
-    name: &'static str,
-    len: usize,
-}
+/// What the headers of a file say (content type, subtype, offset, number of bytes, name), and how many bytes it has in
+/// all.
+type Draft = (u32, u32, u32, u32, &'static str, usize);
+
+/// The content type of every file.
+const TYPE: u32 = 0x6346_4531;
 
 /// A file of the first dwell table.
-const DWELL: Draft = Draft {
-    content: 0x6346_4531,
-    subtype: 8,
-    offset: 0,
-    said: 204,
-    name: "MD.DWELL_TABLE1",
-    len: 320,
-};
+const DWELL: Draft = (TYPE, 8, 0, 204, "MD.DWELL_TABLE1", 320);
+
+/// Files with faults, and the number of each fault.
+const FAULTY: [(Draft, FileFault, u8); 15] = [
+    ((0, 8, 0, 204, "MD.DWELL_TABLE1", 63), FileFault::Short, 1),
+    (
+        (0, 9, 0, 204, "MD.DWELL_TABLE1", 320),
+        FileFault::ContentType,
+        2,
+    ),
+    (
+        (TYPE, 9, 0, 204, "MD.DWELL_TABLE1", 64),
+        FileFault::Subtype,
+        3,
+    ),
+    (
+        (TYPE, 100, 0, 204, "MD.DWELL_TABLE1", 320),
+        FileFault::Subtype,
+        3,
+    ),
+    (
+        (TYPE, 8, 1, 204, "MD.DWELL_TABLE1", 64),
+        FileFault::Short,
+        1,
+    ),
+    (
+        (TYPE, 8, 1, 204, "MD.DWELL_TABLE1", 115),
+        FileFault::Short,
+        1,
+    ),
+    ((TYPE, 8, 1, 204, "", 320), FileFault::Partial, 4),
+    ((TYPE, 8, 0, 0, "MD.DWELL_TABLE5", 320), FileFault::Name, 5),
+    (
+        (TYPE, 8, 0, 204, "MD.DWELL_TABLE1\x001", 320),
+        FileFault::Name,
+        5,
+    ),
+    ((TYPE, 8, 0, 768, "HS.AppMon_Tbl", 884), FileFault::Name, 5),
+    (
+        (TYPE, 8, 0, 204, "MD.DWELL_TABLE1", 319),
+        FileFault::Size,
+        6,
+    ),
+    (
+        (TYPE, 8, 0, 204, "MD.DWELL_TABLE1", 321),
+        FileFault::Size,
+        6,
+    ),
+    (
+        (TYPE, 8, 0, 205, "MD.DWELL_TABLE1", 321),
+        FileFault::Size,
+        6,
+    ),
+    (
+        (TYPE, 8, 0, 192, "MD.DWELL_TABLE1", 308),
+        FileFault::Size,
+        6,
+    ),
+    (
+        (TYPE, 8, 0, 204, "CS.DefEepromTbl", 320),
+        FileFault::Size,
+        6,
+    ),
+];
 
 /// The tables that are known, and the sizes of their payloads.
 const TABLES: [(&str, TableKind, u16); 6] = [
@@ -36,26 +88,24 @@ const TABLES: [(&str, TableKind, u16); 6] = [
 
 /// The file of a draft. Fields that aren't looked at are filled with 0xAA, the payload with 7.
 fn file_of(alloc: Global, draft: Draft) -> Result<Vec<u8>, Fail> {
+    let (content, subtype, offset, said, name, len) = draft;
     let mut file = Vec::new(alloc);
-    file.extend_from_slice(&draft.content.to_be_bytes())?;
-    file.extend_from_slice(&draft.subtype.to_be_bytes())?;
+    file.extend_from_slice(&content.to_be_bytes())?;
+    file.extend_from_slice(&subtype.to_be_bytes())?;
     file.resize(68, 0xAA)?;
-    file.extend_from_slice(&draft.offset.to_be_bytes())?;
-    file.extend_from_slice(&draft.said.to_be_bytes())?;
-    file.extend_from_slice(draft.name.as_bytes())?;
+    file.extend_from_slice(&offset.to_be_bytes())?;
+    file.extend_from_slice(&said.to_be_bytes())?;
+    file.extend_from_slice(name.as_bytes())?;
     file.resize(116, 0)?;
-    file.resize(draft.len, 7)?;
+    file.resize(len, 7)?;
     Ok(file)
 }
 
 fn table_of(alloc: Global, name: &'static str, size: u16) -> Result<Vec<u8>, Fail> {
-    let draft = Draft {
-        said: u32::from(size),
-        name,
-        len: 116 + usize::from(size),
-        ..DWELL
-    };
-    file_of(alloc, draft)
+    file_of(
+        alloc,
+        (TYPE, 8, 0, u32::from(size), name, 116 + usize::from(size)),
+    )
 }
 
 #[test]
@@ -72,116 +122,7 @@ fn table_is_lent(rt: HostRuntime) -> Result<(), Fail> {
 
 #[test]
 fn faults_come_in_order(rt: HostRuntime) -> Result<(), Fail> {
-    let rows = [
-        (
-            Draft {
-                content: 0,
-                len: 63,
-                ..DWELL
-            },
-            FileFault::Short,
-            1,
-        ),
-        (
-            Draft {
-                content: 0,
-                subtype: 9,
-                ..DWELL
-            },
-            FileFault::ContentType,
-            2,
-        ),
-        (
-            Draft {
-                subtype: 9,
-                len: 64,
-                ..DWELL
-            },
-            FileFault::Subtype,
-            3,
-        ),
-        (
-            Draft {
-                subtype: 100,
-                ..DWELL
-            },
-            FileFault::Subtype,
-            3,
-        ),
-        (
-            Draft {
-                offset: 1,
-                len: 64,
-                ..DWELL
-            },
-            FileFault::Short,
-            1,
-        ),
-        (
-            Draft {
-                offset: 1,
-                len: 115,
-                ..DWELL
-            },
-            FileFault::Short,
-            1,
-        ),
-        (
-            Draft {
-                offset: 1,
-                name: "",
-                ..DWELL
-            },
-            FileFault::Partial,
-            4,
-        ),
-        (
-            Draft {
-                name: "MD.DWELL_TABLE5",
-                said: 0,
-                ..DWELL
-            },
-            FileFault::Name,
-            5,
-        ),
-        (
-            Draft {
-                name: "MD.DWELL_TABLE1\01",
-                ..DWELL
-            },
-            FileFault::Name,
-            5,
-        ),
-        (
-            Draft {
-                name: "HS.AppMon_Tbl",
-                ..DWELL
-            },
-            FileFault::Name,
-            5,
-        ),
-        (Draft { len: 319, ..DWELL }, FileFault::Size, 6),
-        (Draft { len: 321, ..DWELL }, FileFault::Size, 6),
-        (
-            Draft {
-                said: 205,
-                len: 321,
-                ..DWELL
-            },
-            FileFault::Size,
-            6,
-        ),
-        (
-            Draft {
-                said: 192,
-                len: 308,
-                ..DWELL
-            },
-            FileFault::Size,
-            6,
-        ),
-    ];
-    for (draft, fault, number) in rows {
+    for (draft, fault, number) in FAULTY {
         let file = file_of(rt.alloc(), draft)?;
         assert!(rt; read_file(&file) == Err(fault));
         assert_eq!(rt; fault.number(), number);
@@ -201,12 +142,12 @@ fn files_are_held_once(rt: HostRuntime) -> Result<(), Fail> {
         assert_eq!(rt; add_to(&mut files, file), Some(Err(AddFault::Twice)));
         assert!(rt; shown(&files, files.len()) == Some((kind, usize::from(size))));
     }
-    let draft = Draft { len: 319, ..DWELL };
-    let file = file_of(rt.alloc(), draft)?;
+    let file = file_of(rt.alloc(), (TYPE, 8, 0, 204, "MD.DWELL_TABLE1", 319))?;
     let fault = AddFault::File(FileFault::Size);
     assert_eq!(rt; add_to(&mut files, file), Some(Err(fault)));
     assert_eq!(rt; files.len(), 6);
     assert!(rt; shown(&files, 5) == Some((TableKind::Eeprom, 192)));
+    assert_eq!(rt; last_bytes(&files), [7; 4]);
     assert!(rt; files.load(0).is_none());
     assert!(rt; files.load(1).is_none());
     Ok(())
@@ -219,6 +160,21 @@ fn add_to(files: &mut Files, file: Vec<u8>) -> Option<Result<(), AddFault>> {
     } else {
         None
     }
+}
+
+/// The last byte of the payload of each dwell table that is held, by the table's number.
+fn last_bytes(files: &Files) -> [u8; 4] {
+    let mut found = [0; 4];
+    for number in 1..=files.len() {
+        if let FileImage::Table {
+            kind: TableKind::Dwell(n),
+            payload,
+        } = files.get(number)
+        {
+            found[usize::from(n) - 1] = payload[203];
+        }
+    }
+    found
 }
 
 /// Kind and size of the table with a number, where there is one.
