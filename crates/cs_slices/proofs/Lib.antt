@@ -1,0 +1,11 @@
+pub mod Payloads
+pub mod Judging
+pub mod Places
+pub mod Switching
+pub mod Passes
+pub mod Rings
+pub mod Tallying
+pub mod Wakeups
+pub mod Slicing
+pub mod Handling
+pub mod Counted

@@ -1,0 +1,9 @@
+pub mod Tables
+pub mod Given
+pub mod Instructions
+pub mod Verdicts
+pub mod Orders
+pub mod Slices
+pub mod Passes
+pub mod Output
+pub mod Standing

@@ -1,0 +1,47 @@
+-- Checksum tables, and the payloads that spell them.
+use Rattle.std.specs.Prelude.{ℕ, ◌+◌, ◌*◌, ◌==◌, not, ◌&&◌, nat_lt, if◌then◌else◌, List, [], ◌∷◌, map, replicate, slice_index_or, Option, Some, None}
+use Rattle.std.specs.List.{range_with_len}
+use Rattle.packet_forms.specs.Numbers.{be16_at, be32_at}
+use Rattle.table_files.specs.declared.fault.EntryFault.{EntryFault}
+use Rattle.cs_slices.specs.declared.segments.Segment.{Segment}
+
+-- The entry in place i of a payload, from 0: it has 12 bytes.
+abbrev pub segment_at : List ℕ → ℕ → Segment
+segment_at payload i = record { state = be16_at payload (12 * i); start = be32_at payload (12 * i + 4); len = be32_at payload (12 * i + 8) }
+
+-- The 16 entries of a payload.
+unfoldable pub segments_of : List ℕ → List Segment
+segments_of payload = map (segment_at payload) (range_with_len 0 16)
+
+-- The least reason to refuse an entry: 1 its state is over 2, 2 it isn't empty and has length 0.
+unfoldable pub segment_reason : Segment → Option ℕ
+segment_reason s =
+    if nat_lt 2 s.state then Some 1
+    else if not (s.state == 0) && (s.len == 0) then Some 2
+    else None
+
+-- The fault of entry n, where it has one, or else another.
+abbrev pub fault_or : ℕ → Option ℕ → Option EntryFault → Option EntryFault
+fault_or n None behind = behind
+fault_or n (Some reason) behind = Some (record { entry = n; reason = reason })
+
+-- The fault of the first faulty one of these entries, the first of which has number n.
+unfoldable pub first_fault : ℕ → List Segment → Option EntryFault
+first_fault n [] = None
+first_fault n (s ∷ entries) = fault_or n (segment_reason s) (first_fault (n + 1) entries)
+
+-- The fault of a payload: that of its first faulty entry.
+unfoldable pub segments_fault_of : List ℕ → Option EntryFault
+segments_fault_of payload = first_fault 1 (segments_of payload)
+
+-- An empty entry.
+abbrev pub blank_segment : Segment
+blank_segment = record { state = 0; start = 0; len = 0 }
+
+-- A table of empty entries.
+unfoldable pub blank_segments : List Segment
+blank_segments = replicate 16 blank_segment
+
+-- The entry in a place of both tables, from 0: the EEPROM table's 16 and then the memory table's 16.
+unfoldable pub entry_in : List Segment → ℕ → Segment
+entry_in entries place = slice_index_or entries place blank_segment
