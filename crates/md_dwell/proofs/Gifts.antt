@@ -1,16 +1,17 @@
 -- Entries that a window gives.
-use Rattle.std.proofs.Common.{◌≡◌, ℕ, ◌+◌, ◌<◌, ◌≤◌, Bool, true, false, cond, not, ◌||◌, ltb, List, [], ◌∷◌, length, drop, get_or, Option, Some, None, refl, sym, ap, ◌∙◌}
+use Rattle.std.proofs.Common.{◌≡◌, ℕ, ◌+◌, ◌<◌, ◌≤◌, Bool, true, false, cond, not, ◌||◌, ltb, List, [], ◌∷◌, length, drop, get_or, Option, Some, None, refl, sym, ap, subst, ◌∙◌, arith, inl, inr}
 use Rattle.std.specs.List.{AllPass, position_from}
-use Rattle.std.proofs.lemmas.List.{drop_more, drop_all}
+use Rattle.std.proofs.lemmas.List.{drop_more, drop_all, get_or_default}
+use Rattle.std.proofs.lemmas.Bool.{cases_lt}
 use Rattle.std.proofs.lemmas.List.Elements.{All-append}
 use Rattle.commands.proofs.Answering.{none_fail, one_passes}
 use Rattle.memory_window.specs.declared.regions.Region.{Region}
 use Rattle.std.specs.Prelude.{◌==◌}
 use Rattle.memory_window.specs.Memory.{Memory, regions_of}
 use Rattle.memory_window.proofs.Given.{read_given}
-use Rattle.md_dwell.specs.Tables.{is_length}
+use Rattle.md_dwell.specs.Tables.{DwellTable, is_length}
 use Rattle.md_dwell.specs.Reading.{bits_of, value_of}
-use Rattle.md_dwell.specs.Given.{is_given, first_refused, OrderGiven}
+use Rattle.md_dwell.specs.Given.{is_given, first_refused, TablesGiven, OrderGiven}
 use Rattle.md_dwell.specs.Verdicts.{is_readable, own_refusal}
 use Rattle.md_dwell.specs.declared.tables.DwellEntry.{DwellEntry}
 use Rattle.md_dwell.specs.declared.instructions.Instruction.{Instruction}
@@ -66,3 +67,22 @@ refused_here regions entries i d within given =
 
 pub refused_end : (regions : List Region) (entries : List DwellEntry) (i n : ℕ) → length entries ≤ i → position_from (λ (e : DwellEntry). not (is_given regions e)) n (drop i entries) ≡ None
 refused_end regions entries i n past = ap (position_from (λ (e : DwellEntry). not (is_given regions e)) n) (drop_all i entries past)
+
+-- four tables whose entries are given
+pub tables_given : (regions : List Region) (tables : List DwellTable) (a b c d : DwellTable) → length tables ≡ 4
+    → AllPass (is_given regions) (get_or tables 0 a).entries → AllPass (is_given regions) (get_or tables 1 b).entries
+    → AllPass (is_given regions) (get_or tables 2 c).entries → AllPass (is_given regions) (get_or tables 3 d).entries → TablesGiven regions tables
+unfolding TablesGiven
+tables_given regions tables a b c d long first second third fourth k e within = elim (cases_lt k 1) [
+  | inl one ↦ at 0 a (omega arith) first (omega arith)
+  | inr over_one ↦ elim (cases_lt k 2) [
+    | inl two ↦ at 1 b (omega arith) second (omega arith)
+    | inr over_two ↦ elim (cases_lt k 3) [
+      | inl three ↦ at 2 c (omega arith) third (omega arith)
+      | inr over_three ↦ at 3 d (omega arith) fourth (omega arith)
+    ]
+  ]
+]
+  where
+    at : (j : ℕ) (x : DwellTable) → j < length tables → AllPass (is_given regions) (get_or tables j x).entries → j ≡ k → AllPass (is_given regions) (get_or tables k e).entries
+    at j x inside holds is = subst (λ (i : ℕ). AllPass (is_given regions) (get_or tables i e).entries) is (subst (λ (t : DwellTable). AllPass (is_given regions) t.entries) (get_or_default tables j x e inside) holds)
