@@ -23,9 +23,11 @@ use Rattle.scenario.specs.declared.frame.Upset.{Upset}
 use Rattle.scenario.specs.FrameLists.{Frame}
 use Rattle.frame_exec.specs.declared.bench.Bench.{Bench}
 use Rattle.mm_core.specs.declared.step.Mm.{Mm}
+use Rattle.md_dwell.specs.declared.step.Md.{Md}
+use Rattle.md_dwell.specs.Standing.{Stands as MdStands, AllGiven}
 use Rattle.frame_exec.specs.Sending.{upset_by}
-use Rattle.frame_exec.specs.Runs.{Setup, State, beginning, image_at, left_in_pipes, sent_at, offers_at, after_frame, run_of, frame_lines, log_of, lines_at, mm_after, operations_at}
-use Rattle.frame_exec.specs.Standing.{Has, Stands, CanRun}
+use Rattle.frame_exec.specs.Runs.{Setup, State, beginning, image_at, left_in_pipes, sent_at, offers_at, after_frame, run_of, frame_lines, log_of, lines_at, mm_after, md_after, operations_at}
+use Rattle.frame_exec.specs.Standing.{Has, IsGiven, Stands, CanRun}
 use Rattle.frame_exec.specs.Stages.{RunsIn, IsLanded}
 
 -- what a run has come to, at one more frame
@@ -66,6 +68,9 @@ upset_regions : (memory : Memory) (upsets : List Upset) → regions_of (fold ups
 upset_regions memory [] = refl
 upset_regions memory (upset ∷ upsets) = upset_regions (upset_by memory upset) upsets ∙ regions-changed _ memory.areas
 
+pub regions_same : (before after : Memory) (upsets : List Upset) → after ≡ fold upset_by before upsets → regions_of after.areas ≡ regions_of before.areas
+regions_same before after upsets is = ap (λ (m : Memory). regions_of m.areas) is ∙ upset_regions before upsets
+
 -- a frame leaves the regions
 frame_regions : (setup : Setup) (s : State) (frame : Frame) → regions_of (after_frame setup s frame).memory.areas ≡ regions_of s.memory.areas
 unfolding after_frame image_at
@@ -98,33 +103,42 @@ pub landed_is : (setup : Setup) (s : State) (frame : Frame) (ops : List MemOp) (
 landed_is setup s frame ops image now a b c = a ∙ ap (λ (xs : List MemOp). land [] xs image) b ∙ ap (λ (m : Memory). land [] (operations_at setup s frame) m) c
 
 -- the bench has what the run has come to after one more frame
-pub has_after : (before b : Bench) (setup : Setup) (s : State) (frame : Frame) → IsLanded before b → b.number ≡ s.number + 1 → RunsIn setup s frame before → Has b (after_frame setup s frame)
+pub has_after : (before b : Bench) (setup : Setup) (s : State) (frame : Frame) → IsLanded before b → b.number ≡ s.number + 1 → RunsIn setup s frame before → Has b setup (after_frame setup s frame)
 unfolding after_frame
 has_after before b setup s frame landed number ran = record {
   number = number;
   mm = subst (λ (state : Box Mm Global). MmStands (mm_after setup s frame) state.value) (sym landed.mm.state) ran.mm;
+  md = subst (λ (state : Box Md Global). MdStands setup.tables.dwells (md_after setup s frame) state.value) (sym landed.md) ran.md;
   pipes = landed.pipes ∙ ran.pipes;
   made = subst (LogStands _) (sym landed.log) ran.made;
   memory = landed_is setup s frame before.mm.ops before.ram b.ram landed.memory ran.operations ran.memory;
 }
 
+-- what memory gives stays, as landing leaves the regions
+given_after : (before b : Bench) → IsLanded before b → IsGiven before → IsGiven b
+given_after before b landed given =
+    let same : regions_of b.ram.areas ≡ regions_of before.ram.areas = ap (λ (m : Memory). regions_of m.areas) landed.memory ∙ regions-changed _ before.ram.areas in
+    subst (λ (regions : List Region). AllGiven regions b.md.state.value) (sym same) (subst (λ (state : Box Md Global). AllGiven (regions_of before.ram.areas) state.value) (sym landed.md) given)
+
 -- a bench stands for one more frame
 pub stands_after : (before b : Bench) (setup : Setup) (frames : List Frame) (frame : Frame) → b.epoch ≡ setup.epoch → b.failed ≡ false → b.number ≡ (run_of setup frames).number + 1
-    → IsLanded before b → RunsIn setup (run_of setup frames) frame before → Stands b setup (frames ++ frame ∷ [])
-stands_after before b setup frames frame epoch well number landed ran = record {
+    → IsLanded before b → IsGiven before → RunsIn setup (run_of setup frames) frame before → Stands b setup (frames ++ frame ∷ [])
+stands_after before b setup frames frame epoch well number landed given ran = record {
   epoch = epoch;
   well = well;
-  has = subst (Has b) (sym (run_more setup frames frame)) (has_after before b setup (run_of setup frames) frame landed number ran);
+  has = subst (Has b setup) (sym (run_more setup frames frame)) (has_after before b setup (run_of setup frames) frame landed number ran);
+  given = given_after before b landed given;
 }
 
 -- a bench that was opened stands for no frames
-pub stands_opened : (b : Bench) (setup : Setup) → b.epoch ≡ setup.epoch → b.failed ≡ false → b.number ≡ 0 → MmStands [] b.mm.state.value → b.bus ≡ empty_pipes → LogStands [] b.log → b.ram ≡ start_memory setup.regions
-    → Stands b setup []
+pub stands_opened : (b : Bench) (setup : Setup) → b.epoch ≡ setup.epoch → b.failed ≡ false → b.number ≡ 0 → MmStands [] b.mm.state.value → MdStands setup.tables.dwells [] b.md.state.value
+    → AllGiven setup.regions b.md.state.value → b.bus ≡ empty_pipes → LogStands [] b.log → b.ram ≡ start_memory setup.regions → Stands b setup []
 unfolding run_of beginning
-stands_opened b setup epoch well number mm pipes made memory = record {
+stands_opened b setup epoch well number mm md given pipes made memory = record {
   epoch = epoch;
   well = well;
-  has = record { number = number; mm = mm; pipes = pipes; made = made; memory = memory };
+  has = record { number = number; mm = mm; md = md; pipes = pipes; made = made; memory = memory };
+  given = subst (λ (regions : List Region). AllGiven regions b.md.state.value) (sym (ap (λ (m : Memory). regions_of m.areas) memory ∙ regions-cut setup.regions _)) given;
 }
 
 -- the upsets of a frame that can be run lie in the bench's regions

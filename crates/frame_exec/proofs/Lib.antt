@@ -1,3 +1,6 @@
+pub mod Loading
+pub mod Images
+pub mod GivenTables
 pub mod Offers
 pub mod Stamping
 pub mod Lines

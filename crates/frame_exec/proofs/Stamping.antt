@@ -2,7 +2,8 @@
 use Rattle.std.proofs.Common.{◌≡◌, ℕ, ◌+◌, ◌<◌, List, [], ◌∷◌, ◌++◌, length, take, get_or, sym, ◌∙◌, ap, subst, append_assoc}
 use Rattle.std.specs.List.{flat_map}
 use Rattle.histories.specs.Words.{along}
-use Rattle.histories.proofs.Along.{along_more, along_none}
+use Rattle.std.proofs.lemmas.Grind.{flat_map-append}
+use Rattle.histories.proofs.Along.{along_more, along_none, along_both, along_same}
 use Rattle.histories.proofs.Fronts.{front_more, flat_map_front}
 use Rattle.bus_pipes.specs.declared.names.Out.{Out}
 use Rattle.packet_log.specs.Standing.{Stands as LogStands}
@@ -28,3 +29,22 @@ pub made_front : (made : List (List ℕ)) (items : List Out) (i : ℕ) (item : O
     → LogStands ((made ++ flat_map makes (take i items)) ++ makes item) counts → LogStands (made ++ flat_map makes (take (i + 1) items)) counts
 made_front made items i item counts within is stands =
     subst (λ (packets : List (List ℕ)). LogStands packets counts) (append_assoc made (flat_map makes (take i items)) (makes item) ∙ ap (λ (more : List (List ℕ)). made ++ more) (sym (flat_map_front makes items i item within is))) stands
+
+-- items behind items that were sent
+pub sent_both : (made : List (List ℕ)) (items more : List Out) → sent_of made (items ++ more) ≡ sent_of made items ++ sent_of (made ++ flat_map makes items) more
+unfolding sent_of
+sent_both made items more =
+    along_both (λ before item. as_sent (made ++ flat_map makes before) item) items more
+    ∙ ap (λ (xs : List Out). along (λ before item. as_sent (made ++ flat_map makes before) item) items ++ xs)
+    (along_same _ (λ before item. as_sent ((made ++ flat_map makes items) ++ flat_map makes before) item)
+    (λ before item. ap (λ (packets : List (List ℕ)). as_sent packets item) (ap (λ (packets : List (List ℕ)). made ++ packets) (flat_map-append makes items before) ∙ sym (append_assoc made (flat_map makes items) (flat_map makes before)))) more)
+
+-- the packets that two lists of items make
+pub made_two : (made : List (List ℕ)) (items more : List Out) (counts : List ℕ) → LogStands ((made ++ flat_map makes items) ++ flat_map makes more) counts → LogStands (made ++ flat_map makes (items ++ more)) counts
+made_two made items more counts stands =
+    subst (λ (packets : List (List ℕ)). LogStands packets counts) (append_assoc made (flat_map makes items) (flat_map makes more) ∙ ap (λ (packets : List (List ℕ)). made ++ packets) (sym (flat_map-append makes items more))) stands
+
+-- two lists of items that were sent, one behind the other
+pub sent_two : (made : List (List ℕ)) (items more start middle end : List Out) → start ≡ [] → middle ≡ start ++ sent_of made items → end ≡ middle ++ sent_of (made ++ flat_map makes items) more → end ≡ sent_of made (items ++ more)
+sent_two made items more start middle end none first second =
+    second ∙ ap (λ (xs : List Out). xs ++ sent_of (made ++ flat_map makes items) more) (first ∙ ap (λ (xs : List Out). xs ++ sent_of made items) none) ∙ sym (sent_both made items more)

@@ -1,3 +1,4 @@
+pub mod Tables
 pub mod Sending
 pub mod Runs
 pub mod Standing

@@ -10,29 +10,34 @@ use Rattle.memory_window.specs.Landing.{land}
 use Rattle.memory_window.specs.declared.regions.Region.{Region}
 use Rattle.memory_window.specs.declared.operations.MemOp.{MemOp}
 use Rattle.mm_core.specs.Output.{Input as MmInput, mm_items, mm_operations}
+use Rattle.md_dwell.specs.Orders.{Input as MdInput}
+use Rattle.md_dwell.specs.Output.{md_items}
 use Rattle.packet_log.specs.Lines.{drop_line}
 use Rattle.packet_log.specs.Items.{item_line}
 use Rattle.scenario.specs.declared.frame.App.{App}
 use Rattle.scenario.specs.declared.frame.App.TheVariants as apps
 use Rattle.scenario.specs.FrameLists.{Frame}
+use Rattle.frame_exec.specs.Tables.{TableSet}
 use Rattle.frame_exec.specs.Sending.{is_same, upset_by, left_in_pipe, makes, sent_of, packet_in}
 
--- what a run begins with: the time of frame 0, and the regions of memory
+-- what a run begins with: the time of frame 0, the regions of memory, and the tables
 pub record Setup : Type 0 where
   pub epoch : ℕ
   pub regions : List Region
+  pub tables : TableSet
 
 -- what a run has come to: how many frames there were, the history of each application, what the pipes hold, the packets made so far, and memory
 pub record State : Type 0 where
   pub number : ℕ
   pub mm : List MmInput
+  pub md : List MdInput
   pub pipes : Pipes
   pub made : List (List ℕ)
   pub memory : Memory
 
 -- before the first frame
 unfoldable pub beginning : Setup → State
-beginning setup = record { number = 0; mm = []; pipes = empty_pipes; made = []; memory = start_memory setup.regions }
+beginning setup = record { number = 0; mm = []; md = []; pipes = empty_pipes; made = []; memory = start_memory setup.regions }
 
 -- whether an application is held in a frame
 unfoldable pub is_held : App → Frame → Bool
@@ -50,9 +55,24 @@ mm_input_at setup s frame = record { time = setup.epoch + s.number; commands = s
 unfoldable pub mm_after : Setup → State → Frame → List MmInput
 mm_after setup s frame = if is_held apps.Mm frame then s.mm else (s.mm ++ mm_input_at setup s frame ∷ [])
 
+-- what MD reads in a frame
+unfoldable pub md_input_at : Setup → State → Frame → MdInput
+md_input_at setup s frame = record { time = setup.epoch + s.number; commands = s.pipes.md; image = image_at s frame }
+
+-- MD's history behind a frame
+unfoldable pub md_after : Setup → State → Frame → List MdInput
+md_after setup s frame = if is_held apps.Md frame then s.md else (s.md ++ md_input_at setup s frame ∷ [])
+
+-- what each application gives in a frame
+unfoldable pub mm_items_at : Setup → State → Frame → List Out
+mm_items_at setup s frame = if is_held apps.Mm frame then [] else mm_items s.mm (mm_input_at setup s frame)
+
+unfoldable pub md_items_at : Setup → State → Frame → List Out
+md_items_at setup s frame = if is_held apps.Md frame then [] else md_items setup.tables.dwells s.md (md_input_at setup s frame)
+
 -- the items that the applications give, in the order of the applications
 unfoldable pub items_at : Setup → State → Frame → List Out
-items_at setup s frame = if is_held apps.Mm frame then [] else mm_items s.mm (mm_input_at setup s frame)
+items_at setup s frame = mm_items_at setup s frame ++ md_items_at setup s frame
 
 -- the memory operations of a frame, in command order
 unfoldable pub operations_at : Setup → State → Frame → List MemOp
@@ -88,6 +108,7 @@ unfoldable pub after_frame : Setup → State → Frame → State
 after_frame setup s frame = record {
   number = s.number + 1;
   mm = mm_after setup s frame;
+  md = md_after setup s frame;
   pipes = after_offers (left_in_pipes frame s.pipes) (offers_at setup s frame);
   made = s.made ++ flat_map makes (items_at setup s frame);
   memory = land [] (operations_at setup s frame) (image_at s frame);

@@ -2,6 +2,8 @@
 use Rattle.std.specs.Prelude.{ℕ, Bool, true, false, if◌then◌else◌, List, [], ◌∷◌, ◌++◌}
 use Rattle.std.specs.List.{flat_map}
 use Rattle.histories.specs.Words.{along}
+use Rattle.bus_pipes.specs.Pipes.{Pipes, with_packets}
+use Rattle.bus_pipes.specs.declared.names.PipeName.{PipeName}
 use Rattle.bus_pipes.specs.declared.names.Out.{Out}
 use Rattle.bus_pipes.specs.declared.names.Out.TheVariants.{Made, Stored, Reset, Restart, Delete}
 use Rattle.memory_window.specs.Memory.{Memory, upset_at}
@@ -26,6 +28,10 @@ upset_by memory upset = upset_at memory upset.at upset.value
 -- what a pipe holds once its application was woken, unless that is held
 abbrev pub left_in_pipe : Bool → List (List ℕ) → List (List ℕ)
 left_in_pipe held packets = if held then packets else []
+
+-- the pipes once an application took what one of them holds, unless it is held
+abbrev pub taken : PipeName → Bool → Pipes → Pipes
+taken name held pipes = if held then pipes else with_packets name [] pipes
 
 -- the packets that an item makes, before they get their sequence count
 abbrev pub makes : Out → List (List ℕ)

@@ -8,6 +8,11 @@ use Rattle.memory_window.specs.Operations.{IsBacked}
 use Rattle.memory_window.specs.declared.operations.MemOp.{MemOp}
 use Rattle.mm_core.specs.Output.{Input as MmInput, mm_items, mm_operations}
 use Rattle.mm_core.specs.Standing.{Stands as MmStands}
+use Rattle.md_dwell.specs.Tables.{DwellTable}
+use Rattle.md_dwell.specs.Orders.{Input as MdInput}
+use Rattle.md_dwell.specs.Output.{md_items}
+use Rattle.md_dwell.specs.Standing.{Stands as MdStands}
+use Rattle.frame_exec.specs.declared.md_slot.MdSlot.{MdSlot}
 use Rattle.frame_exec.specs.declared.mm_slot.MmSlot.{MmSlot}
 
 -- items can be sent: they are few and have ids that are counted
@@ -35,3 +40,9 @@ pub record CanLand (image : Memory) (ops : List MemOp) : Type 0 where
 pub record MmFits (image : Memory) (slot : MmSlot) : Type 0 where
   pub sendable : AreSendable 272 slot.out.items
   pub landable : CanLand image slot.ops
+
+-- MD was woken on an input, unless it is held
+pub record WakesMd (held : Bool) (input : MdInput) (old new : MdSlot) : Type 0 where
+  pub state : (tables : List DwellTable) (history : List MdInput) → MdStands tables history old.state.value
+      → MdStands tables (if held then history else (history ++ input ∷ [])) new.state.value
+  pub items : (tables : List DwellTable) (history : List MdInput) → MdStands tables history old.state.value → new.out.items ≡ (if held then [] else md_items tables history input)

@@ -2,10 +2,13 @@
 
 ghost use Rattle.std.specs.Prelude.{◌≡◌};
 
+use crate::giving::{OpenFault, refused_place};
+use crate::md_slot::MdSlot;
 use crate::mm_slot::MmSlot;
 use crate::stages::{
     deliver_sent, is_held, put_drops, put_items, stamp_all, take_others, upset_all,
 };
+use crate::tables::Tables;
 use bus_pipes::{Batch, Bus, Drops, Outbox};
 use fsw_outside::{Failed, Gate, NoMemory, Sink};
 use memory_window::Ram;
@@ -13,6 +16,7 @@ use packet_log::Log;
 use scenario::{App, FrameInput, Header};
 use std::alloc::Global;
 use std::thread::Threads;
+use table_files::Files;
 
 /// How many items all applications give in a frame at most.
 const ITEMS: u32 = 1461;
@@ -27,6 +31,7 @@ pub struct Bench {
     number: u64,
     failed: bool,
     mm: MmSlot,
+    md: MdSlot,
     sent: Outbox,
     drops: Drops,
     commands: Batch,
@@ -47,21 +52,51 @@ impl Bench {
     ghost use Rattle.scenario.specs.declared.frame.Upset.{Upset};
     ghost use Rattle.scenario.specs.FrameLists.{Frame};
     ghost use Rattle.frame_exec.specs.Runs.{Setup, State, frame_lines};
-    ghost use Rattle.frame_exec.specs.Standing.{Has, Stands, IsInterrupted, CanRun, setup_in};
+    ghost use Rattle.frame_exec.specs.Standing.{Has, IsGiven, Stands, IsInterrupted, CanRun, setup_in};
+    ghost use Rattle.frame_exec.specs.Tables.{AreLoaded, Opens, region_fault};
+    ghost use Rattle.md_dwell.specs.Given.{TablesGiven};
     ghost use Rattle.frame_exec.specs.Slots.{CanLand};
     ghost use Rattle.frame_exec.specs.Stages.{IsSameRun, WakesIn, CanSend, Sends, RunsIn, lines_in};
 
-    /// A bench that stands for no frames, with the memory of the header's map. The number of workers is from 1 to 16.
-    pub fn open(alloc: Global, header: &Header, workers: u32) -> Result<Bench, NoMemory>
-        requires { (1 ≤ workers) × (workers ≤ 16) }
-        ensures { IfOk result (λ bench. Stands bench (setup_in header.now) []) }
+    /// A bench with the tables that were loaded from these files and the memory of the header's map, which stands for no
+    /// frames; the number of workers is from 1 to 16. `Region` comes exactly where that memory refuses the read of a dwell
+    /// entry of another length than 0, with the first such file and its first such entry; it is asked before memory is.
+    pub fn open(
+        alloc: Global,
+        tables: Tables,
+        files: &Files,
+        header: &Header,
+        workers: u32,
+    ) -> Result<Bench, OpenFault>
+        requires workers { (1 ≤ workers) × (workers ≤ 16) }
+        requires loaded { AreLoaded files.now tables }
+        ensures stands { IfOk result (λ bench. Stands bench (setup_in header.now tables) []) }
+        ensures refused { Opens (region_fault header.now.map files.now) result }
     {
         let _ = workers;
+        match refused_place(&header.map, files) {
+            Some(place) => Err(OpenFault::Region {
+                file: place.file,
+                entry: place.entry,
+            }),
+            None => match Bench::begin(alloc, &tables, header) {
+                Ok(bench) => Ok(bench),
+                Err(_) => Err(OpenFault::NoMemory),
+            },
+        }
+    }
+
+    // A bench that stands for no frames.
+    fn begin(alloc: Global, tables: &Tables, header: &Header) -> Result<Bench, NoMemory>
+        requires given { TablesGiven header.now.map tables.now.dwells }
+        ensures { IfOk result (λ bench. Stands bench (setup_in header.now tables.now) []) }
+    {
         Ok(Bench {
             epoch: header.epoch,
             number: 0,
             failed: false,
             mm: MmSlot::open(alloc)?,
+            md: MdSlot::open(alloc, tables.dwells())?,
             sent: Outbox::open(alloc, ITEMS)?,
             drops: Drops::open(alloc, DROPS)?,
             commands: Batch::new(),
@@ -114,15 +149,24 @@ impl Bench {
     fn wake(&mut self, input: &FrameInput)
         requires time { self.old.epoch + self.old.number < 4294967296 }
         requires upsets { All (λ (u : Upset). is_mapped (regions_of self.old.ram.areas) u.at ≡ true) input.now.upsets }
-        ensures wakes { (setup : Setup) (s : State) → self.old.epoch ≡ setup.epoch → Has self.old s → WakesIn setup s input.now self.new }
+        requires given { IsGiven self.old }
+        ensures wakes { (setup : Setup) (s : State) → self.old.epoch ≡ setup.epoch → Has self.old setup s → WakesIn setup s input.now self.new }
         ensures run { IsSameRun self.old self.new }
         ensures can_send { CanSend self.new }
+        ensures given { IsGiven self.new }
     {
         upset_all(&mut self.ram, input.upsets());
         let now = self.epoch + self.number as u32;
         let held = input.held();
         self.mm.wake(
             is_held(App::Mm, held),
+            &mut self.bus,
+            &mut self.commands,
+            self.ram.window(),
+            now,
+        );
+        self.md.wake(
+            is_held(App::Md, held),
             &mut self.bus,
             &mut self.commands,
             self.ram.window(),
@@ -138,6 +182,7 @@ impl Bench {
     {
         self.sent.clear();
         stamp_all(&mut self.log, self.mm.out.items(), &mut self.sent);
+        stamp_all(&mut self.log, self.md.out.items(), &mut self.sent);
         self.drops.clear();
         self.bus.deliver(input.sends(), &mut self.drops);
         deliver_sent(&mut self.bus, self.sent.items(), &mut self.drops);
@@ -147,9 +192,11 @@ impl Bench {
     fn run(&mut self, input: &FrameInput)
         requires time { self.old.epoch + self.old.number < 4294967296 }
         requires upsets { All (λ (u : Upset). is_mapped (regions_of self.old.ram.areas) u.at ≡ true) input.now.upsets }
-        ensures runs { (setup : Setup) (s : State) → self.old.epoch ≡ setup.epoch → Has self.old s → RunsIn setup s input.now self.new }
+        requires given { IsGiven self.old }
+        ensures runs { (setup : Setup) (s : State) → self.old.epoch ≡ setup.epoch → Has self.old setup s → RunsIn setup s input.now self.new }
         ensures run { IsSameRun self.old self.new }
         ensures can_land { CanLand self.new.ram self.new.mm.ops }
+        ensures given { IsGiven self.new }
     {
         self.wake(input);
         self.send(input);
@@ -162,9 +209,9 @@ impl Bench {
         ensures cause { HasCause (O.held sink.new) (O.faults sink.old) (O.faults sink.new) result }
     {
         let number = self.number as u32;
-        let Ok(()) = put_items(sink, number, self.sent.items()) else {
-            return Err(Failed);
-        };
-        put_drops(sink, number, self.drops.items())
+        match put_items(sink, number, self.sent.items()) {
+            Ok(()) => put_drops(sink, number, self.drops.items()),
+            Err(failed) => Err(failed),
+        }
     }
 }

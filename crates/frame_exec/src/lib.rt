@@ -2,10 +2,15 @@
 #![tactic(auto)]
 
 mod bench;
+mod giving;
+mod md_slot;
 mod mm_slot;
 mod stages;
+mod tables;
 
 pub use bench::Bench;
+pub use giving::OpenFault;
+pub use tables::{Tables, TablesFault};
 
 #[cfg(test)]
 mod tests;

@@ -1,8 +1,8 @@
 //! MM in the bench: its state, and what it gives in a frame.
 
-ghost use Rattle.std.specs.Prelude.{◌≡◌, List, [], length, All, IfOk, if◌then◌else◌};
-ghost use Rattle.bus_pipes.specs.Pipes.{with_packets};
+ghost use Rattle.std.specs.Prelude.{◌≡◌, List, [], length, All, IfOk};
 ghost use Rattle.memory_window.specs.Window.{seen};
+ghost use Rattle.frame_exec.specs.Sending.{taken};
 ghost use Rattle.mm_core.specs.Standing.{Stands, input_of};
 
 use bus_pipes::{Batch, Bus, Outbox, PipeName};
@@ -50,7 +50,7 @@ impl MmSlot {
         now: u32,
     )
         ensures wakes { WakesMm held (input_of now bus.old.mm window.entry) self.old self.new }
-        ensures pipes { bus.new ≡ (if held then bus.old else with_packets PipeName.Mm [] bus.old) }
+        ensures pipes { bus.new ≡ taken PipeName.Mm held bus.old }
         ensures fits { MmFits (seen window.entry) self.new }
     {
         self.out.clear();

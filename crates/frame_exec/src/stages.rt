@@ -1,20 +1,19 @@
 //! The loops of a frame, over the parts of the bench.
 
-ghost use Rattle.std.specs.Prelude.{◌≡◌, ℕ, ◌+◌, ◌≤◌, ◌++◌, true, List, [], length, All, if◌then◌else◌};
+ghost use Rattle.std.specs.Prelude.{◌≡◌, ℕ, ◌+◌, ◌≤◌, ◌++◌, true, List, [], length, All};
 ghost use Rattle.std.specs.List.{flat_map, fold, list_any};
 ghost use Rattle.fsw_outside.specs.Told.{WhereTold};
 ghost use Rattle.fsw_outside.specs.Causes.{HasCause};
 ghost use Rattle.fsw_outside.specs.Written.{WritesAll};
 ghost use Rattle.bus_pipes.specs.Held.{adding};
 ghost use Rattle.bus_pipes.specs.Counted.{is_item_counted};
-ghost use Rattle.bus_pipes.specs.Pipes.{with_packets};
 ghost use Rattle.bus_pipes.specs.Delivery.{after_offers, drops_from};
 ghost use Rattle.memory_window.specs.Regions.{is_mapped};
 ghost use Rattle.memory_window.specs.Memory.{regions_of};
 ghost use Rattle.packet_log.specs.Items.{item_line};
 ghost use Rattle.packet_log.specs.Lines.{drop_line};
 ghost use Rattle.packet_log.specs.Standing.{Stands as LogStands};
-ghost use Rattle.frame_exec.specs.Sending.{is_same, left_in_pipe, upset_by, makes, as_sent, sent_of, packet_in};
+ghost use Rattle.frame_exec.specs.Sending.{is_same, left_in_pipe, taken, upset_by, makes, as_sent, sent_of, packet_in};
 
 use bus_pipes::{Batch, Bus, Dropped, Drops, Out, Outbox, PipeName};
 use fsw_outside::{Failed, Sink};
@@ -45,7 +44,7 @@ pub(crate) fn is_held(app: App, held: &[App]) -> bool
 
 /// Takes all packets of a pipe, unless its application is held.
 fn take_unless(bus: &mut Bus, pipe: PipeName, held: bool, batch: &mut Batch)
-    ensures { bus.new ≡ (if held then bus.old else with_packets pipe [] bus.old) }
+    ensures { bus.new ≡ taken pipe held bus.old }
 {
     if held {
         return;
@@ -60,7 +59,6 @@ pub(crate) fn take_others(bus: &mut Bus, held: &[App], batch: &mut Batch)
       hs_ev = left_in_pipe (list_any (is_same App.Hs) held.now) bus.old.hs_ev;
       cs = left_in_pipe (list_any (is_same App.Cs) held.now) bus.old.cs;
       sc = left_in_pipe (list_any (is_same App.Sc) held.now) bus.old.sc;
-      md = left_in_pipe (list_any (is_same App.Md) held.now) bus.old.md;
     } }
 {
     let hs_held = is_held(App::Hs, held);
@@ -68,7 +66,6 @@ pub(crate) fn take_others(bus: &mut Bus, held: &[App], batch: &mut Batch)
     take_unless(bus, PipeName::HsEv, hs_held, batch);
     take_unless(bus, PipeName::Cs, is_held(App::Cs, held), batch);
     take_unless(bus, PipeName::Sc, is_held(App::Sc, held), batch);
-    take_unless(bus, PipeName::Md, is_held(App::Md, held), batch);
 }
 
 /// Writes the frame's upsets, in line order.

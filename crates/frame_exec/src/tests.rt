@@ -1,13 +1,14 @@
 ghost use Rattle.std.specs.Prelude.{IfOk};
 ghost use Rattle.scenario.specs.Standing.{Shows};
 
-use crate::Bench;
+use crate::{Bench, Tables};
 use fsw_outside::{Failed, MemSink, OpenGate};
 use memory_window::{Kind, Map, Region};
 use scenario::{Header, Item, Reader};
 use std::alloc::Global;
 use std::test::Fail;
 use std::thread::Threads;
+use table_files::Files;
 
 /// A reader that shows the first frame of a text.
 fn frame_of(alloc: Global, text: &str) -> Result<Reader, Fail>
@@ -58,7 +59,13 @@ fn run_noop<R: Threads + Sync>(
     if !nothing.upsets().is_empty() {
         return Err("an upset".into());
     }
-    let mut bench = Bench::open(alloc, &header, 1)?;
+    let files = Files::open(alloc)?;
+    let Ok(tables) = Tables::load(&files) else {
+        return Err("the tables are refused".into());
+    };
+    let Ok(mut bench) = Bench::open(alloc, tables, &files, &header, 1) else {
+        return Err("the bench isn't opened".into());
+    };
     let Ok(()) = bench.frame(rt, sends, &OpenGate, sink) else {
         return Err("the first frame failed".into());
     };

@@ -16,6 +16,27 @@ pub along_more : {A B : Type 0} (f : List A → A → B) (xs : List A) (x : A) �
 unfolding along
 along_more f xs x = along_after_more f [] xs x
 
+-- of one list behind another, behind some elements
+along_after_both : {A B : Type 0} (f : List A → A → B) (before xs ys : List A) → along_after f before (xs ++ ys) ≡ along_after f before xs ++ along_after f (before ++ xs) ys
+unfolding along_after
+along_after_both f before [] ys = ap (λ front. along_after f front ys) (sym (append-nil before))
+along_after_both f before (x ∷ xs) ys =
+    ap (λ more. f before x ∷ more) (along_after_both f (before ++ x ∷ []) xs ys
+    ∙ ap (λ front. along_after f (before ++ x ∷ []) xs ++ along_after f front ys) (append_assoc before (x ∷ []) xs))
+
+-- what stands in front can be a part of the function
+along_after_front : {A B : Type 0} (f : List A → A → B) (front before xs : List A) → along_after f (front ++ before) xs ≡ along_after (λ earlier x. f (front ++ earlier) x) before xs
+unfolding along_after
+along_after_front f front before [] = refl
+along_after_front f front before (x ∷ xs) =
+    ap (λ more. f (front ++ before) x ∷ more) (ap (λ earlier. along_after f earlier xs) (append_assoc front before (x ∷ [])) ∙ along_after_front f front (before ++ x ∷ []) xs)
+
+-- of one list behind another
+pub along_both : {A B : Type 0} (f : List A → A → B) (xs ys : List A) → along f (xs ++ ys) ≡ along f xs ++ along (λ earlier y. f (xs ++ earlier) y) ys
+unfolding along
+along_both f xs ys =
+    along_after_both f [] xs ys ∙ ap (λ more. along_after f [] xs ++ more) (ap (λ front. along_after f front ys) (sym (append-nil xs)) ∙ along_after_front f xs [] ys)
+
 -- of no elements
 pub along_none : {A B : Type 0} (f : List A → A → B) → along f [] ≡ []
 unfolding along along_after

@@ -1,14 +1,16 @@
 use Rattle.std.proofs.Common.{List, ◌++◌, sym, ◌∙◌, subst, Box, Global}
 use Rattle.std.specs.List.{flat_map}
 use Rattle.bus_pipes.specs.declared.names.Out.{Out}
-use Rattle.memory_window.specs.Memory.{Memory}
+use Rattle.memory_window.specs.Memory.{Memory, regions_of}
 use Rattle.frame_exec.specs.Slots.{CanLand}
 use Rattle.memory_window.specs.declared.operations.MemOp.{MemOp}
 use Rattle.mm_core.specs.Standing.{Stands as MmStands}
+use Rattle.md_dwell.specs.declared.step.Md.{Md}
+use Rattle.md_dwell.specs.Standing.{Stands as MdStands, AllGiven}
 use Rattle.packet_log.specs.Standing.{Stands as LogStands}
 use Rattle.frame_exec.specs.Sending.{makes}
 use Rattle.frame_exec.specs.Stages.{items_in}
-use Rattle.frame_exec.specs.Runs.{mm_after}
+use Rattle.frame_exec.specs.Runs.{mm_after, md_after}
 use Rattle.mm_core.specs.declared.step.Mm.{Mm}
 use Rattle.frame_exec.proofs.Sent.{sent_is, offered_is, dropped_is}
 use Rattle.frame_exec.proofs.bench.Bench.run.Goals as goal
@@ -20,6 +22,7 @@ returns-clause-runs c = λ setup s epoch has.
     let sent = sent_is setup s c.args.input.now (items_in c.wake.new.self) c.send.new.self.sent.items w.items (d.sent s.made w.made) in
     record {
       mm = subst (λ (state : Box Mm Global). MmStands (mm_after setup s c.args.input.now) state.value) (sym d.mm.state) w.mm;
+      md = subst (λ (state : Box Md Global). MdStands setup.tables.dwells (md_after setup s c.args.input.now) state.value) (sym d.md) w.md;
       sent = sent;
       drops = dropped_is setup s c.args.input.now c.wake.new.self.bus c.send.new.self.sent.items c.send.new.self.drops.items w.pipes sent d.drops;
       pipes = offered_is setup s c.args.input.now c.wake.new.self.bus c.send.new.self.bus c.send.new.self.sent.items w.pipes sent d.pipes;
@@ -33,3 +36,9 @@ returns-clause-can_land c =
     let d = c.send.ensures in
     subst (λ (image : Memory). CanLand image c.send.new.self.mm.ops) (sym d.memory)
     (subst (λ (ops : List MemOp). CanLand c.wake.new.self.ram ops) (sym d.mm.ops) c.wake.ensures.can_send.mm.landable)
+
+pub returns-clause-given : goal.returns-clause-given
+returns-clause-given c =
+    let d = c.send.ensures in
+    subst (λ (image : Memory). AllGiven (regions_of image.areas) c.send.new.self.md.state.value) (sym d.memory)
+    (subst (λ (state : Box Md Global). AllGiven (regions_of c.wake.new.self.ram.areas) state.value) (sym d.md) c.wake.ensures.given)

@@ -1,0 +1,67 @@
+//! Whether memory gives what the tables' entries read.
+
+ghost use Rattle.std.specs.Prelude.{◌≡◌, ℕ, List, length, None, option_map};
+ghost use Rattle.table_files.specs.Headers.{Shows};
+ghost use Rattle.md_dwell.specs.Tables.{dwell_of, dwell_fault_of};
+ghost use Rattle.md_dwell.specs.Given.{first_refused};
+ghost use Rattle.frame_exec.specs.Tables.{tables_fault, entry_fault_in, refused_in, region_fault};
+
+use md_dwell::load_dwell;
+use memory_window::Map;
+use table_files::{FileImage, Files, TableKind};
+use thiserror::Error;
+
+/// Why a bench isn't opened.
+#[derive(Clone, Copy, Debug, PartialEq, Eq, Error)]
+pub enum OpenFault {
+    /// The memory of the map refuses the read of an entry: the first file, counted from 1, and its first such entry.
+    #[error("memory refuses entry {entry} of file {file}")]
+    Region { file: u32, entry: u32 },
+    #[error("memory ran out")]
+    NoMemory,
+}
+
+/// The place of an entry: the number of its file, from 1, and its own, from 1.
+#[derive(Clone, Copy, Debug, PartialEq, Eq)]
+pub(crate) struct EntryPlace {
+    pub(crate) file: u32,
+    pub(crate) entry: u32,
+}
+
+/// The first entry of the files whose read memory of the map refuses.
+pub(crate) fn refused_place(map: &Map, files: &Files) -> Option<EntryPlace>
+    requires { tables_fault files.now ≡ None }
+    ensures { option_map (λ (place : EntryPlace). (place.file, place.entry)) result ≡ region_fault map.now files.now }
+{
+    for i in 0..files.len() {
+        if let Some(entry) = refused_in(map, files.get(i + 1)) {
+            return Some(EntryPlace { file: i + 1, entry });
+        }
+    }
+    None
+}
+
+// The first entry of a file whose read memory of the map refuses.
+fn refused_in(map: &Map, image: FileImage<'_>) -> Option<u32>
+    requires { (file : List ℕ) × Shows file image }
+    ensures { (file : List ℕ) → Shows file image.entry → entry_fault_in file ≡ None → result ≡ refused_in map.now file }
+{
+    match image {
+        FileImage::Load { .. } => None,
+        FileImage::Table { kind, payload } => match kind {
+            TableKind::Dwell(_) => refused_dwell(map, payload),
+            _ => None,
+        },
+    }
+}
+
+// The first entry of a dwell table's payload whose read memory of the map refuses.
+fn refused_dwell(map: &Map, payload: &[u8]) -> Option<u32>
+    requires { length payload.now ≡ 204 }
+    ensures { dwell_fault_of payload.now ≡ None → result ≡ first_refused map.now (dwell_of payload.now).entries }
+{
+    match load_dwell(payload) {
+        Ok(table) => table.first_refused(map),
+        Err(_) => None,
+    }
+}
