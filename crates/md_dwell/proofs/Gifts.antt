@@ -10,7 +10,9 @@ use Rattle.std.specs.Prelude.{◌==◌}
 use Rattle.memory_window.specs.Memory.{Memory, regions_of}
 use Rattle.memory_window.proofs.Given.{read_given}
 use Rattle.md_dwell.specs.Tables.{DwellTable, is_length}
-use Rattle.md_dwell.specs.Reading.{bits_of, value_of}
+use Rattle.memory_window.specs.Window.{seen}
+use Rattle.memory_window.specs.declared.window.Window.{Window}
+use Rattle.md_dwell.specs.Reading.{image_of, bits_of, value_of}
 use Rattle.md_dwell.specs.Given.{is_given, first_refused, TablesGiven, OrderGiven}
 use Rattle.md_dwell.specs.Verdicts.{is_readable, own_refusal}
 use Rattle.md_dwell.specs.declared.tables.DwellEntry.{DwellEntry}
@@ -86,3 +88,8 @@ tables_given regions tables a b c d long first second third fourth k e within = 
   where
     at : (j : ℕ) (x : DwellTable) → j < length tables → AllPass (is_given regions) (get_or tables j x).entries → j ≡ k → AllPass (is_given regions) (get_or tables k e).entries
     at j x inside holds is = subst (λ (i : ℕ). AllPass (is_given regions) (get_or tables i e).entries) is (subst (λ (t : DwellTable). AllPass (is_given regions) t.entries) (get_or_default tables j x e inside) holds)
+
+-- the image is what the window shows
+pub image_seen : (window : Window) → image_of window ≡ seen window
+unfolding image_of
+image_seen window = refl

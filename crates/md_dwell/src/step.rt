@@ -33,7 +33,7 @@ pub struct Md {
 }
 
 impl Md {
-    /// The state before the first wakeup.
+    /// The state before the first wakeup: both counts 0, and the streams of the enabled tables start in the first wakeup.
     pub fn start(tables: &[Dwell; 4]) -> Md
         ensures stands { Stands tables.now [] result }
         ensures given { (regions : List Region) → TablesGiven regions tables.now → AllGiven regions result }
@@ -50,8 +50,12 @@ impl Md {
         }
     }
 
-    /// Handles the packets of the pipe, at most 16, and then serves the four streams. What is sent goes to `out`, which is
-    /// empty, and the state after the wakeup to `next`. All reading is by the window, which gives the entries of the state.
+    /// A wakeup at the time `now`, in seconds. The packets of the pipe, at most 16, are handled in order: a request is answered with
+    /// housekeeping (accepted, errors, enabled tables), a command with its event. Then the four streams are served, table 1 first: the
+    /// entries that are due are read, and where the last one of a round was read the packet of table n (id 0x0890 + n) is sent, with n,
+    /// the number of its bytes, and the values of the round, each in its length with the most significant byte first. What is sent goes
+    /// to `out`, which is empty and has room for 20 items, and the state after the wakeup to `next`. All reading is by the window,
+    /// which gives the entries of the state.
     pub fn step(
         &self,
         commands: &[Packet],

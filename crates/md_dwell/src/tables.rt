@@ -8,12 +8,14 @@ use std::marker::Model;
 /// How many entries a dwell table has.
 pub(crate) const ENTRIES: usize = 25;
 
-/// An entry of a dwell table: the value of `len` bytes at the address `at`, read `delay` wakeups before the next entry.
+/// An entry of a dwell table: a value of memory, and how long after its reading the next entry is read.
 #[derive(Clone, Copy, Debug, PartialEq, Eq)]
 pub struct DwellEntry {
-    /// 0, 1, 2 or 4.
+    /// How many bytes the value has: 1, 2 or 4. The table's list ends before the first entry with 0.
     pub len: u16,
+    /// The number of wakeups from the reading of this entry to that of the next one.
     pub delay: u16,
+    /// The address of the value's first byte.
     pub at: u32,
 }
 
@@ -39,7 +41,8 @@ impl Model for Plan {
     ghost inverse = { λ entries. record { entries = entries; count = length (list_of entries); period = delays (list_of entries) } };
 }
 
-/// A dwell table, seen as whether it is enabled and the list of its 25 entries.
+/// A dwell table, seen as whether it is enabled and the list of its 25 entries. (After the table of the Memory Dwell application of
+/// NASA's Core Flight System; the layout is this project's own.)
 #[derive(Clone, Copy, Debug)]
 pub struct Dwell {
     enabled: bool,
