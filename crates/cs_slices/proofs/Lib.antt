@@ -9,3 +9,4 @@ pub mod Wakeups
 pub mod Slicing
 pub mod Handling
 pub mod Counted
+pub mod Refusing

@@ -2,6 +2,7 @@
 #![tactic(auto)]
 
 mod answers;
+mod giving;
 mod instructions;
 mod loading;
 mod passing;

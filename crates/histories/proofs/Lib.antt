@@ -1,3 +1,4 @@
 pub mod Along
 pub mod Lasts
 pub mod Fronts
+pub mod Firsts
