@@ -10,3 +10,4 @@ pub mod Slicing
 pub mod Handling
 pub mod Counted
 pub mod Refusing
+pub mod Following

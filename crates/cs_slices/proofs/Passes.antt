@@ -36,7 +36,7 @@ begun_none : (place : ℕ) (since : List Heard) → has_begun place [] since ≡
 unfolding has_begun last_or
 begun_none place since = refl
 
-offset_none : (place : ℕ) (since : List Heard) → offset_at place [] since ≡ 0
+pub offset_none : (place : ℕ) (since : List Heard) → offset_at place [] since ≡ 0
 unfolding offset_at last_or
 offset_none place since = refl
 

@@ -7,3 +7,4 @@ pub mod Slices
 pub mod Passes
 pub mod Output
 pub mod Standing
+pub mod Rows

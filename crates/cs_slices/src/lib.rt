@@ -4,6 +4,7 @@
 mod answers;
 mod giving;
 mod instructions;
+pub mod laws;
 mod loading;
 mod passing;
 mod reading;
@@ -16,3 +17,6 @@ mod verdicts;
 pub use loading::load_segments;
 pub use segments::{Segment, Segments};
 pub use step::Cs;
+
+#[cfg(test)]
+mod tests;
