@@ -23,11 +23,15 @@ use Rattle.scenario.specs.declared.frame.Upset.{Upset}
 use Rattle.scenario.specs.FrameLists.{Frame}
 use Rattle.frame_exec.specs.declared.bench.Bench.{Bench}
 use Rattle.mm_core.specs.declared.step.Mm.{Mm}
+use Rattle.cs_slices.specs.declared.step.Cs.{Cs}
+use Rattle.cs_slices.specs.Given.{SegmentsGiven}
+use Rattle.cs_slices.specs.Standing.{Stands as CsStands}
+use Rattle.frame_exec.specs.Tables.{TableSet}
 use Rattle.md_dwell.specs.declared.step.Md.{Md}
 use Rattle.md_dwell.specs.Standing.{Stands as MdStands, AllGiven}
 use Rattle.frame_exec.specs.Sending.{upset_by}
-use Rattle.frame_exec.specs.Runs.{Setup, State, beginning, image_at, left_in_pipes, sent_at, offers_at, after_frame, run_of, frame_lines, log_of, lines_at, mm_after, md_after, operations_at}
-use Rattle.frame_exec.specs.Standing.{Has, IsGiven, Stands, CanRun}
+use Rattle.frame_exec.specs.Runs.{Setup, State, beginning, image_at, left_in_pipes, sent_at, offers_at, after_frame, run_of, frame_lines, log_of, lines_at, cs_after, mm_after, md_after, operations_at}
+use Rattle.frame_exec.specs.Standing.{Has, IsReady, Stands, CanRun}
 use Rattle.frame_exec.specs.Stages.{RunsIn, IsLanded}
 
 -- what a run has come to, at one more frame
@@ -86,6 +90,19 @@ pub run_regions : (setup : Setup) (frames : List Frame) → regions_of (run_of s
 unfolding run_of beginning
 run_regions setup frames = regions_from setup (beginning setup) frames ∙ regions-cut setup.regions _
 
+-- applications that can be woken, by the parts of the bench
+pub ready_by : (before b : Bench) → regions_of b.ram.areas ≡ regions_of before.ram.areas → b.tables ≡ before.tables → b.cs.state ≡ before.cs.state → b.md.state ≡ before.md.state → IsReady before → IsReady b
+ready_by before b same tables cs md ready = record {
+  started = (
+    ready.started.0,
+    subst (λ (t : TableSet). CsStands t.eeprom t.memory ready.started.0 b.cs.state.value) (sym tables)
+        (subst (λ (state : Box Cs Global). CsStands before.tables.eeprom before.tables.memory ready.started.0 state.value) (sym cs) ready.started.1),
+  );
+  eeprom = subst (λ (regions : List Region). SegmentsGiven regions b.tables.eeprom) (sym same) (subst (λ (t : TableSet). SegmentsGiven (regions_of before.ram.areas) t.eeprom) (sym tables) ready.eeprom);
+  memory = subst (λ (regions : List Region). SegmentsGiven regions b.tables.memory) (sym same) (subst (λ (t : TableSet). SegmentsGiven (regions_of before.ram.areas) t.memory) (sym tables) ready.memory);
+  dwells = subst (λ (regions : List Region). AllGiven regions b.md.state.value) (sym same) (subst (λ (state : Box Md Global). AllGiven (regions_of before.ram.areas) state.value) (sym md) ready.dwells);
+}
+
 -- the lines of a frame, by what was sent and dropped
 pub lines_are : (setup : Setup) (s : State) (frame : Frame) (number : ℕ) (sent : List Out) (drops : List Dropped) → number ≡ s.number → sent ≡ sent_at setup s frame
     → drops ≡ drops_from (left_in_pipes frame s.pipes) (offers_at setup s frame) → flat_map (item_line number) sent ++ flat_map (drop_line number) drops ≡ lines_at setup s frame
@@ -103,10 +120,12 @@ pub landed_is : (setup : Setup) (s : State) (frame : Frame) (ops : List MemOp) (
 landed_is setup s frame ops image now a b c = a ∙ ap (λ (xs : List MemOp). land [] xs image) b ∙ ap (λ (m : Memory). land [] (operations_at setup s frame) m) c
 
 -- the bench has what the run has come to after one more frame
-pub has_after : (before b : Bench) (setup : Setup) (s : State) (frame : Frame) → IsLanded before b → b.number ≡ s.number + 1 → RunsIn setup s frame before → Has b setup (after_frame setup s frame)
+pub has_after : (before b : Bench) (setup : Setup) (s : State) (frame : Frame) → IsLanded before b → b.number ≡ s.number + 1 → b.tables ≡ setup.tables → RunsIn setup s frame before → Has b setup (after_frame setup s frame)
 unfolding after_frame
-has_after before b setup s frame landed number ran = record {
+has_after before b setup s frame landed number tables ran = record {
   number = number;
+  tables = tables;
+  cs = subst (λ (state : Box Cs Global). CsStands setup.tables.eeprom setup.tables.memory (cs_after setup s frame) state.value) (sym landed.cs) ran.cs;
   mm = subst (λ (state : Box Mm Global). MmStands (mm_after setup s frame) state.value) (sym landed.mm.state) ran.mm;
   md = subst (λ (state : Box Md Global). MdStands setup.tables.dwells (md_after setup s frame) state.value) (sym landed.md) ran.md;
   pipes = landed.pipes ∙ ran.pipes;
@@ -114,32 +133,41 @@ has_after before b setup s frame landed number ran = record {
   memory = landed_is setup s frame before.mm.ops before.ram b.ram landed.memory ran.operations ran.memory;
 }
 
--- what memory gives stays, as landing leaves the regions
-given_after : (before b : Bench) → IsLanded before b → IsGiven before → IsGiven b
-given_after before b landed given =
+-- the applications can be woken again, as landing leaves the regions
+ready_after : (before b : Bench) → IsLanded before b → b.tables ≡ before.tables → IsReady before → IsReady b
+ready_after before b landed tables ready =
     let same : regions_of b.ram.areas ≡ regions_of before.ram.areas = ap (λ (m : Memory). regions_of m.areas) landed.memory ∙ regions-changed _ before.ram.areas in
-    subst (λ (regions : List Region). AllGiven regions b.md.state.value) (sym same) (subst (λ (state : Box Md Global). AllGiven (regions_of before.ram.areas) state.value) (sym landed.md) given)
+    ready_by before b same tables landed.cs landed.md ready
 
 -- a bench stands for one more frame
 pub stands_after : (before b : Bench) (setup : Setup) (frames : List Frame) (frame : Frame) → b.epoch ≡ setup.epoch → b.failed ≡ false → b.number ≡ (run_of setup frames).number + 1
-    → IsLanded before b → IsGiven before → RunsIn setup (run_of setup frames) frame before → Stands b setup (frames ++ frame ∷ [])
-stands_after before b setup frames frame epoch well number landed given ran = record {
+    → IsLanded before b → b.tables ≡ before.tables → before.tables ≡ setup.tables → IsReady before → RunsIn setup (run_of setup frames) frame before → Stands b setup (frames ++ frame ∷ [])
+stands_after before b setup frames frame epoch well number landed kept tables ready ran = record {
   epoch = epoch;
   well = well;
-  has = subst (Has b setup) (sym (run_more setup frames frame)) (has_after before b setup (run_of setup frames) frame landed number ran);
-  given = given_after before b landed given;
+  has = subst (Has b setup) (sym (run_more setup frames frame)) (has_after before b setup (run_of setup frames) frame landed number (kept ∙ tables) ran);
+  ready = ready_after before b landed kept ready;
 }
 
 -- a bench that was opened stands for no frames
-pub stands_opened : (b : Bench) (setup : Setup) → b.epoch ≡ setup.epoch → b.failed ≡ false → b.number ≡ 0 → MmStands [] b.mm.state.value → MdStands setup.tables.dwells [] b.md.state.value
-    → AllGiven setup.regions b.md.state.value → b.bus ≡ empty_pipes → LogStands [] b.log → b.ram ≡ start_memory setup.regions → Stands b setup []
+pub stands_opened : (b : Bench) (setup : Setup) → b.epoch ≡ setup.epoch → b.failed ≡ false → b.number ≡ 0 → b.tables ≡ setup.tables
+    → CsStands setup.tables.eeprom setup.tables.memory [] b.cs.state.value → MmStands [] b.mm.state.value → MdStands setup.tables.dwells [] b.md.state.value
+    → SegmentsGiven setup.regions setup.tables.eeprom → SegmentsGiven setup.regions setup.tables.memory → AllGiven setup.regions b.md.state.value
+    → b.bus ≡ empty_pipes → LogStands [] b.log → b.ram ≡ start_memory setup.regions → Stands b setup []
 unfolding run_of beginning
-stands_opened b setup epoch well number mm md given pipes made memory = record {
-  epoch = epoch;
-  well = well;
-  has = record { number = number; mm = mm; md = md; pipes = pipes; made = made; memory = memory };
-  given = subst (λ (regions : List Region). AllGiven regions b.md.state.value) (sym (ap (λ (m : Memory). regions_of m.areas) memory ∙ regions-cut setup.regions _)) given;
-}
+stands_opened b setup epoch well number tables cs mm md eeprom segments dwells pipes made memory =
+    let same : setup.regions ≡ regions_of b.ram.areas = sym (ap (λ (m : Memory). regions_of m.areas) memory ∙ regions-cut setup.regions _) in
+    record {
+      epoch = epoch;
+      well = well;
+      has = record { number = number; tables = tables; cs = cs; mm = mm; md = md; pipes = pipes; made = made; memory = memory };
+      ready = record {
+        started = ([], subst (λ (t : TableSet). CsStands t.eeprom t.memory [] b.cs.state.value) (sym tables) cs);
+        eeprom = subst (λ (regions : List Region). SegmentsGiven regions b.tables.eeprom) same (subst (λ (t : TableSet). SegmentsGiven setup.regions t.eeprom) (sym tables) eeprom);
+        memory = subst (λ (regions : List Region). SegmentsGiven regions b.tables.memory) same (subst (λ (t : TableSet). SegmentsGiven setup.regions t.memory) (sym tables) segments);
+        dwells = subst (λ (regions : List Region). AllGiven regions b.md.state.value) same dwells;
+      };
+    }
 
 -- the upsets of a frame that can be run lie in the bench's regions
 pub upsets_mapped : (b : Bench) (setup : Setup) (frames : List Frame) (frame : Frame) → Stands b setup frames → CanRun setup frames frame → All (λ (u : Upset). is_mapped (regions_of b.ram.areas) u.at ≡ true) frame.upsets

@@ -10,25 +10,28 @@ use Rattle.md_dwell.specs.Tables.{DwellTable, dwell_of, blank_table, blank_entry
 use Rattle.md_dwell.specs.declared.tables.DwellEntry.{DwellEntry}
 use Rattle.md_dwell.specs.Given.{is_given, TablesGiven}
 use Rattle.md_dwell.proofs.Gifts.{none_refused}
-use Rattle.frame_exec.specs.Tables.{TableSet, blank_tables, with_table, with_file, tables_of, said_or, first_said, refused_entry, refused_in, region_fault}
-
--- what memory of these regions gives of all tables
-abbrev pub SetGiven : List Region → TableSet → Type 0
-SetGiven regions tables = TablesGiven regions tables.dwells
+use Rattle.cs_slices.specs.declared.segments.Segment.{Segment}
+use Rattle.cs_slices.specs.Tables.{blank_segment, blank_segments, segments_of}
+use Rattle.cs_slices.specs.Given.{is_given as is_segment_given, SegmentsGiven}
+use Rattle.cs_slices.proofs.Refusing.{none_refused as no_segment_refused}
+use Rattle.frame_exec.specs.Tables.{TableSet, SetGiven, blank_tables, with_table, with_file, tables_of, said_or, first_said, refused_entry, refused_in, region_fault}
 
 -- one table more
 table_given : (regions : List Region) (kind : Option TableKind) (payload : List ℕ) (tables : TableSet) → refused_entry regions kind payload ≡ None → SetGiven regions tables → SetGiven regions (with_table kind payload tables)
 unfolding TablesGiven
-table_given regions (Some (Dwell n)) payload tables none given =
-    All-set (λ (t : DwellTable). AllPass (is_given regions) t.entries) tables.dwells (n - 1) (dwell_of payload) (none_refused regions (dwell_of payload).entries none) given
+table_given regions (Some (Dwell n)) payload tables none given = record {
+  dwells = All-set (λ (t : DwellTable). AllPass (is_given regions) t.entries) tables.dwells (n - 1) (dwell_of payload) (none_refused regions (dwell_of payload).entries none) given.dwells;
+  eeprom = given.eeprom;
+  memory = given.memory;
+}
+table_given regions (Some Eeprom) payload tables none given = record { dwells = given.dwells; eeprom = no_segment_refused regions (segments_of payload) none; memory = given.memory }
+table_given regions (Some Memory) payload tables none given = record { dwells = given.dwells; eeprom = given.eeprom; memory = no_segment_refused regions (segments_of payload) none }
 table_given regions (Some AppMon) payload tables none given = given
 table_given regions (Some EventMon) payload tables none given = given
 table_given regions (Some ExeCount) payload tables none given = given
 table_given regions (Some MsgActs) payload tables none given = given
 table_given regions (Some (Ats n)) payload tables none given = given
 table_given regions (Some (Rts n)) payload tables none given = given
-table_given regions (Some Eeprom) payload tables none given = given
-table_given regions (Some Memory) payload tables none given = given
 table_given regions None payload tables none given = given
 
 -- nothing is said of any file
@@ -53,9 +56,17 @@ blank_dwell : (regions : List Region) → AllPass (is_given regions) blank_table
 unfolding blank_table
 blank_dwell regions = blank_entries regions
 
+blank_dwells : (regions : List Region) → TablesGiven regions (replicate 4 blank_table)
+unfolding TablesGiven
+blank_dwells regions = All-replicate (λ (t : DwellTable). AllPass (is_given regions) t.entries) 4 blank_table (blank_dwell regions)
+
+blank_segment_given : (regions : List Region) → SegmentsGiven regions blank_segments
+unfolding SegmentsGiven blank_segments is_segment_given
+blank_segment_given regions = All-replicate (λ (s : Segment). is_segment_given regions s ≡ true) 16 blank_segment refl
+
 blank_given : (regions : List Region) → SetGiven regions blank_tables
-unfolding blank_tables TablesGiven
-blank_given regions = All-replicate (λ (t : DwellTable). AllPass (is_given regions) t.entries) 4 blank_table (blank_dwell regions)
+unfolding blank_tables
+blank_given regions = record { dwells = blank_dwells regions; eeprom = blank_segment_given regions; memory = blank_segment_given regions }
 
 -- the tables of all files
 pub given_tables : (regions : List Region) (files : List (List ℕ)) → region_fault regions files ≡ None → SetGiven regions (tables_of files)

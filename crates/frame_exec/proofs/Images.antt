@@ -44,35 +44,40 @@ pub load_put_is : (tables : TableSet) (file : List ℕ) → kind_of_file file �
 load_put_is tables file none = sym (ap (λ (k : Option TableKind). with_table k (payload_of_file file) tables) none)
 
 -- a kind whose table no application has yet
-pub other_fault : (kind : TableKind) (payload : List ℕ) → ((n : ℕ) → kind ≡ Dwell n → ⊥) → entry_fault (Some kind) payload ≡ None
-other_fault AppMon payload dwell = refl
-other_fault EventMon payload dwell = refl
-other_fault ExeCount payload dwell = refl
-other_fault MsgActs payload dwell = refl
-other_fault (Ats n) payload dwell = refl
-other_fault (Rts n) payload dwell = refl
-other_fault (Dwell n) payload dwell = absurd (dwell n refl)
-other_fault Eeprom payload dwell = refl
-other_fault Memory payload dwell = refl
+pub record IsOther (kind : TableKind) : Type 0 where
+  pub dwell : (n : ℕ) → kind ≡ Dwell n → ⊥
+  pub eeprom : kind ≡ Eeprom → ⊥
+  pub memory : kind ≡ Memory → ⊥
 
-pub other_refused : (regions : List Region) (kind : TableKind) (payload : List ℕ) → ((n : ℕ) → kind ≡ Dwell n → ⊥) → refused_entry regions (Some kind) payload ≡ None
-other_refused regions AppMon payload dwell = refl
-other_refused regions EventMon payload dwell = refl
-other_refused regions ExeCount payload dwell = refl
-other_refused regions MsgActs payload dwell = refl
-other_refused regions (Ats n) payload dwell = refl
-other_refused regions (Rts n) payload dwell = refl
-other_refused regions (Dwell n) payload dwell = absurd (dwell n refl)
-other_refused regions Eeprom payload dwell = refl
-other_refused regions Memory payload dwell = refl
+pub other_fault : (kind : TableKind) (payload : List ℕ) → IsOther kind → entry_fault (Some kind) payload ≡ None
+other_fault AppMon payload other = refl
+other_fault EventMon payload other = refl
+other_fault ExeCount payload other = refl
+other_fault MsgActs payload other = refl
+other_fault (Ats n) payload other = refl
+other_fault (Rts n) payload other = refl
+other_fault (Dwell n) payload other = absurd (other.dwell n refl)
+other_fault Eeprom payload other = absurd (other.eeprom refl)
+other_fault Memory payload other = absurd (other.memory refl)
 
-pub other_put : (tables : TableSet) (kind : TableKind) (payload : List ℕ) → ((n : ℕ) → kind ≡ Dwell n → ⊥) → tables ≡ with_table (Some kind) payload tables
-other_put tables AppMon payload dwell = refl
-other_put tables EventMon payload dwell = refl
-other_put tables ExeCount payload dwell = refl
-other_put tables MsgActs payload dwell = refl
-other_put tables (Ats n) payload dwell = refl
-other_put tables (Rts n) payload dwell = refl
-other_put tables (Dwell n) payload dwell = absurd (dwell n refl)
-other_put tables Eeprom payload dwell = refl
-other_put tables Memory payload dwell = refl
+pub other_refused : (regions : List Region) (kind : TableKind) (payload : List ℕ) → IsOther kind → refused_entry regions (Some kind) payload ≡ None
+other_refused regions AppMon payload other = refl
+other_refused regions EventMon payload other = refl
+other_refused regions ExeCount payload other = refl
+other_refused regions MsgActs payload other = refl
+other_refused regions (Ats n) payload other = refl
+other_refused regions (Rts n) payload other = refl
+other_refused regions (Dwell n) payload other = absurd (other.dwell n refl)
+other_refused regions Eeprom payload other = absurd (other.eeprom refl)
+other_refused regions Memory payload other = absurd (other.memory refl)
+
+pub other_put : (tables : TableSet) (kind : TableKind) (payload : List ℕ) → IsOther kind → tables ≡ with_table (Some kind) payload tables
+other_put tables AppMon payload other = refl
+other_put tables EventMon payload other = refl
+other_put tables ExeCount payload other = refl
+other_put tables MsgActs payload other = refl
+other_put tables (Ats n) payload other = refl
+other_put tables (Rts n) payload other = refl
+other_put tables (Dwell n) payload other = absurd (other.dwell n refl)
+other_put tables Eeprom payload other = absurd (other.eeprom refl)
+other_put tables Memory payload other = absurd (other.memory refl)

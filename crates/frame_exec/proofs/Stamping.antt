@@ -44,7 +44,17 @@ pub made_two : (made : List (List ℕ)) (items more : List Out) (counts : List �
 made_two made items more counts stands =
     subst (λ (packets : List (List ℕ)). LogStands packets counts) (append_assoc made (flat_map makes items) (flat_map makes more) ∙ ap (λ (packets : List (List ℕ)). made ++ packets) (sym (flat_map-append makes items more))) stands
 
--- two lists of items that were sent, one behind the other
-pub sent_two : (made : List (List ℕ)) (items more start middle end : List Out) → start ≡ [] → middle ≡ start ++ sent_of made items → end ≡ middle ++ sent_of (made ++ flat_map makes items) more → end ≡ sent_of made (items ++ more)
-sent_two made items more start middle end none first second =
-    second ∙ ap (λ (xs : List Out). xs ++ sent_of (made ++ flat_map makes items) more) (first ∙ ap (λ (xs : List Out). xs ++ sent_of made items) none) ∙ sym (sent_both made items more)
+-- items that are known by another name
+pub sent_by : (made : List (List ℕ)) (start items others end : List Out) → items ≡ others → end ≡ start ++ sent_of made items → end ≡ start ++ sent_of made others
+sent_by made start items others end same sent = sent ∙ ap (λ (xs : List Out). start ++ sent_of made xs) same
+
+pub log_by : (made : List (List ℕ)) (items others : List Out) (counts : List ℕ) → items ≡ others → LogStands (made ++ flat_map makes items) counts → LogStands (made ++ flat_map makes others) counts
+log_by made items others counts same stands = subst (λ (xs : List Out). LogStands (made ++ flat_map makes xs) counts) same stands
+
+-- three lists of items that were sent, one behind the other
+pub sent_three : (made : List (List ℕ)) (first second third none one two three : List Out) → none ≡ [] → one ≡ none ++ sent_of made first → two ≡ one ++ sent_of (made ++ flat_map makes first) second
+    → three ≡ two ++ sent_of ((made ++ flat_map makes first) ++ flat_map makes second) third → three ≡ sent_of made (first ++ (second ++ third))
+sent_three made first second third none one two three a b c d =
+    d ∙ ap (λ (xs : List Out). xs ++ sent_of ((made ++ flat_map makes first) ++ flat_map makes second) third) (c ∙ ap (λ (xs : List Out). xs ++ sent_of (made ++ flat_map makes first) second) (b ∙ ap (λ (xs : List Out). xs ++ sent_of made first) a))
+    ∙ append_assoc (sent_of made first) (sent_of (made ++ flat_map makes first) second) (sent_of ((made ++ flat_map makes first) ++ flat_map makes second) third)
+    ∙ ap (λ (xs : List Out). sent_of made first ++ xs) (sym (sent_both (made ++ flat_map makes first) second third)) ∙ sym (sent_both made first (second ++ third))

@@ -10,6 +10,7 @@ use Rattle.memory_window.specs.Landing.{land}
 use Rattle.memory_window.specs.declared.regions.Region.{Region}
 use Rattle.memory_window.specs.declared.operations.MemOp.{MemOp}
 use Rattle.mm_core.specs.Output.{Input as MmInput, mm_items, mm_operations}
+use Rattle.cs_slices.specs.Output.{Input as CsInput, cs_items}
 use Rattle.md_dwell.specs.Orders.{Input as MdInput}
 use Rattle.md_dwell.specs.Output.{md_items}
 use Rattle.packet_log.specs.Lines.{drop_line}
@@ -29,6 +30,7 @@ pub record Setup : Type 0 where
 -- what a run has come to: how many frames there were, the history of each application, what the pipes hold, the packets made so far, and memory
 pub record State : Type 0 where
   pub number : ℕ
+  pub cs : List CsInput
   pub mm : List MmInput
   pub md : List MdInput
   pub pipes : Pipes
@@ -37,7 +39,7 @@ pub record State : Type 0 where
 
 -- before the first frame
 unfoldable pub beginning : Setup → State
-beginning setup = record { number = 0; mm = []; md = []; pipes = empty_pipes; made = []; memory = start_memory setup.regions }
+beginning setup = record { number = 0; cs = []; mm = []; md = []; pipes = empty_pipes; made = []; memory = start_memory setup.regions }
 
 -- whether an application is held in a frame
 unfoldable pub is_held : App → Frame → Bool
@@ -46,6 +48,14 @@ is_held app frame = list_any (is_same app) frame.held
 -- the frame's image: memory with the frame's upsets, written in line order
 unfoldable pub image_at : State → Frame → Memory
 image_at s frame = fold upset_by s.memory frame.upsets
+
+-- what CS reads in a frame
+unfoldable pub cs_input_at : Setup → State → Frame → CsInput
+cs_input_at setup s frame = record { time = setup.epoch + s.number; commands = s.pipes.cs; image = image_at s frame }
+
+-- CS's history behind a frame
+unfoldable pub cs_after : Setup → State → Frame → List CsInput
+cs_after setup s frame = if is_held apps.Cs frame then s.cs else (s.cs ++ cs_input_at setup s frame ∷ [])
 
 -- what MM reads in a frame
 unfoldable pub mm_input_at : Setup → State → Frame → MmInput
@@ -64,6 +74,9 @@ unfoldable pub md_after : Setup → State → Frame → List MdInput
 md_after setup s frame = if is_held apps.Md frame then s.md else (s.md ++ md_input_at setup s frame ∷ [])
 
 -- what each application gives in a frame
+unfoldable pub cs_items_at : Setup → State → Frame → List Out
+cs_items_at setup s frame = if is_held apps.Cs frame then [] else cs_items setup.tables.eeprom setup.tables.memory s.cs (cs_input_at setup s frame)
+
 unfoldable pub mm_items_at : Setup → State → Frame → List Out
 mm_items_at setup s frame = if is_held apps.Mm frame then [] else mm_items s.mm (mm_input_at setup s frame)
 
@@ -72,7 +85,7 @@ md_items_at setup s frame = if is_held apps.Md frame then [] else md_items setup
 
 -- the items that the applications give, in the order of the applications
 unfoldable pub items_at : Setup → State → Frame → List Out
-items_at setup s frame = mm_items_at setup s frame ++ md_items_at setup s frame
+items_at setup s frame = cs_items_at setup s frame ++ (mm_items_at setup s frame ++ md_items_at setup s frame)
 
 -- the memory operations of a frame, in command order
 unfoldable pub operations_at : Setup → State → Frame → List MemOp
@@ -107,6 +120,7 @@ lines_at setup s frame =
 unfoldable pub after_frame : Setup → State → Frame → State
 after_frame setup s frame = record {
   number = s.number + 1;
+  cs = cs_after setup s frame;
   mm = mm_after setup s frame;
   md = md_after setup s frame;
   pipes = after_offers (left_in_pipes frame s.pipes) (offers_at setup s frame);

@@ -8,6 +8,10 @@ use Rattle.memory_window.specs.Operations.{IsBacked}
 use Rattle.memory_window.specs.declared.operations.MemOp.{MemOp}
 use Rattle.mm_core.specs.Output.{Input as MmInput, mm_items, mm_operations}
 use Rattle.mm_core.specs.Standing.{Stands as MmStands}
+use Rattle.cs_slices.specs.Output.{Input as CsInput, cs_items}
+use Rattle.cs_slices.specs.Standing.{Stands as CsStands}
+use Rattle.cs_slices.specs.declared.segments.Segment.{Segment}
+use Rattle.frame_exec.specs.declared.cs_slot.CsSlot.{CsSlot}
 use Rattle.md_dwell.specs.Tables.{DwellTable}
 use Rattle.md_dwell.specs.Orders.{Input as MdInput}
 use Rattle.md_dwell.specs.Output.{md_items}
@@ -46,3 +50,8 @@ pub record WakesMd (held : Bool) (input : MdInput) (old new : MdSlot) : Type 0 w
   pub state : (tables : List DwellTable) (history : List MdInput) → MdStands tables history old.state.value
       → MdStands tables (if held then history else (history ++ input ∷ [])) new.state.value
   pub items : (tables : List DwellTable) (history : List MdInput) → MdStands tables history old.state.value → new.out.items ≡ (if held then [] else md_items tables history input)
+
+-- CS was woken on an input with these tables, unless it is held
+pub record WakesCs (eeprom memory : List Segment) (held : Bool) (input : CsInput) (old new : CsSlot) : Type 0 where
+  pub state : (history : List CsInput) → CsStands eeprom memory history old.state.value → CsStands eeprom memory (if held then history else (history ++ input ∷ [])) new.state.value
+  pub items : (history : List CsInput) → CsStands eeprom memory history old.state.value → new.out.items ≡ (if held then [] else cs_items eeprom memory history input)

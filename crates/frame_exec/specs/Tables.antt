@@ -4,24 +4,31 @@ use Rattle.memory_window.specs.declared.regions.Region.{Region}
 use Rattle.table_files.specs.Headers.{kind_of_file, payload_of_file}
 use Rattle.table_files.specs.declared.fault.EntryFault.{EntryFault}
 use Rattle.table_files.specs.declared.kinds.TableKind.{TableKind}
-use Rattle.table_files.specs.declared.kinds.TableKind.TheVariants.{Dwell}
+use Rattle.table_files.specs.declared.kinds.TableKind.TheVariants.{Dwell, Eeprom, Memory}
+use Rattle.cs_slices.specs.declared.segments.Segment.{Segment}
+use Rattle.cs_slices.specs.Tables.{blank_segments, segments_of, segments_fault_of}
+use Rattle.cs_slices.specs.Given.{SegmentsGiven, first_refused as first_refused_segment}
 use Rattle.md_dwell.specs.Tables.{DwellTable, blank_table, dwell_of, dwell_fault_of}
-use Rattle.md_dwell.specs.Given.{first_refused}
+use Rattle.md_dwell.specs.Given.{TablesGiven, first_refused}
 use Rattle.frame_exec.specs.declared.tables.TablesFault.{TablesFault}
 use Rattle.frame_exec.specs.declared.giving.OpenFault.{OpenFault}
 use Rattle.frame_exec.specs.declared.giving.OpenFault.TheVariants.{Region as AtRegion, NoMemory}
 
--- the tables of the applications: MD's four
+-- the tables of the applications: MD's four, and CS's two
 pub record TableSet : Type 0 where
   pub dwells : List DwellTable
+  pub eeprom : List Segment
+  pub memory : List Segment
 
 -- the tables where no file is named: all their bytes are 0
 unfoldable pub blank_tables : TableSet
-blank_tables = record { dwells = replicate 4 blank_table }
+blank_tables = record { dwells = replicate 4 blank_table; eeprom = blank_segments; memory = blank_segments }
 
 -- the tables with that of this kind and payload
 abbrev pub with_table : Option TableKind → List ℕ → TableSet → TableSet
-with_table (Some (Dwell n)) payload tables = record { dwells = slice_set tables.dwells (n - 1) (dwell_of payload) }
+with_table (Some (Dwell n)) payload tables = record tables { dwells = slice_set tables.dwells (n - 1) (dwell_of payload) }
+with_table (Some Eeprom) payload tables = record tables { eeprom = segments_of payload }
+with_table (Some Memory) payload tables = record tables { memory = segments_of payload }
 with_table _ payload tables = tables
 
 -- the tables with that of a file
@@ -45,6 +52,8 @@ first_said say n (file ∷ files) = said_or n (say file) (first_said say (n + 1)
 -- the fault of the entries of a table of this kind and payload
 abbrev pub entry_fault : Option TableKind → List ℕ → Option EntryFault
 entry_fault (Some (Dwell n)) payload = dwell_fault_of payload
+entry_fault (Some Eeprom) payload = segments_fault_of payload
+entry_fault (Some Memory) payload = segments_fault_of payload
 entry_fault _ payload = None
 
 -- the fault of the entries of a file
@@ -64,16 +73,18 @@ pub record AreLoaded (files : List (List ℕ)) (tables : TableSet) : Type 0 wher
   pub well : tables_fault files ≡ None
   pub named : tables ≡ tables_of files
 
--- the first entry of a table of this kind and payload whose read memory of these regions refuses
+-- the first entry of a table of this kind and payload that memory of these regions refuses
 abbrev pub refused_entry : List Region → Option TableKind → List ℕ → Option ℕ
 refused_entry regions (Some (Dwell n)) payload = first_refused regions (dwell_of payload).entries
+refused_entry regions (Some Eeprom) payload = first_refused_segment regions (segments_of payload)
+refused_entry regions (Some Memory) payload = first_refused_segment regions (segments_of payload)
 refused_entry regions _ payload = None
 
--- the first entry of a file whose read memory of these regions refuses
+-- the first entry of a file that memory of these regions refuses
 unfoldable pub refused_in : List Region → List ℕ → Option ℕ
 refused_in regions file = refused_entry regions (kind_of_file file) (payload_of_file file)
 
--- the first file with an entry whose read memory of these regions refuses, and its first such entry
+-- the first file with an entry that memory of these regions refuses, and its first such entry
 unfoldable pub region_fault : List Region → List (List ℕ) → Option (ℕ × ℕ)
 region_fault regions files = first_said (refused_in regions) 1 files
 
@@ -82,3 +93,9 @@ abbrev pub Opens : {B : Type 0} → Option (ℕ × ℕ) → Result B OpenFault �
 Opens refused (Ok bench) = refused ≡ None
 Opens refused (Err (AtRegion file entry)) = refused ≡ Some (file, entry)
 Opens refused (Err NoMemory) = refused ≡ None
+
+-- memory of these regions gives what the entries of the tables read
+pub record SetGiven (regions : List Region) (tables : TableSet) : Type 0 where
+  pub dwells : TablesGiven regions tables.dwells
+  pub eeprom : SegmentsGiven regions tables.eeprom
+  pub memory : SegmentsGiven regions tables.memory

@@ -2,6 +2,7 @@
 
 ghost use Rattle.std.specs.Prelude.{◌≡◌};
 
+use crate::cs_slot::CsSlot;
 use crate::giving::{OpenFault, refused_place};
 use crate::md_slot::MdSlot;
 use crate::mm_slot::MmSlot;
@@ -30,6 +31,8 @@ pub struct Bench {
     // one more than the last frame's number, which may be the largest of four bytes
     number: u64,
     failed: bool,
+    tables: Tables,
+    cs: CsSlot,
     mm: MmSlot,
     md: MdSlot,
     sent: Outbox,
@@ -52,15 +55,15 @@ impl Bench {
     ghost use Rattle.scenario.specs.declared.frame.Upset.{Upset};
     ghost use Rattle.scenario.specs.FrameLists.{Frame};
     ghost use Rattle.frame_exec.specs.Runs.{Setup, State, frame_lines};
-    ghost use Rattle.frame_exec.specs.Standing.{Has, IsGiven, Stands, IsInterrupted, CanRun, setup_in};
-    ghost use Rattle.frame_exec.specs.Tables.{AreLoaded, Opens, region_fault};
-    ghost use Rattle.md_dwell.specs.Given.{TablesGiven};
+    ghost use Rattle.frame_exec.specs.Standing.{Has, IsReady, Stands, IsInterrupted, CanRun, setup_in};
+    ghost use Rattle.frame_exec.specs.Tables.{SetGiven, AreLoaded, Opens, region_fault};
     ghost use Rattle.frame_exec.specs.Slots.{CanLand};
     ghost use Rattle.frame_exec.specs.Stages.{IsSameRun, WakesIn, CanSend, Sends, RunsIn, lines_in};
 
     /// A bench with the tables that were loaded from these files and the memory of the header's map, which stands for no
     /// frames; the number of workers is from 1 to 16. `Region` comes exactly where that memory refuses the read of a dwell
-    /// entry of another length than 0, with the first such file and its first such entry; it is asked before memory is.
+    /// entry of another length than 0, or the bytes of a checksum entry whose state isn't 0, with the first such file and
+    /// its first such entry; it is asked before memory is.
     pub fn open(
         alloc: Global,
         tables: Tables,
@@ -88,13 +91,15 @@ impl Bench {
 
     // A bench that stands for no frames.
     fn begin(alloc: Global, tables: &Tables, header: &Header) -> Result<Bench, NoMemory>
-        requires given { TablesGiven header.now.map tables.now.dwells }
+        requires given { SetGiven header.now.map tables.now }
         ensures { IfOk result (λ bench. Stands bench (setup_in header.now tables.now) []) }
     {
         Ok(Bench {
             epoch: header.epoch,
             number: 0,
             failed: false,
+            tables: *tables,
+            cs: CsSlot::open(alloc, tables.eeprom(), tables.memory())?,
             mm: MmSlot::open(alloc)?,
             md: MdSlot::open(alloc, tables.dwells())?,
             sent: Outbox::open(alloc, ITEMS)?,
@@ -149,15 +154,24 @@ impl Bench {
     fn wake(&mut self, input: &FrameInput)
         requires time { self.old.epoch + self.old.number < 4294967296 }
         requires upsets { All (λ (u : Upset). is_mapped (regions_of self.old.ram.areas) u.at ≡ true) input.now.upsets }
-        requires given { IsGiven self.old }
+        requires ready { IsReady self.old }
         ensures wakes { (setup : Setup) (s : State) → self.old.epoch ≡ setup.epoch → Has self.old setup s → WakesIn setup s input.now self.new }
         ensures run { IsSameRun self.old self.new }
         ensures can_send { CanSend self.new }
-        ensures given { IsGiven self.new }
+        ensures ready { IsReady self.new }
     {
         upset_all(&mut self.ram, input.upsets());
         let now = self.epoch + self.number as u32;
         let held = input.held();
+        self.cs.wake(
+            is_held(App::Cs, held),
+            self.tables.eeprom(),
+            self.tables.memory(),
+            &mut self.bus,
+            &mut self.commands,
+            self.ram.window(),
+            now,
+        );
         self.mm.wake(
             is_held(App::Mm, held),
             &mut self.bus,
@@ -181,6 +195,7 @@ impl Bench {
         ensures { Sends input.now.sends self.old self.new }
     {
         self.sent.clear();
+        stamp_all(&mut self.log, self.cs.out.items(), &mut self.sent);
         stamp_all(&mut self.log, self.mm.out.items(), &mut self.sent);
         stamp_all(&mut self.log, self.md.out.items(), &mut self.sent);
         self.drops.clear();
@@ -192,11 +207,11 @@ impl Bench {
     fn run(&mut self, input: &FrameInput)
         requires time { self.old.epoch + self.old.number < 4294967296 }
         requires upsets { All (λ (u : Upset). is_mapped (regions_of self.old.ram.areas) u.at ≡ true) input.now.upsets }
-        requires given { IsGiven self.old }
+        requires ready { IsReady self.old }
         ensures runs { (setup : Setup) (s : State) → self.old.epoch ≡ setup.epoch → Has self.old setup s → RunsIn setup s input.now self.new }
         ensures run { IsSameRun self.old self.new }
         ensures can_land { CanLand self.new.ram self.new.mm.ops }
-        ensures given { IsGiven self.new }
+        ensures ready { IsReady self.new }
     {
         self.wake(input);
         self.send(input);

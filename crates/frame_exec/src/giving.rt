@@ -2,10 +2,13 @@
 
 ghost use Rattle.std.specs.Prelude.{◌≡◌, ℕ, List, length, None, option_map};
 ghost use Rattle.table_files.specs.Headers.{Shows};
+ghost use Rattle.cs_slices.specs.Tables.{segments_of, segments_fault_of};
+ghost use Rattle.cs_slices.specs.Given.{first_refused as first_refused_segment};
 ghost use Rattle.md_dwell.specs.Tables.{dwell_of, dwell_fault_of};
 ghost use Rattle.md_dwell.specs.Given.{first_refused};
 ghost use Rattle.frame_exec.specs.Tables.{tables_fault, entry_fault_in, refused_in, region_fault};
 
+use cs_slices::load_segments;
 use md_dwell::load_dwell;
 use memory_window::Map;
 use table_files::{FileImage, Files, TableKind};
@@ -14,7 +17,7 @@ use thiserror::Error;
 /// Why a bench isn't opened.
 #[derive(Clone, Copy, Debug, PartialEq, Eq, Error)]
 pub enum OpenFault {
-    /// The memory of the map refuses the read of an entry: the first file, counted from 1, and its first such entry.
+    /// The memory of the map refuses what an entry reads: the first file, counted from 1, and its first such entry.
     #[error("memory refuses entry {entry} of file {file}")]
     Region { file: u32, entry: u32 },
     #[error("memory ran out")]
@@ -28,7 +31,7 @@ pub(crate) struct EntryPlace {
     pub(crate) entry: u32,
 }
 
-/// The first entry of the files whose read memory of the map refuses.
+/// The first entry of the files that memory of the map refuses.
 pub(crate) fn refused_place(map: &Map, files: &Files) -> Option<EntryPlace>
     requires { tables_fault files.now ≡ None }
     ensures { option_map (λ (place : EntryPlace). (place.file, place.entry)) result ≡ region_fault map.now files.now }
@@ -41,7 +44,7 @@ pub(crate) fn refused_place(map: &Map, files: &Files) -> Option<EntryPlace>
     None
 }
 
-// The first entry of a file whose read memory of the map refuses.
+// The first entry of a file that memory of the map refuses.
 fn refused_in(map: &Map, image: FileImage<'_>) -> Option<u32>
     requires { (file : List ℕ) × Shows file image }
     ensures { (file : List ℕ) → Shows file image.entry → entry_fault_in file ≡ None → result ≡ refused_in map.now file }
@@ -50,6 +53,8 @@ fn refused_in(map: &Map, image: FileImage<'_>) -> Option<u32>
         FileImage::Load { .. } => None,
         FileImage::Table { kind, payload } => match kind {
             TableKind::Dwell(_) => refused_dwell(map, payload),
+            TableKind::Eeprom => refused_segment(map, payload),
+            TableKind::Memory => refused_segment(map, payload),
             _ => None,
         },
     }
@@ -61,6 +66,17 @@ fn refused_dwell(map: &Map, payload: &[u8]) -> Option<u32>
     ensures { dwell_fault_of payload.now ≡ None → result ≡ first_refused map.now (dwell_of payload.now).entries }
 {
     match load_dwell(payload) {
+        Ok(table) => table.first_refused(map),
+        Err(_) => None,
+    }
+}
+
+// The first entry of a checksum table's payload whose bytes memory of the map refuses.
+fn refused_segment(map: &Map, payload: &[u8]) -> Option<u32>
+    requires { length payload.now ≡ 192 }
+    ensures { segments_fault_of payload.now ≡ None → result ≡ first_refused_segment map.now (segments_of payload.now) }
+{
+    match load_segments(payload) {
         Ok(table) => table.first_refused(map),
         Err(_) => None,
     }

@@ -2,6 +2,7 @@
 #![tactic(auto)]
 
 mod bench;
+mod cs_slot;
 mod giving;
 mod md_slot;
 mod mm_slot;

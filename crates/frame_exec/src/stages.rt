@@ -57,14 +57,12 @@ pub(crate) fn take_others(bus: &mut Bus, held: &[App], batch: &mut Batch)
     ensures { bus.new ≡ record bus.old {
       hs = left_in_pipe (list_any (is_same App.Hs) held.now) bus.old.hs;
       hs_ev = left_in_pipe (list_any (is_same App.Hs) held.now) bus.old.hs_ev;
-      cs = left_in_pipe (list_any (is_same App.Cs) held.now) bus.old.cs;
       sc = left_in_pipe (list_any (is_same App.Sc) held.now) bus.old.sc;
     } }
 {
     let hs_held = is_held(App::Hs, held);
     take_unless(bus, PipeName::Hs, hs_held, batch);
     take_unless(bus, PipeName::HsEv, hs_held, batch);
-    take_unless(bus, PipeName::Cs, is_held(App::Cs, held), batch);
     take_unless(bus, PipeName::Sc, is_held(App::Sc, held), batch);
 }
 

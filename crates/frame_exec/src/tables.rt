@@ -2,9 +2,11 @@
 
 ghost use Rattle.std.specs.Prelude.{◌≡◌, ℕ, ◌≤◌, ◌-◌, List, length, slice_set, None, Some, IfOk, IfErr};
 ghost use Rattle.table_files.specs.Headers.{Shows};
+ghost use Rattle.cs_slices.specs.Tables.{segments_of, segments_fault_of};
 ghost use Rattle.md_dwell.specs.Tables.{dwell_of, dwell_fault_of};
 ghost use Rattle.frame_exec.specs.Tables.{with_file, entry_fault_in, tables_fault};
 
+use cs_slices::{Segments, load_segments};
 use md_dwell::{Dwell, load_dwell};
 use std::marker::Model;
 use table_files::{EntryFault, FileImage, Files, TableKind};
@@ -22,6 +24,8 @@ pub struct TablesFault {
 #[derive(Clone, Copy)]
 pub struct Tables {
     dwells: [Dwell; 4],
+    eeprom: Segments,
+    memory: Segments,
 }
 
 impl Model for Tables {
@@ -30,11 +34,11 @@ impl Model for Tables {
 
     ghost Value = { TableSet };
 
-    ghost view = { λ t. record { dwells = t.dwells } };
+    ghost view = { λ t. record { dwells = t.dwells; eeprom = t.eeprom; memory = t.memory } };
 
     ghost invariant = { λ t. length t.dwells ≡ 4 };
 
-    ghost inverse = { λ t. record { dwells = t.dwells } };
+    ghost inverse = { λ t. record { dwells = t.dwells; eeprom = t.eeprom; memory = t.memory } };
 }
 
 impl Tables {
@@ -47,6 +51,8 @@ impl Tables {
     {
         Tables {
             dwells: [Dwell::blank(); 4],
+            eeprom: Segments::blank(),
+            memory: Segments::blank(),
         }
     }
 
@@ -77,6 +83,20 @@ impl Tables {
         &self.dwells
     }
 
+    /// The EEPROM table of CS.
+    pub(crate) fn eeprom(&self) -> &Segments
+        ensures { result.now ≡ self.now.eeprom }
+    {
+        &self.eeprom
+    }
+
+    /// The memory table of CS.
+    pub(crate) fn memory(&self) -> &Segments
+        ensures { result.now ≡ self.now.memory }
+    {
+        &self.memory
+    }
+
     /// Puts the table of a file in its place, or answers the fault of its entries.
     fn put(&mut self, image: FileImage<'_>) -> Option<EntryFault>
         requires { (file : List ℕ) × Shows file image }
@@ -87,6 +107,8 @@ impl Tables {
             FileImage::Load { .. } => None,
             FileImage::Table { kind, payload } => match kind {
                 TableKind::Dwell(n) => self.put_dwell(n, payload),
+                TableKind::Eeprom => self.put_eeprom(payload),
+                TableKind::Memory => self.put_memory(payload),
                 _ => None,
             },
         }
@@ -97,11 +119,41 @@ impl Tables {
         requires number { (1 ≤ n) × (n ≤ 4) }
         requires size { length payload.now ≡ 204 }
         ensures fault { result ≡ dwell_fault_of payload.now }
-        ensures table { result ≡ None → self.new ≡ record { dwells = slice_set self.old.dwells (n - 1) (dwell_of payload.now) } }
+        ensures table { result ≡ None → self.new ≡ record self.old { dwells = slice_set self.old.dwells (n - 1) (dwell_of payload.now) } }
     {
         match load_dwell(payload) {
             Ok(table) => {
                 self.dwells[n as usize - 1] = table;
+                None
+            }
+            Err(fault) => Some(fault),
+        }
+    }
+
+    /// Puts the EEPROM table of CS in its place, or answers the fault of its entries.
+    fn put_eeprom(&mut self, payload: &[u8]) -> Option<EntryFault>
+        requires size { length payload.now ≡ 192 }
+        ensures fault { result ≡ segments_fault_of payload.now }
+        ensures table { result ≡ None → self.new ≡ record self.old { eeprom = segments_of payload.now } }
+    {
+        match load_segments(payload) {
+            Ok(table) => {
+                self.eeprom = table;
+                None
+            }
+            Err(fault) => Some(fault),
+        }
+    }
+
+    /// Puts the memory table of CS in its place, or answers the fault of its entries.
+    fn put_memory(&mut self, payload: &[u8]) -> Option<EntryFault>
+        requires size { length payload.now ≡ 192 }
+        ensures fault { result ≡ segments_fault_of payload.now }
+        ensures table { result ≡ None → self.new ≡ record self.old { memory = segments_of payload.now } }
+    {
+        match load_segments(payload) {
+            Ok(table) => {
+                self.memory = table;
                 None
             }
             Err(fault) => Some(fault),

@@ -13,7 +13,19 @@ returns-in-Dwell c = λ file shows well.
     c.refused_dwell.ensures (sym (ap (λ (kind : TableKind). entry_fault (Some kind) c.in-Table.payload.now) c.in-Dwell.is) ∙ table_fault_is file c.in-Table.payload.now c.in-Table.kind table ∙ well)
     ∙ sym (ap (λ (kind : TableKind). refused_entry c.args.map.now (Some kind) c.in-Table.payload.now) c.in-Dwell.is) ∙ table_refused_is c.args.map.now file c.in-Table.payload.now c.in-Table.kind table
 
+pub returns-in-Eeprom : goal.returns-in-Eeprom
+returns-in-Eeprom c = λ file shows well.
+    let table = shows_table file c.args.image c.in-Table.kind c.in-Table.payload c.in-Table.is shows in
+    c.refused_segment.ensures (sym (ap (λ (kind : TableKind). entry_fault (Some kind) c.in-Table.payload.now) c.in-Eeprom.is) ∙ table_fault_is file c.in-Table.payload.now c.in-Table.kind table ∙ well)
+    ∙ sym (ap (λ (kind : TableKind). refused_entry c.args.map.now (Some kind) c.in-Table.payload.now) c.in-Eeprom.is) ∙ table_refused_is c.args.map.now file c.in-Table.payload.now c.in-Table.kind table
+
+pub returns-in-Memory : goal.returns-in-Memory
+returns-in-Memory c = λ file shows well.
+    let table = shows_table file c.args.image c.in-Table.kind c.in-Table.payload c.in-Table.is shows in
+    c.refused_segment-in-Memory.ensures (sym (ap (λ (kind : TableKind). entry_fault (Some kind) c.in-Table.payload.now) c.in-Memory.is) ∙ table_fault_is file c.in-Table.payload.now c.in-Table.kind table ∙ well)
+    ∙ sym (ap (λ (kind : TableKind). refused_entry c.args.map.now (Some kind) c.in-Table.payload.now) c.in-Memory.is) ∙ table_refused_is c.args.map.now file c.in-Table.payload.now c.in-Table.kind table
+
 pub returns-in_default : goal.returns-in_default
 returns-in_default c = λ file shows well.
     let table = shows_table file c.args.image c.in-Table.kind c.in-Table.payload c.in-Table.is shows in
-    sym (other_refused c.args.map.now c.in-Table.kind c.in-Table.payload.now c.in_default.not-Dwell) ∙ table_refused_is c.args.map.now file c.in-Table.payload.now c.in-Table.kind table
+    sym (other_refused c.args.map.now c.in-Table.kind c.in-Table.payload.now (record { dwell = c.in_default.not-Dwell; eeprom = c.in_default.not-Eeprom; memory = c.in_default.not-Memory })) ∙ table_refused_is c.args.map.now file c.in-Table.payload.now c.in-Table.kind table

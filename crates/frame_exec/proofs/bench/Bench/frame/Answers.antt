@@ -15,8 +15,8 @@ run-requires-clause-time g c = let s = c.requires.started in time_fits c.args.se
 pub run-requires-clause-upsets : goal.run-requires-clause-upsets
 run-requires-clause-upsets g c = let s = c.requires.started in upsets_mapped c.args.self.now s.0 s.1 c.args.input.now s.2 s.3
 
-pub run-requires-clause-given : goal.run-requires-clause-given
-run-requires-clause-given g c = c.requires.started.2.given
+pub run-requires-clause-ready : goal.run-requires-clause-ready
+run-requires-clause-ready g c = c.requires.started.2.ready
 
 pub write-requires : goal.write-requires
 write-requires g c =
@@ -49,8 +49,8 @@ pub returns-in-Ok-clause-stands : goal.returns-in-Ok-clause-stands
 returns-in-Ok-clause-stands g c = λ setup frames stands.
     stands_after c.run.new.self _ setup frames c.args.input.now (c.run.ensures.run.epoch ∙ stands.epoch) (c.run.ensures.run.failed ∙ stands.well)
     (ap (λ (n : ℕ). n + 1) (c.run.ensures.run.number ∙ stands.has.number))
-    (record { mm = record { state = refl; ops = refl }; md = refl; pipes = refl; log = refl; memory = c.land.ensures.land ∙ ap (λ (ops : List MemOp). land [] ops c.run.new.self.ram) c.items.ensures.items })
-    c.run.ensures.given (c.run.ensures.runs setup (run_of setup frames) stands.epoch stands.has)
+    (record { cs = refl; mm = record { state = refl; ops = refl }; md = refl; pipes = refl; log = refl; memory = c.land.ensures.land ∙ ap (λ (ops : List MemOp). land [] ops c.run.new.self.ram) c.items.ensures.items })
+    refl (c.run.ensures.run.tables ∙ stands.has.tables) c.run.ensures.ready (c.run.ensures.runs setup (run_of setup frames) stands.epoch stands.has)
 
 pub returns-in-Err-clause-interrupted : goal.returns-in-Err-clause-interrupted
 returns-in-Err-clause-interrupted g c = λ setup frames stands. record { memory = (c.run.ensures.runs setup (run_of setup frames) stands.epoch stands.has).memory }

@@ -1,6 +1,5 @@
 use Rattle.std.proofs.Common.{option_map, sym, ◌∙◌, ap, subst}
-use Rattle.md_dwell.specs.Given.{TablesGiven}
-use Rattle.frame_exec.specs.Tables.{TableSet}
+use Rattle.frame_exec.specs.Tables.{SetGiven}
 use Rattle.frame_exec.specs.declared.giving.EntryPlace.{EntryPlace}
 use Rattle.frame_exec.proofs.GivenTables.{given_tables}
 use Rattle.frame_exec.proofs.bench.Bench.open.Goals as goal
@@ -8,4 +7,4 @@ use Rattle.frame_exec.proofs.bench.Bench.open.Goals as goal
 pub begin-requires : goal.begin-requires
 begin-requires c =
     let none = sym c.refused_place.ensures ∙ ap (option_map (λ (place : EntryPlace). (place.file, place.entry))) c.in-None.is in
-    record { given = subst (λ (tables : TableSet). TablesGiven c.args.header.now.map tables.dwells) (sym c.requires.loaded.named) (given_tables c.args.header.now.map c.args.files.now none) }
+    record { given = subst (SetGiven c.args.header.now.map) (sym c.requires.loaded.named) (given_tables c.args.header.now.map c.args.files.now none) }
