@@ -1,10 +1,9 @@
 -- Entries that a window gives.
-use Rattle.std.proofs.Common.{◌≡◌, ℕ, ◌+◌, ◌<◌, ◌≤◌, Bool, true, false, cond, not, ◌||◌, ltb, List, [], ◌∷◌, length, drop, get_or, Option, Some, None, refl, sym, ap, subst, ◌∙◌, arith, inl, inr}
-use Rattle.std.specs.List.{AllPass, position_from}
-use Rattle.std.proofs.lemmas.List.{drop_more, drop_all, get_or_default}
+use Rattle.std.proofs.Common.{◌≡◌, ℕ, ◌<◌, Bool, true, false, cond, not, ◌||◌, ltb, List, length, get_or, Option, Some, None, refl, sym, ap, subst, ◌∙◌, arith, inl, inr}
+use Rattle.std.specs.List.{AllPass}
+use Rattle.std.proofs.lemmas.List.{get_or_default}
 use Rattle.std.proofs.lemmas.Bool.{cases_lt}
-use Rattle.std.proofs.lemmas.List.Elements.{All-append}
-use Rattle.commands.proofs.Answering.{none_fail, one_passes}
+use Rattle.histories.proofs.Firsts.{none_fails}
 use Rattle.memory_window.specs.declared.regions.Region.{Region}
 use Rattle.std.specs.Prelude.{◌==◌}
 use Rattle.memory_window.specs.Memory.{Memory, regions_of}
@@ -40,35 +39,9 @@ order_given image (Jam table number e) passes =
     sym (readable_given image e) ∙ last_of ((table == 0) || ltb 4 table) ((number == 0) || ltb 25 number) (not (is_length e.len)) (is_readable image e) passes
 
 -- all entries are given where none is refused
-refused_none : (regions : List Region) (entries : List DwellEntry) (n : ℕ) → position_from (λ (e : DwellEntry). not (is_given regions e)) n entries ≡ None → AllPass (is_given regions) entries
-refused_none regions [] n none = none_fail _
-refused_none regions (e ∷ entries) n none =
-    let parts = by_case (is_given regions e) (position_from (λ (x : DwellEntry). not (is_given regions x)) (n + 1) entries) none in
-    All-append (λ (x : DwellEntry). is_given regions x ≡ true) (e ∷ []) entries (one_passes (λ (x : DwellEntry). is_given regions x ≡ true) e parts.0) (refused_none regions entries (n + 1) parts.1)
-  where
-    by_case : (b : Bool) (behind : Option ℕ) → cond (not b) (Some n) behind ≡ None → (b ≡ true) × (behind ≡ None)
-    by_case true behind is = (refl, is)
-    by_case false behind is = cc
-
 pub none_refused : (regions : List Region) (entries : List DwellEntry) → first_refused regions entries ≡ None → AllPass (is_given regions) entries
 unfolding first_refused
-none_refused regions entries none = refused_none regions entries 1 none
-
--- the first refused entry from a place on, where its entry is given and where it isn't
-pub refused_later : (regions : List Region) (entries : List DwellEntry) (i : ℕ) (d : DwellEntry) → i < length entries → true ≡ is_given regions (get_or entries i d)
-    → position_from (λ (e : DwellEntry). not (is_given regions e)) (i + 1) (drop i entries) ≡ position_from (λ (e : DwellEntry). not (is_given regions e)) (i + 1 + 1) (drop (i + 1) entries)
-refused_later regions entries i d within given =
-    ap (position_from (λ (e : DwellEntry). not (is_given regions e)) (i + 1)) (drop_more entries i d within)
-    ∙ ap (λ (b : Bool). cond (not b) (Some (i + 1)) (position_from (λ (e : DwellEntry). not (is_given regions e)) (i + 1 + 1) (drop (i + 1) entries))) (sym given)
-
-pub refused_here : (regions : List Region) (entries : List DwellEntry) (i : ℕ) (d : DwellEntry) → i < length entries → false ≡ is_given regions (get_or entries i d)
-    → position_from (λ (e : DwellEntry). not (is_given regions e)) (i + 1) (drop i entries) ≡ Some (i + 1)
-refused_here regions entries i d within given =
-    ap (position_from (λ (e : DwellEntry). not (is_given regions e)) (i + 1)) (drop_more entries i d within)
-    ∙ ap (λ (b : Bool). cond (not b) (Some (i + 1)) (position_from (λ (e : DwellEntry). not (is_given regions e)) (i + 1 + 1) (drop (i + 1) entries))) (sym given)
-
-pub refused_end : (regions : List Region) (entries : List DwellEntry) (i n : ℕ) → length entries ≤ i → position_from (λ (e : DwellEntry). not (is_given regions e)) n (drop i entries) ≡ None
-refused_end regions entries i n past = ap (position_from (λ (e : DwellEntry). not (is_given regions e)) n) (drop_all i entries past)
+none_refused regions entries none = none_fails (is_given regions) entries 1 none
 
 -- four tables whose entries are given
 pub tables_given : (regions : List Region) (tables : List DwellTable) (a b c d : DwellTable) → length tables ≡ 4

@@ -60,11 +60,12 @@ switch_of table (Start mask) = if names mask table then Some true else None
 switch_of table (Stop mask) = if names mask table then Some false else None
 switch_of table (Jam t number e) = None
 
--- Whether a table is enabled after an order.
+-- What a switch makes of a table that was enabled or not.
 abbrev pub switched_by : Option Bool → Bool → Bool
 switched_by None on = on
 switched_by (Some to) on = to
 
+-- Whether a table is enabled after an order.
 abbrev pub switched : ℕ → Bool → Instruction → Bool
 switched table on order = switched_by (switch_of table order) on
 
