@@ -1,6 +1,6 @@
 -- How a scenario's reading begins.
-use Rattle.std.proofs.Common.{◌≡◌, ℕ, Bool, false, List, [], ◌∷◌, ◌++◌, length, refl, sym, ◌∙◌, ap, append-nil, arith, Option, Some, IsTrue}
-use Rattle.fsw_outside.specs.Files.{Content}
+use Rattle.std.proofs.Common.{◌≡◌, ℕ, ◌<◌, Bool, false, List, [], ◌∷◌, ◌++◌, length, refl, sym, ◌∙◌, ap, append-nil, arith, subst, Option, Some, None, Err, IsTrue}
+use Rattle.fsw_outside.specs.Files.{Stored, Content, file_named}
 use Rattle.memory_window.specs.declared.regions.Region.{Region}
 use Rattle.scenario.specs.declared.reader.Reader.{Reader}
 use Rattle.scenario.specs.Texts.{Text, Given, Head, Open, reading, read_bytes, read}
@@ -9,9 +9,13 @@ use Rattle.rehearsal.specs.Fed.{Fed, nothing_read}
 use Rattle.rehearsal.specs.Reading.{Holds, IsRead}
 use Rattle.rehearsal.specs.declared.report.Status.TheVariants as statuses
 use Rattle.rehearsal.specs.declared.report.Report.{Report}
-use Rattle.rehearsal.specs.Outcome.{frames_of, setup_of, log_in, IsText, IsTextOf, Outcome}
-use Rattle.rehearsal.proofs.Outcomes.{log_in_none, whole_of, is_closed}
+use Rattle.rehearsal.specs.Outcome.{frames_of, setup_of, refused_read, fault_report, log_in, IsText, IsTextOf, ReadsAhead, Outcome}
+use Rattle.rehearsal.proofs.Outcomes.{log_in_none, whole_of, is_closed, parts_whole, refused_append}
 use Rattle.frame_exec.specs.Runs.{Setup}
+use Rattle.frame_exec.specs.Tables.{tables_of, tables_fault, first_said, region_fault, Opens}
+use Rattle.frame_exec.specs.declared.giving.OpenFault.{OpenFault}
+use Rattle.frame_exec.specs.declared.giving.OpenFault.TheVariants as faults
+use Rattle.frame_exec.specs.declared.tables.TablesFault.{TablesFault}
 use Rattle.frame_exec.specs.Standing.{Stands as BenchStands}
 use Rattle.frame_exec.specs.declared.bench.Bench.{Bench}
 
@@ -33,16 +37,34 @@ unfolding frames_of
 no_frames got none = rw none refl
 
 -- and no log is written
-pub no_log : (got : List Given) (held : List ℕ) → got ≡ [] → held ≡ held ++ log_in got
+pub no_log : (files : List (List ℕ)) (got : List Given) (held : List ℕ) → got ≡ [] → held ≡ held ++ log_in files got
 unfolding frames_of
-no_log got held none = rw none (sym (ap (λ (log : List ℕ). held ++ log) (log_in_none [] refl) ∙ append-nil held))
+no_log files got held none = rw none (sym (ap (λ (log : List ℕ). held ++ log) (log_in_none files [] refl) ∙ append-nil held))
 
 -- what the header says, once it was given
-pub header_setup : (item : Given) (epoch : ℕ) (regions : List Region) (rest : List Given) → item ∷ [] ≡ Head epoch regions ∷ rest → setup_of (item ∷ []) ≡ record { epoch = epoch; regions = regions }
+pub header_setup : (files : List (List ℕ)) (item : Given) (epoch : ℕ) (regions : List Region) (rest : List Given) → item ∷ [] ≡ Head epoch regions ∷ rest → setup_of files (item ∷ []) ≡ record { epoch = epoch; regions = regions; tables = tables_of files }
 unfolding setup_of
-header_setup item epoch regions rest is =
+header_setup files item epoch regions rest is =
     let same : item ≡ Head epoch regions = cc in
     rw same refl
+
+-- and what it refuses
+pub header_refuses : (files : List (List ℕ)) (item : Given) (epoch : ℕ) (regions : List Region) (rest : List Given) → item ∷ [] ≡ Head epoch regions ∷ rest → refused_read files (item ∷ []) ≡ region_fault regions files
+unfolding refused_read
+header_refuses files item epoch regions rest is =
+    let same : item ≡ Head epoch regions = cc in
+    rw same refl
+
+-- what it refuses the whole text refuses
+pub header_refuses_whole : (files : List (List ℕ)) (item : Given) (rest more all whole : List Given) → all ≡ (item ∷ []) ++ rest → whole ≡ all ++ more → refused_read files whole ≡ refused_read files (item ∷ [])
+header_refuses_whole files item rest more all whole first grown =
+    let some : 0 < length (item ∷ []) = omega arith in
+    ap (refused_read files) (parts_whole (item ∷ []) rest more all whole first grown) ∙ refused_append files (item ∷ []) (rest ++ more) some
+
+-- the map refuses the read of an entry
+pub read_refused : (files : List (List ℕ)) (report : Report) (whole : Text) (file entry : ℕ) (held : List ℕ) → report ≡ record { status = statuses.FileRefused; file = file; line = entry; reason = 10; frames = 0 }
+    → refused_read files (reading whole).items ≡ Some (file, entry) → Outcome report files whole held held
+read_refused files report whole file entry held is refused = rw is (record { is = refused; reason = refl; frames = refl }, refl)
 
 -- no frame is given with it
 pub header_alone : (item : Given) (epoch : ℕ) (regions : List Region) (rest : List Given) → item ∷ [] ≡ Head epoch regions ∷ rest → frames_of (item ∷ []) ≡ []
@@ -52,8 +74,8 @@ header_alone item epoch regions rest is =
     rw same refl
 
 -- memory ran out before the first frame
-pub out_of_memory : (report : Report) (whole : Text) (held : List ℕ) → report ≡ record { status = statuses.NoMemory; file = 0; line = 0; reason = 0; frames = 0 } → Outcome report whole held held
-out_of_memory report whole held is = rw is (record { file = refl; line = refl; reason = refl }, refl, refl)
+pub out_of_memory : (files : List (List ℕ)) (report : Report) (whole : Text) (held : List ℕ) → report ≡ record { status = statuses.NoMemory; file = 0; line = 0; reason = 0; frames = 0 } → Outcome report files whole held held
+out_of_memory files report whole held is = rw is (record { file = refl; line = refl; reason = refl }, refl, refl)
 
 -- a text of which nothing was read gives nothing, and is open
 pub nothing_reads : reading unread ≡ record { items = []; ending = Open; stops = [] }
@@ -61,8 +83,8 @@ unfolding reading read_bytes read
 nothing_reads = refl
 
 -- the bench that was opened stands for no frames of the text
-pub opened : (bench : Bench) (item : Given) (setup : Setup) → BenchStands bench setup [] → setup_of (item ∷ []) ≡ setup → frames_of (item ∷ []) ≡ [] → BenchStands bench (setup_of (item ∷ [])) (frames_of (item ∷ []))
-opened bench item setup stands same none = rw (same, none) stands
+pub opened : (files : List (List ℕ)) (bench : Bench) (item : Given) (setup : Setup) → BenchStands bench setup [] → setup_of files (item ∷ []) ≡ setup → frames_of (item ∷ []) ≡ [] → BenchStands bench (setup_of files (item ∷ [])) (frames_of (item ∷ []))
+opened files bench item setup stands same none = rw (same, none) stands
 
 -- no file is open, and so nothing was handed out
 pub none_handed_out : (is_open : Bool) (before faults : ℕ) (file : Option (List ℕ)) (rest : List ℕ) → is_open ≡ false
@@ -77,3 +99,30 @@ handed_out is_open before faults file start after whole opened is of = record {
   nothing = λ shut. cc;
   closed = of.closed;
 }
+
+-- the same text, of the file of the same name and since the same count of faults
+pub text_by : (is_open : Bool) (before start faults : ℕ) (stored files : List Stored) (name word : List ℕ) (rest : List ℕ) (text : Text) → start ≡ before → files ≡ stored → word ≡ name
+    → IsText is_open start faults (file_named files word) rest text → IsText is_open before faults (file_named stored name) rest text
+text_by is_open before start faults stored files name word rest text a b c is = rw (← a, ← b, ← c) is
+
+-- nothing of an open file was handed out
+pub nothing_handed_out : (is_open : Bool) (before faults : ℕ) (file : Option (List ℕ)) (rest : List ℕ) → file ≡ Some rest → IsText is_open before faults file rest (whole_of unread [] (is_closed rest before faults))
+nothing_handed_out is_open before faults file rest is = record { front = λ opened. is; nothing = λ shut. refl; closed = refl }
+
+-- no tables are named where there are no files
+pub no_tables_fault : (files : List (List ℕ)) (fault : TablesFault) → files ≡ [] → tables_fault files ≡ Some fault → ⊥
+unfolding tables_fault first_said
+no_tables_fault files fault none is =
+    let nothing : tables_fault files ≡ None = rw none refl in
+    cc
+
+-- a bench isn't opened
+pub not_opened : (files : List (List ℕ)) (report : Report) (whole : Text) (fault : OpenFault) (refused : Option (ℕ × ℕ)) (held : List ℕ) → report ≡ fault_report fault → Opens {B = Bench} refused (Err fault)
+    → refused_read files (reading whole).items ≡ refused → Outcome report files whole held held
+not_opened files report whole (faults.Region file entry) refused held is opens all = read_refused files report whole file entry held is (all ∙ opens)
+not_opened files report whole faults.NoMemory refused held is opens all = out_of_memory files report whole held is
+
+-- nothing is asked ahead of it
+pub not_opened_ahead : (report : Report) (whole : Text) (fault : OpenFault) → report ≡ fault_report fault → ReadsAhead report whole
+not_opened_ahead report whole (faults.Region file entry) is = rw is tt
+not_opened_ahead report whole faults.NoMemory is = rw is tt

@@ -1,16 +1,25 @@
 -- A scenario that ends well is run to its end.
-use Rattle.std.proofs.Common.{◌≡◌, ℕ, Bool, true, false, List, [], ◌++◌, length, refl, sym, ◌∙◌, ap, subst, arith, inl, inr, Option, Some, IsTrue}
+use Rattle.std.proofs.Common.{◌≡◌, ℕ, Bool, true, false, List, [], ◌++◌, length, refl, sym, ◌∙◌, ap, subst, arith, inl, inr, map, take, zero, suc, ◌+◌, ◌∷◌, Option, Some, None, IsTrue}
 use Rattle.std.specs.Prelude.{◌==◌, ◌&&◌}
 use Rattle.std.proofs.lemmas.Bool.Decides.{nat_tests}
+use Rattle.std.proofs.lemmas.List.{take-map}
+use Rattle.fsw_outside.specs.Told.{WhereTold}
 use Rattle.fsw_outside.specs.Causes.{HasRisen}
+use Rattle.fsw_outside.specs.Files.{Stored, Content, file_named}
+use Rattle.fsw_outside.proofs.Telling.{told_map}
 use Rattle.scenario.specs.declared.item.Item.TheVariants as answers
 use Rattle.scenario.specs.Texts.{Text, Reading, Ending, Ended, Open, reading}
 use Rattle.scenario.specs.Answers.{answer_at_end}
 use Rattle.rehearsal.specs.declared.report.Status.{Status}
 use Rattle.rehearsal.specs.declared.report.Status.TheVariants as statuses
 use Rattle.rehearsal.specs.declared.report.Report.{Report}
-use Rattle.rehearsal.specs.Outcome.{IsText, OutcomeOf, Outcome, Completes}
-use Rattle.rehearsal.proofs.Outcomes.{tells_some, reading_whole}
+use Rattle.rehearsal.specs.AcceptedWords.{Asked}
+use Rattle.rehearsal.specs.FileWords.{refusal_behind, refusal_after, first_refusal, AreTaken}
+use Rattle.rehearsal.specs.Gathering.{RefusesFile, EndsAtFileBy}
+use Rattle.frame_exec.specs.Tables.{tables_fault}
+use Rattle.rehearsal.specs.Outcome.{IsText, refused_read, GivesReads, OutcomeOf, Outcome, Rehearses, Completes}
+use Rattle.rehearsal.proofs.Gathered.{none_before}
+use Rattle.rehearsal.proofs.Outcomes.{tells_some, reading_whole, items_whole, refused_append, refused_some}
 use Rattle.rehearsal.proofs.Endings.{not_open_at_bad}
 use Rattle.rehearsal.proofs.Pieces.{empty_of}
 
@@ -44,21 +53,33 @@ ended_not_bad ending line reason ended bad =
     let good : answer_at_end ending ≡ answers.End = ap answer_at_end ended in
     cc
 
+-- an entry whose read the map of a first part refuses is refused by the map of the whole file
+refused_given : (files : List (List ℕ)) (before faults : ℕ) (bytes rest : List ℕ) (text : Text) (file entry : ℕ) → IsText true before faults (Some bytes) rest text → refused_read files (reading text).items ≡ Some (file, entry)
+    → GivesReads files (reading (record { bytes = bytes; closed = true })) → ⊥
+refused_given files before faults bytes rest text file entry is refused given =
+    let parts = same_bytes bytes (text.bytes ++ rest) (is.front refl) in
+    let grown = items_whole text rest true (λ closed. (rest_empty rest _ (sym is.closed ∙ closed), refl)) in
+    let some = refused_some files (reading text).items (file, entry) refused in
+    let whole : refused_read files (reading (record { bytes = bytes; closed = true })).items ≡ Some (file, entry) =
+    ap (λ (b : List ℕ). refused_read files (reading (record { bytes = b; closed = true })).items) parts
+    ∙ ap (refused_read files) grown.1 ∙ refused_append files (reading text).items grown.0 some ∙ refused in
+    cc
+
 -- what each status comes to
-by_status : (status : Status) (report : Report) (before faults : ℕ) (bytes rest : List ℕ) (text : Text) (old new : List ℕ) → report.status ≡ status → IsText true before faults (Some bytes) rest text
-    → (reading (record { bytes = bytes; closed = true })).ending ≡ Ended → (status ≡ statuses.ReadFailed → ⊥) → (status ≡ statuses.WriteFailed → ⊥)
-    → OutcomeOf status report (reading text) old new → Completes report (record { bytes = bytes; closed = true }) old new
-by_status statuses.Done report before faults bytes rest text old new same is ended read write outcome =
-    let not_open : (reading text).ending ≡ Open → ⊥ = λ open_now. cc (outcome.1) in
-    inl (same, rw (file_reads before faults bytes rest text is not_open) outcome.2)
-by_status statuses.WordsRefused report before faults bytes rest text old new same is ended read write outcome = absurd outcome
-by_status statuses.FileRefused report before faults bytes rest text old new same is ended read write outcome = absurd outcome
-by_status statuses.ScenarioRefused report before faults bytes rest text old new same is ended read write outcome =
-    let not_open = not_open_at_bad (reading text).ending report.line report.reason (sym outcome.1) in
-    absurd (ended_not_bad (reading text).ending report.line report.reason (ap (λ (r : Reading). r.ending) (sym (file_reads before faults bytes rest text is not_open)) ∙ ended) outcome.1)
-by_status statuses.ReadFailed report before faults bytes rest text old new same is ended read write outcome = absurd (read refl)
-by_status statuses.WriteFailed report before faults bytes rest text old new same is ended read write outcome = absurd (write refl)
-by_status statuses.NoMemory report before faults bytes rest text old new same is ended read write outcome = inr (same, outcome.1, outcome.2)
+by_status : (files : List (List ℕ)) (status : Status) (report : Report) (before faults : ℕ) (bytes rest : List ℕ) (text : Text) (old new : List ℕ) → report.status ≡ status → IsText true before faults (Some bytes) rest text
+    → (reading (record { bytes = bytes; closed = true })).ending ≡ Ended → GivesReads files (reading (record { bytes = bytes; closed = true })) → (status ≡ statuses.ReadFailed → ⊥) → (status ≡ statuses.WriteFailed → ⊥)
+    → OutcomeOf status report files (reading text) old new → Completes report files (record { bytes = bytes; closed = true }) old new
+by_status files statuses.Done report before faults bytes rest text old new same is ended given read write outcome =
+    let not_open : (reading text).ending ≡ Open → ⊥ = λ open_now. cc (outcome.2) in
+    inl (same, rw (file_reads before faults bytes rest text is not_open) outcome.3)
+by_status files statuses.WordsRefused report before faults bytes rest text old new same is ended given read write outcome = absurd outcome
+by_status files statuses.FileRefused report before faults bytes rest text old new same is ended given read write outcome = absurd (refused_given files before faults bytes rest text report.file report.line is outcome.0.is given)
+by_status files statuses.ScenarioRefused report before faults bytes rest text old new same is ended given read write outcome =
+    let not_open = not_open_at_bad (reading text).ending report.line report.reason (sym outcome.2) in
+    absurd (ended_not_bad (reading text).ending report.line report.reason (ap (λ (r : Reading). r.ending) (sym (file_reads before faults bytes rest text is not_open)) ∙ ended) outcome.2)
+by_status files statuses.ReadFailed report before faults bytes rest text old new same is ended given read write outcome = absurd (read refl)
+by_status files statuses.WriteFailed report before faults bytes rest text old new same is ended given read write outcome = absurd (write refl)
+by_status files statuses.NoMemory report before faults bytes rest text old new same is ended given read write outcome = inr (same, outcome.1, outcome.2)
 
 -- no fault came, so none was told
 pub not_risen : {A : Type 0} (told : Option A) (after : A) (before now : ℕ) → told ≡ Some after → now ≡ before → HasRisen told before now → ⊥
@@ -67,11 +88,95 @@ not_risen told after before now tells same risen =
     omega (arith, rose, same)
 
 -- an outcome without faults of a file that is open is complete
-pub completes : (report : Report) (is_open : Bool) (before faults : ℕ) (bytes rest : List ℕ) (file : Option (List ℕ)) (text : Text) (old new : List ℕ) → file ≡ Some bytes
-    → IsText is_open before faults file rest text → (reading (record { bytes = bytes; closed = true })).ending ≡ Ended → (report.status ≡ statuses.ReadFailed → ⊥) → ((report.status ≡ statuses.ReadFailed → ⊥) → IsTrue is_open)
-    → (report.status ≡ statuses.WriteFailed → ⊥) → Outcome report text old new → Completes report (record { bytes = bytes; closed = true }) old new
-completes report is_open before faults bytes rest file text old new same is ended read opened write outcome =
-    let is_true : is_open ≡ true = opened read in
-    let at_bytes = subst (λ (f : Option (List ℕ)). IsText is_open before faults f rest text) same is in
-    let at_open = subst (λ (b : Bool). IsText b before faults (Some bytes) rest text) is_true at_bytes in
-    by_status report.status report before faults bytes rest text old new refl at_open ended read write outcome
+pub completes : (files : List (List ℕ)) (report : Report) (is_open : Bool) (before faults : ℕ) (bytes rest : List ℕ) (file : Option (List ℕ)) (text : Text) (old new : List ℕ) → file ≡ Some bytes
+    → IsText is_open before faults file rest text → (reading (record { bytes = bytes; closed = true })).ending ≡ Ended → GivesReads files (reading (record { bytes = bytes; closed = true })) → (report.status ≡ statuses.ReadFailed → ⊥) → ((report.status ≡ statuses.ReadFailed → ⊥) → (report.status ≡ statuses.NoMemory → ⊥) → IsTrue is_open)
+    → (report.status ≡ statuses.WriteFailed → ⊥) → Outcome report files text old new → Completes report files (record { bytes = bytes; closed = true }) old new
+completes files report is_open before faults bytes rest file text old new same is ended given read opened write outcome = by_memory report.status refl
+  where
+    by_open : (report.status ≡ statuses.NoMemory → ⊥) → Completes report files (record { bytes = bytes; closed = true }) old new
+    by_open some =
+        let is_true : is_open ≡ true = opened read some in
+        let at_bytes = subst (λ (f : Option (List ℕ)). IsText is_open before faults f rest text) same is in
+        let at_open = subst (λ (b : Bool). IsText b before faults (Some bytes) rest text) is_true at_bytes in
+        by_status files report.status report before faults bytes rest text old new refl at_open ended given read write outcome
+
+    by_memory : (status : Status) → report.status ≡ status → Completes report files (record { bytes = bytes; closed = true }) old new
+    by_memory statuses.Done at = by_open (λ out. cc)
+    by_memory statuses.WordsRefused at = by_open (λ out. cc)
+    by_memory statuses.FileRefused at = by_open (λ out. cc)
+    by_memory statuses.ScenarioRefused at = by_open (λ out. cc)
+    by_memory statuses.ReadFailed at = by_open (λ out. cc)
+    by_memory statuses.WriteFailed at = by_open (λ out. cc)
+    by_memory statuses.NoMemory at = let none = subst (λ (s : Status). OutcomeOf s report files (reading text) old new) at outcome in inr (at, none.1, none.2)
+
+-- the same lists of contents
+same_contents : (xs ys : List (List ℕ)) → map Some xs ≡ map Some ys → xs ≡ ys
+same_contents [] [] same = refl
+same_contents [] (y ∷ ys) same = cc
+same_contents (x ∷ xs) [] same = cc
+same_contents (x ∷ xs) (y ∷ ys) same =
+    let first : ◌≡◌ {A = Option (List ℕ)} (Some x) (Some y) = cc in
+    let rest : map Some xs ≡ map Some ys = cc in
+    let here : x ≡ y = same_bytes x y first in
+    λ i. here i ∷ same_contents xs ys rest i
+
+-- files that names name are the only ones that they name
+pub same_named : (stored : List Stored) (names xs ys : List (List ℕ)) → map (file_named stored) names ≡ map Some xs → map (file_named stored) names ≡ map Some ys → xs ≡ ys
+same_named stored names xs ys first other = same_contents xs ys (sym first ∙ other)
+
+-- a front of names names a front of their files
+front_named : (stored : List Stored) (n : ℕ) (names xs ys : List (List ℕ)) → map (file_named stored) names ≡ map Some xs → map (file_named stored) (take n names) ≡ map Some ys → ys ≡ take n xs
+front_named stored n names xs ys all front =
+    same_contents ys (take n xs) (sym front ∙ sym (take-map (file_named stored) n names) ∙ ap (take n) all ∙ take-map Some n xs)
+
+-- where none of the files is refused, none of a front of them is
+none_of_front : (before files : List (List ℕ)) (n : ℕ) → refusal_after before files ≡ None → refusal_after before (take n files) ≡ None
+unfolding refusal_after
+none_of_front before files zero none = refl
+none_of_front before [] (suc n) none = refl
+none_of_front before (file ∷ files) (suc n) none =
+    let parts = none_before (length before + 1) (refusal_behind before file) (refusal_after (before ++ file ∷ []) files) none in
+    rw parts.0 (none_of_front (before ++ file ∷ []) files n parts.1)
+
+-- a FILE that is refused isn't one of files that are taken
+refused_taken : (report : Report) (stored : List Stored) (names files : List (List ℕ)) → RefusesFile report stored names → AreTaken stored names files → ⊥
+unfolding first_refusal
+refused_taken report stored names files refuses taken =
+    let front : refuses.files ≡ take report.file files = front_named stored report.file names files refuses.files taken.named refuses.named in
+    let none : refusal_after [] refuses.files ≡ None = ap (refusal_after []) front ∙ none_of_front [] files report.file taken.taken in
+    let is = refuses.refused in
+    cc
+
+-- an end at a FILE is want of memory, where the files are taken and the shelf didn't fail
+ends_complete : (status : Status) (report : Report) (stored : List Stored) (names files : List (List ℕ)) (count : ℕ) (text : Text) (old new : List ℕ) → report.status ≡ status → EndsAtFileBy status report stored names count
+    → AreTaken stored names files → (status ≡ statuses.ReadFailed → ⊥) → new ≡ old → Completes report files text old new
+ends_complete statuses.Done report stored names files count text old new same ends taken read unwritten = absurd ends
+ends_complete statuses.WordsRefused report stored names files count text old new same ends taken read unwritten = absurd ends
+ends_complete statuses.FileRefused report stored names files count text old new same ends taken read unwritten = absurd (refused_taken report stored names files ends.0 taken)
+ends_complete statuses.ScenarioRefused report stored names files count text old new same ends taken read unwritten = absurd ends
+ends_complete statuses.ReadFailed report stored names files count text old new same ends taken read unwritten = absurd (read refl)
+ends_complete statuses.WriteFailed report stored names files count text old new same ends taken read unwritten = absurd ends
+ends_complete statuses.NoMemory report stored names files count text old new same ends taken read unwritten = inr (same, ends.frames, unwritten)
+
+-- A rehearsal without faults of files that can be taken and of a scenario that ends well is complete.
+pub rehearses_complete : (report : Report) (asked : Asked) (is_open : Bool) (before faults : ℕ) (held now : Option (List ℕ)) (start after : Content) (files : List (List ℕ)) (bytes : List ℕ)
+    → Rehearses report asked is_open before faults held now start after → AreTaken start.files asked.files files → file_named start.files asked.scenario ≡ Some bytes
+    → tables_fault files ≡ None → (reading (record { bytes = bytes; closed = true })).ending ≡ Ended → GivesReads files (reading (record { bytes = bytes; closed = true })) → (report.status ≡ statuses.ReadFailed → ⊥)
+    → ((report.status ≡ statuses.ReadFailed → ⊥) → (report.status ≡ statuses.NoMemory → ⊥) → IsTrue is_open) → ((new : List ℕ) → now ≡ Some new → report.status ≡ statuses.WriteFailed → ⊥)
+    → WhereTold held now (Completes report files (record { bytes = bytes; closed = true }))
+rehearses_complete report asked is_open before faults held now start after files bytes (inl ends) taken file loaded ended given read opened write =
+    told_map ends.unwritten (λ old new unwritten. ends_complete report.status report start.files asked.files files ends.count (record { bytes = bytes; closed = true }) old new refl ends.ends taken read unwritten)
+rehearses_complete report asked is_open before faults held now start after files bytes (inr (inl ends)) taken file loaded ended given read opened write =
+    let same : ends.files ≡ files = same_named start.files asked.files ends.files files ends.taken.named taken.named in
+    let none : tables_fault ends.files ≡ None = ap tables_fault same ∙ loaded in
+    let is = ends.refuses.is in
+    let wrong : ⊥ = cc in
+    absurd wrong
+rehearses_complete report asked is_open before faults held now start after files bytes (inr (inr reads)) taken file loaded ended given read opened write = λ new tells.
+    let inner = reads.outcome new tells in
+    let same : reads.files ≡ files = same_named start.files asked.files reads.files files reads.taken.named taken.named in (
+      inner.0,
+      inner.1,
+      subst (λ (fs : List (List ℕ)). Completes report fs (record { bytes = bytes; closed = true }) inner.0 new) same
+          (completes reads.files report is_open before faults bytes after.rest (file_named start.files asked.scenario) reads.text inner.0 new file reads.is_text ended (subst (λ (fs : List (List ℕ)). GivesReads fs (reading (record { bytes = bytes; closed = true }))) (sym same) given) read opened (write new tells) inner.2),
+    )

@@ -6,3 +6,5 @@ pub mod Beginnings
 pub mod WordLists
 pub mod Completeness
 pub mod Ahead
+pub mod Gathered
+pub mod Stages

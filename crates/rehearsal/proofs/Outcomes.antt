@@ -1,5 +1,5 @@
 -- What the run of the frames comes to, by the text that was handed out.
-use Rattle.std.proofs.Common.{◌≡◌, ℕ, ◌<◌, Bool, true, false, List, [], ◌∷◌, ◌++◌, length, refl, sym, ◌∙◌, ap, subst, append_assoc, append-nil, arith, inl, inr, Option, Some}
+use Rattle.std.proofs.Common.{◌≡◌, ℕ, ◌<◌, Bool, true, false, List, [], ◌∷◌, ◌++◌, length, refl, sym, ◌∙◌, ap, subst, append_assoc, append-nil, arith, inl, inr, Option, Some, None}
 use Rattle.std.specs.Prelude.{◌==◌, ◌&&◌, IsSome}
 use Rattle.std.proofs.lemmas.Bool.Decides.{nat_tests}
 use Rattle.std.proofs.lemmas.Grind.{flat_map-append}
@@ -16,7 +16,7 @@ use Rattle.frame_exec.specs.Standing.{Stands as BenchStands, CanRun}
 use Rattle.frame_exec.proofs.Frames.{log_more, log_none}
 use Rattle.rehearsal.specs.Fed.{Fed}
 use Rattle.rehearsal.specs.Reading.{Holds, IsRead}
-use Rattle.rehearsal.specs.Outcome.{frame_in_item, frames_of, setup_of, log_in, IsTextOf, IsWhole, IsCut, Outcome}
+use Rattle.rehearsal.specs.Outcome.{frame_in_item, frames_of, setup_of, refused_read, log_in, IsTextOf, IsWhole, IsCut, Outcome}
 use Rattle.rehearsal.specs.declared.report.Status.TheVariants as statuses
 use Rattle.rehearsal.specs.declared.report.Report.{Report}
 use Rattle.scenario.proofs.TextLaws.{texts_grow}
@@ -77,9 +77,9 @@ items_whole now pending end same = by_closed now.bytes now.closed same
     by_closed bytes false same = elim (texts_grow bytes pending end) [ inl grown ↦ (grown.1.0.items, ap (λ (r : Reading). r.items) grown.1.1) | inr is ↦ ([], ap (λ (r : Reading). r.items) is ∙ sym (append-nil _)) ]
 
 -- the whole log was written
-pub whole_log : (frames : ℕ) (got : List Given) (read whole : Reading) (old new : List ℕ) → whole ≡ read → got ≡ read.items → frames ≡ length (frames_of got) → new ≡ old ++ log_in got
-    → IsWhole frames whole old new
-whole_log frames got read whole old new same all number written = rw (same, ← all) (record { number = number; written = written })
+pub whole_log : (files : List (List ℕ)) (frames : ℕ) (got : List Given) (read whole : Reading) (old new : List ℕ) → whole ≡ read → got ≡ read.items → frames ≡ length (frames_of got) → new ≡ old ++ log_in files got
+    → IsWhole frames files whole old new
+whole_log files frames got read whole old new same all number written = rw (same, ← all) (record { number = number; written = written })
 
 -- the frames of two lists of items
 pub frames_append : (xs ys : List Given) → frames_of (xs ++ ys) ≡ frames_of xs ++ frames_of ys
@@ -92,35 +92,57 @@ unfolding frames_of
 frames_more got f = flat_map-append frame_in_item got (Whole f ∷ [])
 
 -- the header stands first
-pub setup_append : (xs ys : List Given) → 0 < length xs → setup_of (xs ++ ys) ≡ setup_of xs
+pub setup_append : (files : List (List ℕ)) (xs ys : List Given) → 0 < length xs → setup_of files (xs ++ ys) ≡ setup_of files xs
 unfolding setup_of
-setup_append [] ys some = absurd (omega arith)
-setup_append (Head epoch regions ∷ xs) ys some = refl
-setup_append (Whole frame ∷ xs) ys some = refl
+setup_append files [] ys some = absurd (omega arith)
+setup_append files (Head epoch regions ∷ xs) ys some = refl
+setup_append files (Whole frame ∷ xs) ys some = refl
+
+-- and so does what the map refuses
+pub refused_append : (files : List (List ℕ)) (xs ys : List Given) → 0 < length xs → refused_read files (xs ++ ys) ≡ refused_read files xs
+unfolding refused_read
+refused_append files [] ys some = absurd (omega arith)
+refused_append files (Head epoch regions ∷ xs) ys some = refl
+refused_append files (Whole frame ∷ xs) ys some = refl
+
+-- a header stands where something is refused
+pub refused_some : (files : List (List ℕ)) (xs : List Given) (place : ℕ × ℕ) → refused_read files xs ≡ Some place → 0 < length xs
+unfolding refused_read
+refused_some files [] place is = let wrong : ⊥ = cc in absurd wrong
+refused_some files (x ∷ xs) place is = omega arith
+
+-- nothing is refused without a header
+pub refused_none : (files : List (List ℕ)) → refused_read files [] ≡ None
+unfolding refused_read
+refused_none files = refl
+
+-- what the map refuses, by the items that were read
+refused_whole : (files : List (List ℕ)) (got : List Given) (read whole : Reading) → whole ≡ read → got ≡ read.items → refused_read files got ≡ None → refused_read files whole.items ≡ None
+refused_whole files got read whole same all given = ap (λ (r : Reading). refused_read files r.items) same ∙ sym (ap (refused_read files) all) ∙ given
 
 -- the log of one frame more
-pub log_in_more : (got : List Given) (f : Frame) → 0 < length got → log_in (got ++ Whole f ∷ []) ≡ log_in got ++ frame_lines (setup_of got) (frames_of got) f
+pub log_in_more : (files : List (List ℕ)) (got : List Given) (f : Frame) → 0 < length got → log_in files (got ++ Whole f ∷ []) ≡ log_in files got ++ frame_lines (setup_of files got) (frames_of got) f
 unfolding log_in
-log_in_more got f some = rw (setup_append got (Whole f ∷ []) some, frames_more got f) (log_more (setup_of got) (frames_of got) f)
+log_in_more files got f some = rw (setup_append files got (Whole f ∷ []) some, frames_more got f) (log_more (setup_of files got) (frames_of got) f)
 
 -- the log of no frames
-pub log_in_none : (got : List Given) → frames_of got ≡ [] → log_in got ≡ []
+pub log_in_none : (files : List (List ℕ)) (got : List Given) → frames_of got ≡ [] → log_in files got ≡ []
 unfolding log_in
-log_in_none got none = rw none (log_none (setup_of got))
+log_in_none files got none = rw none (log_none (setup_of files got))
 
 -- the log of the first frames, and a part of the next frame's lines
-pub cut : (frames : ℕ) (got rest : List Given) (f : Frame) (whole : Reading) (old middle new : List ℕ) → 0 < length got → whole.items ≡ (got ++ Whole f ∷ []) ++ rest
-    → frames ≡ length (frames_of got) → middle ≡ old ++ log_in got → AppendsPart (frame_lines (setup_of got) (frames_of got) f) middle new → IsCut frames whole old new
+pub cut : (files : List (List ℕ)) (frames : ℕ) (got rest : List Given) (f : Frame) (whole : Reading) (old middle new : List ℕ) → 0 < length got → whole.items ≡ (got ++ Whole f ∷ []) ++ rest
+    → frames ≡ length (frames_of got) → middle ≡ old ++ log_in files got → AppendsPart (frame_lines (setup_of files got) (frames_of got) f) middle new → IsCut frames files whole old new
 unfolding log_in
-cut frames got rest f whole old middle new some items number written part =
-    let setup : setup_of whole.items ≡ setup_of got = ap setup_of (items ∙ append_assoc got (Whole f ∷ []) rest) ∙ setup_append got (Whole f ∷ rest) some in
+cut files frames got rest f whole old middle new some items number written part =
+    let setup : setup_of files whole.items ≡ setup_of files got = ap (setup_of files) (items ∙ append_assoc got (Whole f ∷ []) rest) ∙ setup_append files got (Whole f ∷ rest) some in
     record {
       front = frames_of got;
       frame = f;
       more = frames_of rest;
       parts = ap frames_of items ∙ frames_append (got ++ Whole f ∷ []) rest ∙ ap (λ xs. xs ++ frames_of rest) (frames_more got f) ∙ append_assoc (frames_of got) (f ∷ []) (frames_of rest);
       number = number;
-      written = rw setup (subst (λ (bytes : List ℕ). AppendsPart (frame_lines (setup_of got) (frames_of got) f) bytes new) written part);
+      written = rw setup (subst (λ (bytes : List ℕ). AppendsPart (frame_lines (setup_of files got) (frames_of got) f) bytes new) written part);
     }
 
 -- items that were read are a first part of those of the whole text
@@ -128,43 +150,45 @@ pub parts_whole : (got : List Given) (rest more all whole : List Given) → all 
 parts_whole got rest more all whole first grown = grown ∙ ap (λ xs. xs ++ more) first ∙ append_assoc got rest more
 
 -- the shelf failed, and the log of all frames was written
-pub read_failed : (report : Report) (frames : ℕ) (now whole : Text) (got : List Given) (old new : List ℕ) → report ≡ record { status = statuses.ReadFailed; file = 0; line = 0; reason = 0; frames = frames }
-    → reading whole ≡ reading now → got ≡ (reading now).items → answers.More ≡ answer_at_end (reading now).ending → frames ≡ length (frames_of got) → new ≡ old ++ log_in got
-    → Outcome report whole old new
-read_failed report frames now whole got old new is same all more number written =
+pub read_failed : (files : List (List ℕ)) (report : Report) (frames : ℕ) (now whole : Text) (got : List Given) (old new : List ℕ) → report ≡ record { status = statuses.ReadFailed; file = 0; line = 0; reason = 0; frames = frames } → refused_read files got ≡ None
+    → reading whole ≡ reading now → got ≡ (reading now).items → answers.More ≡ answer_at_end (reading now).ending → frames ≡ length (frames_of got) → new ≡ old ++ log_in files got
+    → Outcome report files whole old new
+read_failed files report frames now whole got old new is given same all more number written =
     rw is (
       record { file = refl; line = refl; reason = refl },
+      refused_whole files got (reading now) (reading whole) same all given,
       ap (λ (r : Reading). r.ending) same ∙ open_at_more (reading now).ending more,
-      whole_log frames got (reading now) (reading whole) old new same all number written,
+      whole_log files frames got (reading now) (reading whole) old new same all number written,
     )
 
 -- the scenario ended well, and the log of all frames was written
-pub done : (report : Report) (frames : ℕ) (now whole : Text) (got : List Given) (old new : List ℕ) → report ≡ record { status = statuses.Done; file = 0; line = 0; reason = 0; frames = frames }
-    → reading whole ≡ reading now → got ≡ (reading now).items → answers.End ≡ answer_at_end (reading now).ending → frames ≡ length (frames_of got) → new ≡ old ++ log_in got
-    → Outcome report whole old new
-done report frames now whole got old new is same all end number written =
+pub done : (files : List (List ℕ)) (report : Report) (frames : ℕ) (now whole : Text) (got : List Given) (old new : List ℕ) → report ≡ record { status = statuses.Done; file = 0; line = 0; reason = 0; frames = frames } → refused_read files got ≡ None
+    → reading whole ≡ reading now → got ≡ (reading now).items → answers.End ≡ answer_at_end (reading now).ending → frames ≡ length (frames_of got) → new ≡ old ++ log_in files got
+    → Outcome report files whole old new
+done files report frames now whole got old new is given same all end number written =
     rw is (
       record { file = refl; line = refl; reason = refl },
+      refused_whole files got (reading now) (reading whole) same all given,
       ap (λ (r : Reading). r.ending) same ∙ ended_at_end (reading now).ending end,
-      whole_log frames got (reading now) (reading whole) old new same all number written,
+      whole_log files frames got (reading now) (reading whole) old new same all number written,
     )
 
 -- the scenario is refused, and the log of the frames before the bad line was written
-pub refused_at : (report : Report) (line reason frames : ℕ) (now whole : Text) (got : List Given) (old new : List ℕ)
-    → report ≡ record { status = statuses.ScenarioRefused; file = 0; line = line; reason = reason; frames = frames }
-    → reading whole ≡ reading now → got ≡ (reading now).items → answers.Bad line reason ≡ answer_at_end (reading now).ending → frames ≡ length (frames_of got) → new ≡ old ++ log_in got
-    → Outcome report whole old new
-refused_at report line reason frames now whole got old new is same all bad number written =
-    rw is (refl, ap (λ (r : Reading). answer_at_end r.ending) same ∙ sym bad, whole_log frames got (reading now) (reading whole) old new same all number written)
+pub refused_at : (files : List (List ℕ)) (report : Report) (line reason frames : ℕ) (now whole : Text) (got : List Given) (old new : List ℕ)
+    → report ≡ record { status = statuses.ScenarioRefused; file = 0; line = line; reason = reason; frames = frames } → refused_read files got ≡ None
+    → reading whole ≡ reading now → got ≡ (reading now).items → answers.Bad line reason ≡ answer_at_end (reading now).ending → frames ≡ length (frames_of got) → new ≡ old ++ log_in files got
+    → Outcome report files whole old new
+refused_at files report line reason frames now whole got old new is given same all bad number written =
+    rw is (refl, refused_whole files got (reading now) (reading whole) same all given, ap (λ (r : Reading). answer_at_end r.ending) same ∙ sym bad, whole_log files frames got (reading now) (reading whole) old new same all number written)
 
 -- the output failed, and a first part of the log was written
-pub write_failed : (report : Report) (frames : ℕ) (whole : Text) (got rest : List Given) (f : Frame) (old middle new : List ℕ)
-    → report ≡ record { status = statuses.WriteFailed; file = 0; line = 0; reason = 0; frames = frames } → 0 < length got → (reading whole).items ≡ (got ++ Whole f ∷ []) ++ rest
-    → frames ≡ length (frames_of got) → middle ≡ old ++ log_in got → AppendsPart (frame_lines (setup_of got) (frames_of got) f) middle new → Outcome report whole old new
-write_failed report frames whole got rest f old middle new is some items number written part =
-    rw is (record { file = refl; line = refl; reason = refl }, cut frames got rest f (reading whole) old middle new some items number written part)
+pub write_failed : (files : List (List ℕ)) (report : Report) (frames : ℕ) (whole : Text) (got rest : List Given) (f : Frame) (old middle new : List ℕ)
+    → report ≡ record { status = statuses.WriteFailed; file = 0; line = 0; reason = 0; frames = frames } → refused_read files got ≡ None → 0 < length got → (reading whole).items ≡ (got ++ Whole f ∷ []) ++ rest
+    → frames ≡ length (frames_of got) → middle ≡ old ++ log_in files got → AppendsPart (frame_lines (setup_of files got) (frames_of got) f) middle new → Outcome report files whole old new
+write_failed files report frames whole got rest f old middle new is given some items number written part =
+    rw is (record { file = refl; line = refl; reason = refl }, ap (refused_read files) (items ∙ append_assoc got (Whole f ∷ []) rest) ∙ refused_append files got (Whole f ∷ rest) some ∙ given, cut files frames got rest f (reading whole) old middle new some items number written part)
 
 -- the next frame can be run
-pub runs_next : (bench : Bench) (got : List Given) (f : Frame) → BenchStands bench (setup_of got) (frames_of got) → CanRun (setup_of got) (frames_of got) f
+pub runs_next : (files : List (List ℕ)) (bench : Bench) (got : List Given) (f : Frame) → BenchStands bench (setup_of files got) (frames_of got) → CanRun (setup_of files got) (frames_of got) f
     → (setup : Setup) × (frames : List Frame) × BenchStands bench setup frames × CanRun setup frames f
-runs_next bench got f stands can = (setup_of got, frames_of got, stands, can)
+runs_next files bench got f stands can = (setup_of files got, frames_of got, stands, can)

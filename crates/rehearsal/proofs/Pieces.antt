@@ -13,7 +13,8 @@ use Rattle.scenario.proofs.TextLaws.{open_is_bounded}
 use Rattle.rehearsal.proofs.Endings.{open_at_more}
 use Rattle.scenario.specs.Standing.{Stands, fed, closed, left}
 use Rattle.rehearsal.specs.Fed.{Fed}
-use Rattle.rehearsal.specs.Reading.{Holds, IsRead, IsSameOpening, Gives, work_left}
+use Rattle.rehearsal.specs.Asking.{IsSameOpening}
+use Rattle.rehearsal.specs.Reading.{Holds, IsRead, Gives, work_left}
 
 -- and is no longer pending
 pub read_fed : (text : Text) (pending : List ℕ) (taken : ℕ) (start after : Content) → text.closed ≡ false

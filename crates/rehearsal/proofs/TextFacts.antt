@@ -61,11 +61,11 @@ few_frames r t gave stands = by_first gave (given_are_good r t gave stands)
     by_first (Whole frame ∷ more) good = absurd good
 
 -- a frame that is given can be run behind those before it
-pub can_run : (r : Reader) (t : Text) (gave : List Given) (f : Frame) → Stands r t (gave ++ Whole f ∷ []) → CanRun (setup_of gave) (frames_of gave) f
+pub can_run : (files : List (List ℕ)) (r : Reader) (t : Text) (gave : List Given) (f : Frame) → Stands r t (gave ++ Whole f ∷ []) → CanRun (setup_of files gave) (frames_of gave) f
 unfolding frames_of setup_of
-can_run r t gave f stands = by_first gave (given_are_good r t (gave ++ Whole f ∷ []) stands)
+can_run files r t gave f stands = by_first gave (given_are_good r t (gave ++ Whole f ∷ []) stands)
   where
-    by_first : (xs : List Given) → AreGood (xs ++ Whole f ∷ []) → CanRun (setup_of xs) (frames_of xs) f
+    by_first : (xs : List Given) → AreGood (xs ++ Whole f ∷ []) → CanRun (setup_of files xs) (frames_of xs) f
     by_first [] good = absurd good
     by_first (Head epoch regions ∷ frames) good =
         let few = few_among frames in

@@ -1,59 +1,147 @@
--- Lists of one word and of three.
-use Rattle.std.proofs.Common.{◌≡◌, ◌≢◌, ℕ, ◌≤◌, Bool, true, false, List, [], ◌∷◌, length, refl, arith, slice_index_or, Option, Some, None, ◌⊎◌, inl, inr, cond}
-use Rattle.std.specs.Prelude.{◌&&◌, option_map}
-use Rattle.rehearsal.specs.AcceptedWords.{Asked, accepted_words, is_scenario, is_workers, workers_in, IsPlan}
+-- The words that are accepted, by their places.
+use Rattle.std.proofs.Common.{◌≡◌, ◌≢◌, ℕ, zero, suc, ◌+◌, ◌-◌, ◌<◌, ◌≤◌, Bool, true, false, List, [], ◌∷◌, length, drop, refl, sym, ◌∙◌, ap, arith, add-one, length-drop, slice_index_or, Option, Some, None, IsTrue, cond}
+use Rattle.std.specs.Prelude.{◌&&◌, not, nat_le, IfNone, IfSome}
+use Rattle.std.proofs.lemmas.Option.{IfSome_then}
+use Rattle.std.specs.List.{list_all}
+use Rattle.std.proofs.lemmas.Bool.Decides.{nat_tests}
+use Rattle.rehearsal.specs.declared.accepting.Plan.{Plan}
+use Rattle.rehearsal.specs.AcceptedWords.{Asked, accepted_words, asked_for, asked_with_workers, asked_by, are_file_names, is_dashed, is_scenario, is_workers, workers_in, IsPlan}
 
--- one word that names no scenario
-pub one_refused : (words : List (List ℕ)) (named : Bool) → length words ≡ 1 → named ≡ is_scenario (slice_index_or words 0 []) → named ≡ false → accepted_words words ≡ None
-unfolding accepted_words
-one_refused [] named one is other = absurd (omega arith)
-one_refused (word ∷ []) true one is other = cc
-one_refused (word ∷ []) false one is other = rw (← is) refl
-one_refused (word ∷ next ∷ words) named one is other = absurd (omega arith)
-
--- one word that names a scenario
-pub one_accepted : (words : List (List ℕ)) (named : Bool) → length words ≡ 1 → named ≡ is_scenario (slice_index_or words 0 []) → named ≡ true → IsPlan words (record { workers = 1; scenario = 0 })
-unfolding accepted_words
-one_accepted [] named one is other = absurd (omega arith)
-one_accepted (word ∷ []) true one is other = record { place = omega arith; some = omega arith; few = omega arith; asked = rw (← is) refl }
-one_accepted (word ∷ []) false one is other = let wrong : ⊥ = cc in absurd wrong
-one_accepted (word ∷ next ∷ words) named one is other = absurd (omega arith)
-
--- three words that are refused
-pub three_refused : (words : List (List ℕ)) → length words ≡ 3
-    → (is_workers (slice_index_or words 0 []) ≡ false) ⊎ ((is_scenario (slice_index_or words 2 []) ≡ false) ⊎ (workers_in (slice_index_or words 1 []) ≡ None)) → accepted_words words ≡ None
-unfolding accepted_words
-three_refused [] three why = absurd (omega arith)
-three_refused (a ∷ []) three why = absurd (omega arith)
-three_refused (a ∷ b ∷ []) three why = absurd (omega arith)
-three_refused (a ∷ b ∷ c ∷ []) three (inl other) = rw other refl
-three_refused (a ∷ b ∷ c ∷ []) three (inr (inl other)) = rw other (by_workers (is_workers a))
+-- the words from a place on: the word there, and those behind it
+pub drop_first : (words : List (List ℕ)) (place : ℕ) → place < length words → drop place words ≡ slice_index_or words place [] ∷ drop (place + 1) words
+drop_first words place within = by_place words place within ∙ ap (λ (k : ℕ). slice_index_or words place [] ∷ drop k words) (sym (add-one place))
   where
-    by_workers : (w : Bool) → cond (w && false) (option_map (λ (n : ℕ). let asked : Asked = record { workers = n; scenario = c } in asked) (workers_in b)) None ≡ None
-    by_workers true = refl
-    by_workers false = refl
-three_refused (a ∷ b ∷ c ∷ []) three (inr (inr other)) = rw other (by_test (is_workers a && is_scenario c))
-  where
-    by_test : (t : Bool) → ◌≡◌ {A = Option Asked} (cond t None None) None
-    by_test true = refl
-    by_test false = refl
-three_refused (a ∷ b ∷ c ∷ d ∷ words) three why = absurd (omega arith)
+    by_place : (words : List (List ℕ)) (place : ℕ) → place < length words → drop place words ≡ slice_index_or words place [] ∷ drop (suc place) words
+    by_place [] place within = absurd (omega arith)
+    by_place (word ∷ words) zero within = refl
+    by_place (word ∷ words) (suc place) within = by_place words place (omega arith)
 
--- three words that are accepted
-pub three_accepted : (words : List (List ℕ)) (workers : ℕ) → length words ≡ 3 → is_workers (slice_index_or words 0 []) ≡ true → is_scenario (slice_index_or words 2 []) ≡ true
-    → workers_in (slice_index_or words 1 []) ≡ Some workers → 1 ≤ workers → workers ≤ 16 → IsPlan words (record { workers = workers; scenario = 2 })
-unfolding accepted_words
-three_accepted [] workers three a b c d e = absurd (omega arith)
-three_accepted (x ∷ []) workers three a b c d e = absurd (omega arith)
-three_accepted (x ∷ y ∷ []) workers three a b c d e = absurd (omega arith)
-three_accepted (x ∷ y ∷ z ∷ []) workers three a b c d e = record { place = omega arith; some = d; few = e; asked = rw (a, b, c) refl }
-three_accepted (x ∷ y ∷ z ∷ w ∷ words) workers three a b c d e = absurd (omega arith)
+-- no words from the end on
+pub drop_last : (words : List (List ℕ)) (place : ℕ) → length words ≤ place → drop place words ≡ []
+drop_last [] zero past = refl
+drop_last [] (suc place) past = refl
+drop_last (word ∷ words) zero past = absurd (omega arith)
+drop_last (word ∷ words) (suc place) past = drop_last words place (omega arith)
 
--- any other number of words
-pub others_refused : (words : List (List ℕ)) → length words ≢ 1 → length words ≢ 3 → accepted_words words ≡ None
+-- SCENARIO and the FILEs at their places
+pub asked_at : (words : List (List ℕ)) (place workers : ℕ) → place < length words → is_scenario (slice_index_or words place []) ≡ true → are_file_names (drop (place + 1) words) ≡ true
+    → asked_for workers (drop place words) ≡ Some (asked_by words (record { workers = workers; scenario = place }))
+unfolding asked_for
+asked_at words place workers within named files = rw (drop_first words place within, named, files) refl
+
+-- a word that names no scenario
+pub unnamed_at : (words : List (List ℕ)) (place workers : ℕ) → place < length words → is_scenario (slice_index_or words place []) ≡ false → asked_for workers (drop place words) ≡ None
+unfolding asked_for
+unnamed_at words place workers within named = rw (drop_first words place within, named) refl
+
+-- words behind it that name no FILEs
+pub no_files_at : (words : List (List ℕ)) (place workers : ℕ) → place < length words → is_scenario (slice_index_or words place []) ≡ true → are_file_names (drop (place + 1) words) ≡ false
+    → asked_for workers (drop place words) ≡ None
+unfolding asked_for
+no_files_at words place workers within named files = rw (drop_first words place within, named, files) refl
+
+-- no word at all
+pub none_at : (words : List (List ℕ)) (place workers : ℕ) → length words ≤ place → asked_for workers (drop place words) ≡ None
+unfolding asked_for
+none_at words place workers past = rw (drop_last words place past) refl
+
+-- the word at a place doesn't begin with `-`, so all words from there on do so where those behind it do
+pub undashed_step : (words : List (List ℕ)) (place : ℕ) (dashed : Bool) (word : List ℕ) → place < length words → word ≡ slice_index_or words place [] → dashed ≡ is_dashed word → dashed ≡ false
+    → list_all (λ word. not (is_dashed word)) (drop place words) ≡ list_all (λ word. not (is_dashed word)) (drop (place + 1) words)
+undashed_step words place dashed word within at is fails =
+    let one : is_dashed (slice_index_or words place []) ≡ false = ap is_dashed (sym at) ∙ sym is ∙ fails in
+    rw (drop_first words place within, one) refl
+
+-- the word at a place begins with `-`
+pub undashed_stop : (words : List (List ℕ)) (place : ℕ) (dashed : Bool) (word : List ℕ) → place < length words → word ≡ slice_index_or words place [] → dashed ≡ is_dashed word → dashed ≡ true
+    → false ≡ list_all (λ word. not (is_dashed word)) (drop place words)
+undashed_stop words place dashed word within at is holds =
+    let one : is_dashed (slice_index_or words place []) ≡ true = ap is_dashed (sym at) ∙ sym is ∙ holds in
+    rw (drop_first words place within, one) refl
+
+-- no word is left
+pub undashed_end : (words : List (List ℕ)) (place : ℕ) → length words ≤ place → true ≡ list_all (λ word. not (is_dashed word)) (drop place words)
+undashed_end words place past = rw (drop_last words place past) refl
+
+-- too many words name no FILEs
+pub many_names : (words : List (List ℕ)) (from : ℕ) → 100 < length words - from → false ≡ are_file_names (drop from words)
+unfolding are_file_names
+many_names words from many =
+    let size = length-drop from words in
+    let fails : nat_le (length (drop from words)) 100 ≡ false = grind (arith, nat_tests, size, many) in
+    rw fails refl
+
+-- few words name FILEs where none of them begins with `-`
+pub few_names : (words : List (List ℕ)) (from : ℕ) (undashed : Bool) → length words - from ≤ 100 → undashed ≡ list_all (λ word. not (is_dashed word)) (drop from words) → undashed ≡ are_file_names (drop from words)
+unfolding are_file_names
+few_names words from undashed few is =
+    let size = length-drop from words in
+    let holds : nat_le (length (drop from words)) 100 ≡ true = grind (arith, nat_tests, size, few) in
+    rw holds is
+
+none_then : {X : Type 0} (o : Option X) (P Q : Type 0) → (P → Q) → IfNone o P → IfNone o Q
+none_then None P Q step h = step h
+none_then (Some x) P Q step h = tt
+
+-- no words
+pub no_words : (words : List (List ℕ)) → length words ≡ 0 → accepted_words words ≡ None
 unfolding accepted_words
-others_refused [] one three = refl
-others_refused (a ∷ []) one three = absurd (one refl)
-others_refused (a ∷ b ∷ []) one three = refl
-others_refused (a ∷ b ∷ c ∷ []) one three = absurd (three refl)
-others_refused (a ∷ b ∷ c ∷ d ∷ words) one three = refl
+no_words [] none = refl
+no_words (word ∷ words) none = absurd (omega arith)
+
+-- words that don't begin with `--workers`
+plain : (words : List (List ℕ)) → 0 < length words → is_workers (slice_index_or words 0 []) ≡ false → accepted_words words ≡ asked_for 1 (drop 0 words)
+unfolding accepted_words
+plain [] some other = absurd (omega arith)
+plain (word ∷ words) some other = rw other refl
+
+-- `--workers` and nothing behind it
+pub workers_alone : (words : List (List ℕ)) → length words ≡ 1 → is_workers (slice_index_or words 0 []) ≡ true → accepted_words words ≡ None
+unfolding accepted_words asked_with_workers
+workers_alone [] one is = absurd (omega arith)
+workers_alone (word ∷ []) one is = rw is refl
+workers_alone (word ∷ next ∷ words) one is = absurd (omega arith)
+
+-- `--workers` and a word that says no number of workers
+pub no_number : (words : List (List ℕ)) → (length words ≡ 0 → ⊥) → (length words ≡ 1 → ⊥) → is_workers (slice_index_or words 0 []) ≡ true → workers_in (slice_index_or words 1 []) ≡ None → accepted_words words ≡ None
+unfolding accepted_words asked_with_workers
+no_number [] some more is none = absurd (some refl)
+no_number (word ∷ []) some more is none = absurd (more refl)
+no_number (word ∷ number ∷ words) some more is none = rw (is, none) refl
+
+-- `--workers` and a number
+numbered : (words : List (List ℕ)) (workers : ℕ) → 1 < length words → is_workers (slice_index_or words 0 []) ≡ true → workers_in (slice_index_or words 1 []) ≡ Some workers
+    → accepted_words words ≡ asked_for workers (drop 2 words)
+unfolding accepted_words asked_with_workers
+numbered [] workers some is number = absurd (omega arith)
+numbered (word ∷ []) workers some is number = absurd (omega arith)
+numbered (word ∷ next ∷ words) workers some is number = rw (is, number) refl
+
+-- what a plan from a place on says of all words
+pub refused_from : (words : List (List ℕ)) (plan : Option Plan) (from : Option Asked) → accepted_words words ≡ from → IfNone plan (from ≡ None) → IfNone plan (accepted_words words ≡ None)
+refused_from words plan from is refused = none_then plan (from ≡ None) (accepted_words words ≡ None) (λ none. is ∙ none) refused
+
+-- the plan carries out what the words ask for
+pub accepted_from : (words : List (List ℕ)) (plan : Option Plan) (from : Option Asked) (place workers : ℕ) → accepted_words words ≡ from → 1 ≤ workers → workers ≤ 16
+    → IfSome plan (λ p. (p.workers ≡ workers) × (p.scenario < length words) × (length words ≤ p.scenario + 101) × (from ≡ Some (asked_by words p)))
+    → IfSome plan (IsPlan words)
+accepted_from words plan from place workers is some few accepted = IfSome_then plan accepted (λ p h. record { place = h.1; few_files = h.2; some = rw h.0 some; few = rw h.0 few; asked = is ∙ h.3 })
+
+some_words : (words : List (List ℕ)) → (length words ≡ 0 → ⊥) → 0 < length words
+some_words [] some = absurd (some refl)
+some_words (word ∷ words) some = omega arith
+
+two_words : (words : List (List ℕ)) → (length words ≡ 0 → ⊥) → (length words ≡ 1 → ⊥) → 1 < length words
+two_words [] some more = absurd (some refl)
+two_words (word ∷ []) some more = absurd (more refl)
+two_words (word ∷ next ∷ words) some more = omega arith
+
+-- without `--workers`
+pub plain_is : (words : List (List ℕ)) (first : List ℕ) (named : Bool) → (length words ≡ 0 → ⊥) → first ≡ slice_index_or words 0 [] → named ≡ is_workers first → named ≡ false → accepted_words words ≡ asked_for 1 (drop 0 words)
+plain_is words first named some at is fails = plain words (some_words words some) (ap is_workers (sym at) ∙ sym is ∙ fails)
+
+-- with it
+pub numbered_is : (words : List (List ℕ)) (first second : List ℕ) (named : Bool) (workers : ℕ) → (length words ≡ 0 → ⊥) → (length words ≡ 1 → ⊥) → first ≡ slice_index_or words 0 [] → named ≡ is_workers first → named ≡ true
+    → second ≡ slice_index_or words 1 [] → Some workers ≡ workers_in second → accepted_words words ≡ asked_for workers (drop 2 words)
+numbered_is words first second named workers some more at is holds behind number =
+    numbered words workers (two_words words some more) (ap is_workers (sym at) ∙ sym is ∙ holds) (ap workers_in (sym behind) ∙ sym number)

@@ -1,14 +1,15 @@
 -- Which words the program accepts.
-use Rattle.std.specs.Prelude.{◌≡◌, ℕ, ◌<◌, ◌≤◌, List, [], ◌∷◌, length, Bool, not, ◌&&◌, Option, Some, None, option_and_then, option_map, nat_le, nat_eq, if◌then◌else◌, is_some, codes, drop, slice_index_or}
+use Rattle.std.specs.Prelude.{◌≡◌, ℕ, ◌+◌, ◌<◌, ◌≤◌, List, [], ◌∷◌, ◌++◌, length, Bool, not, ◌&&◌, Option, Some, None, option_and_then, nat_le, nat_eq, if◌then◌else◌, is_some, codes, drop, slice_index_or}
 use Rattle.std.specs.Str.{bytes_eq}
-use Rattle.std.specs.List.{starts_with}
+use Rattle.std.specs.List.{starts_with, list_all}
 use Rattle.scenario.specs.Words.{digits}
 use Rattle.rehearsal.specs.declared.accepting.Plan.{Plan}
 
--- what accepted words ask for: a number of workers, and the name of the scenario's file
+-- what accepted words ask for: a number of workers, the name of the scenario's file, and the names of the FILEs
 pub record Asked : Type 0 where
   pub workers : ℕ
   pub scenario : List ℕ
+  pub files : List (List ℕ)
 
 -- a number from 1 to 16
 abbrev pub within_crew : ℕ → Option ℕ
@@ -34,16 +35,38 @@ is_scenario word = not (is_dashed word) && not (is_drill word)
 unfoldable pub is_workers : List ℕ → Bool
 is_workers word = bytes_eq word (codes "--workers")
 
--- what the words ask for, where they are accepted: `--workers` and N may stand first, and one SCENARIO follows
-unfoldable pub accepted_words : List (List ℕ) → Option Asked
-accepted_words (word ∷ []) = if is_scenario word then Some (record { workers = 1; scenario = word }) else None
-accepted_words (option ∷ number ∷ word ∷ []) =
-    if is_workers option && is_scenario word then option_map (λ workers. record { workers = workers; scenario = word }) (workers_in number) else None
-accepted_words _ = None
+-- words that name FILEs: at most 100, none of which begins with `-`
+unfoldable pub are_file_names : List (List ℕ) → Bool
+are_file_names words = nat_le (length words) 100 && list_all (λ word. not (is_dashed word)) words
 
--- a plan carries out what the words ask for; its scenario is a word by its place
+-- what SCENARIO and the FILEs behind it ask for, with a number of workers
+unfoldable pub asked_for : ℕ → List (List ℕ) → Option Asked
+asked_for workers [] = None
+asked_for workers (scenario ∷ files) =
+    if is_scenario scenario && are_file_names files then Some (record { workers = workers; scenario = scenario; files = files }) else None
+
+-- what the words behind `--workers` ask for
+unfoldable pub asked_with_workers : List (List ℕ) → Option Asked
+asked_with_workers [] = None
+asked_with_workers (number ∷ words) = option_and_then (λ workers. asked_for workers words) (workers_in number)
+
+-- what the words ask for, where they are accepted: `--workers` and N may stand first, and SCENARIO and at most 100 FILEs follow
+unfoldable pub accepted_words : List (List ℕ) → Option Asked
+accepted_words [] = None
+accepted_words (word ∷ words) = if is_workers word then asked_with_workers words else asked_for 1 (word ∷ words)
+
+-- the words to open: the FILEs in order, and then SCENARIO
+unfoldable pub words_to_open : Asked → List (List ℕ)
+words_to_open asked = asked.files ++ asked.scenario ∷ []
+
+-- what a plan asks for, with its words by their places
+abbrev pub asked_by : List (List ℕ) → Plan → Asked
+asked_by words plan = record { workers = plan.workers; scenario = slice_index_or words plan.scenario []; files = drop (plan.scenario + 1) words }
+
+-- a plan carries out what the words ask for; the words behind its scenario are the FILEs
 pub record IsPlan (words : List (List ℕ)) (plan : Plan) : Type 0 where
   pub place : plan.scenario < length words
+  pub few_files : length words ≤ plan.scenario + 101
   pub some : 1 ≤ plan.workers
   pub few : plan.workers ≤ 16
-  pub asked : accepted_words words ≡ Some (record { workers = plan.workers; scenario = slice_index_or words plan.scenario [] })
+  pub asked : accepted_words words ≡ Some (asked_by words plan)

@@ -1,4 +1,8 @@
 pub mod Fed
+pub mod Asking
+pub mod FileWords
+pub mod Fetching
+pub mod Gathering
 pub mod Reading
 pub mod Outcome
 pub mod AcceptedWords

@@ -1,7 +1,8 @@
 -- What a report says of the scenario's text and of the bytes of the output.
-use Rattle.std.specs.Prelude.{◌≡◌, ℕ, ◌+◌, ◌==◌, ◌&&◌, ◌≤◌, List, [], ◌∷◌, ◌++◌, length, slice_index, Bool, IsTrue, IsFalse, Option, Some, ◌⊎◌}
+use Rattle.std.specs.Prelude.{◌≡◌, ℕ, ◌+◌, ◌==◌, ◌&&◌, ◌<◌, ◌≤◌, List, [], ◌∷◌, ◌++◌, length, min, slice_index, Bool, IsTrue, IsFalse, Option, Some, None, ◌⊎◌}
 use Rattle.std.specs.List.{flat_map}
-use Rattle.fsw_outside.specs.Files.{Content}
+use Rattle.fsw_outside.specs.Told.{WhereTold}
+use Rattle.fsw_outside.specs.Files.{Content, file_named}
 use Rattle.fsw_outside.specs.Written.{AppendsPart}
 use Rattle.scenario.specs.declared.item.Item.TheVariants as answers
 use Rattle.scenario.specs.FrameLists.{Frame}
@@ -9,10 +10,19 @@ use Rattle.scenario.specs.declared.reason.Reason.{Reason}
 use Rattle.scenario.specs.Texts.{Text, Given, Head, Whole, Reading, Bad, Ended, Open, reading}
 use Rattle.scenario.specs.Answers.{answer_at_end}
 use Rattle.frame_exec.specs.Runs.{Setup, frame_lines, log_of}
+use Rattle.frame_exec.specs.Standing.{Stands as BenchStands}
+use Rattle.frame_exec.specs.Tables.{tables_of, tables_fault, region_fault}
+use Rattle.frame_exec.specs.declared.tables.TablesFault.{TablesFault}
+use Rattle.frame_exec.specs.declared.giving.OpenFault.{OpenFault}
+use Rattle.frame_exec.specs.declared.giving.OpenFault.TheVariants as faults
+use Rattle.frame_exec.specs.declared.bench.Bench.{Bench}
 use Rattle.rehearsal.specs.declared.report.Status.{Status}
 use Rattle.rehearsal.specs.declared.report.Status.TheVariants as statuses
 use Rattle.rehearsal.specs.declared.report.Report.{Report}
-use Rattle.rehearsal.specs.Reading.{IsSameOpening}
+use Rattle.rehearsal.specs.AcceptedWords.{Asked, words_to_open}
+use Rattle.rehearsal.specs.Asking.{IsSameOpening, AsksFor}
+use Rattle.rehearsal.specs.FileWords.{AreTaken}
+use Rattle.rehearsal.specs.Gathering.{EndsAtFile}
 
 -- the frame that an item of a text is
 abbrev pub frame_in_item : Given → List Frame
@@ -23,15 +33,26 @@ frame_in_item (Whole frame) = frame ∷ []
 unfoldable pub frames_of : List Given → List Frame
 frames_of items = flat_map frame_in_item items
 
--- what the header of a text says, which is its first item
-unfoldable pub setup_of : List Given → Setup
-setup_of [] = record { epoch = 0; regions = [] }
-setup_of (Head epoch regions ∷ items) = record { epoch = epoch; regions = regions }
-setup_of (Whole frame ∷ items) = record { epoch = 0; regions = [] }
+-- what a run over these files begins with: their tables, and what the header of the text says, which is its first item
+unfoldable pub setup_of : List (List ℕ) → List Given → Setup
+setup_of files [] = record { epoch = 0; regions = []; tables = tables_of files }
+setup_of files (Head epoch regions ∷ items) = record { epoch = epoch; regions = regions; tables = tables_of files }
+setup_of files (Whole frame ∷ items) = record { epoch = 0; regions = []; tables = tables_of files }
 
--- the log of the frames of a text
-unfoldable pub log_in : List Given → List ℕ
-log_in items = log_of (setup_of items) (frames_of items)
+-- the first entry of the files' tables whose read the map of the text refuses, by the numbers of its file and of itself, where the text has a header
+unfoldable pub refused_read : List (List ℕ) → List Given → Option (ℕ × ℕ)
+refused_read files [] = None
+refused_read files (Head epoch regions ∷ items) = region_fault regions files
+refused_read files (Whole frame ∷ items) = None
+
+-- a bench runs the frames of the items that were given, with the tables of these files, whose reads the map gives
+pub record Runs (bench : Bench) (files : List (List ℕ)) (gave : List Given) : Type 0 where
+  pub stands : BenchStands bench (setup_of files gave) (frames_of gave)
+  pub given : refused_read files gave ≡ None
+
+-- the log of the frames of a text, with the tables of these files
+unfoldable pub log_in : List (List ℕ) → List Given → List ℕ
+log_in files items = log_of (setup_of files items) (frames_of items)
 
 -- The bytes of the scenario's file that were handed out: the file less the rest of the open one, and nothing where none is open.
 -- The text is closed where that rest is empty and no fault came.
@@ -47,18 +68,18 @@ pub record IsTextOf (faults_before faults_now : ℕ) (start after : Content) (te
   pub closed : text.closed ≡ ((length after.rest == 0) && (faults_now == faults_before))
 
 -- the whole log was written
-pub record IsWhole (frames : ℕ) (read : Reading) (old new : List ℕ) : Type 0 where
+pub record IsWhole (frames : ℕ) (files : List (List ℕ)) (read : Reading) (old new : List ℕ) : Type 0 where
   pub number : frames ≡ length (frames_of read.items)
-  pub written : new ≡ old ++ log_in read.items
+  pub written : new ≡ old ++ log_in files read.items
 
 -- the log of the first frames was written, and a proper first part of the next frame's lines
-pub record IsCut (frames : ℕ) (read : Reading) (old new : List ℕ) : Type 0 where
+pub record IsCut (frames : ℕ) (files : List (List ℕ)) (read : Reading) (old new : List ℕ) : Type 0 where
   pub front : List Frame
   pub frame : Frame
   pub more : List Frame
   pub parts : frames_of read.items ≡ front ++ frame ∷ more
   pub number : frames ≡ length front
-  pub written : AppendsPart (frame_lines (setup_of read.items) front frame) (old ++ log_of (setup_of read.items) front) new
+  pub written : AppendsPart (frame_lines (setup_of files read.items) front frame) (old ++ log_of (setup_of files read.items) front) new
 
 -- the text is bad or unended, at this line and for this reason
 abbrev pub IsRefusedAt : Reading → ℕ → ℕ → Type 0
@@ -70,19 +91,44 @@ pub record HasNoPlace (report : Report) : Type 0 where
   pub line : report.line ≡ 0
   pub reason : report.reason ≡ 0
 
--- what each status says of a text and of the bytes of the output, once the words are accepted
-abbrev pub OutcomeOf : Status → Report → Reading → List ℕ → List ℕ → Type 0
-OutcomeOf statuses.Done report read old new = HasNoPlace report × (read.ending ≡ Ended) × IsWhole report.frames read old new
-OutcomeOf statuses.WordsRefused report read old new = ⊥
-OutcomeOf statuses.FileRefused report read old new = ⊥
-OutcomeOf statuses.ScenarioRefused report read old new = (report.file ≡ 0) × IsRefusedAt read report.line report.reason × IsWhole report.frames read old new
-OutcomeOf statuses.ReadFailed report read old new = HasNoPlace report × (read.ending ≡ Open) × IsWhole report.frames read old new
-OutcomeOf statuses.WriteFailed report read old new = HasNoPlace report × IsCut report.frames read old new
-OutcomeOf statuses.NoMemory report read old new = HasNoPlace report × (report.frames ≡ 0) × (new ≡ old)
+-- an entry of a file's table isn't in order: the first such file, its entry or 0, and 10 more than its loader's reason
+pub record RefusesEntry (report : Report) (files : List (List ℕ)) : Type 0 where
+  pub status : report.status ≡ statuses.FileRefused
+  pub fault : TablesFault
+  pub is : tables_fault files ≡ Some fault
+  pub file : report.file ≡ fault.file
+  pub line : report.line ≡ fault.entry
+  pub reason : report.reason ≡ min (fault.reason + 10) 255
+  pub frames : report.frames ≡ 0
 
--- what a report says of a text and of the bytes of the output
-abbrev pub Outcome : Report → Text → List ℕ → List ℕ → Type 0
-Outcome report text old new = OutcomeOf report.status report (reading text) old new
+-- the map of the text refuses the read of an entry of a file's table: the first such file, its first such entry, and reason 10
+pub record RefusesRead (report : Report) (files : List (List ℕ)) (read : Reading) : Type 0 where
+  pub is : refused_read files read.items ≡ Some (report.file, report.line)
+  pub reason : report.reason ≡ 10
+  pub frames : report.frames ≡ 0
+
+-- the report of a bench that isn't opened
+abbrev pub fault_report : OpenFault → Report
+fault_report (faults.Region file entry) = record { status = statuses.FileRefused; file = file; line = entry; reason = 10; frames = 0 }
+fault_report faults.NoMemory = record { status = statuses.NoMemory; file = 0; line = 0; reason = 0; frames = 0 }
+
+-- the map of the text gives the reads of all entries
+abbrev pub GivesReads : List (List ℕ) → Reading → Type 0
+GivesReads files read = refused_read files read.items ≡ None
+
+-- what each status says of a text and of the bytes of the output, once the words are accepted, the FILEs were taken and their tables loaded
+abbrev pub OutcomeOf : Status → Report → List (List ℕ) → Reading → List ℕ → List ℕ → Type 0
+OutcomeOf statuses.Done report files read old new = HasNoPlace report × GivesReads files read × (read.ending ≡ Ended) × IsWhole report.frames files read old new
+OutcomeOf statuses.WordsRefused report files read old new = ⊥
+OutcomeOf statuses.FileRefused report files read old new = RefusesRead report files read × (new ≡ old)
+OutcomeOf statuses.ScenarioRefused report files read old new = (report.file ≡ 0) × GivesReads files read × IsRefusedAt read report.line report.reason × IsWhole report.frames files read old new
+OutcomeOf statuses.ReadFailed report files read old new = HasNoPlace report × GivesReads files read × (read.ending ≡ Open) × IsWhole report.frames files read old new
+OutcomeOf statuses.WriteFailed report files read old new = HasNoPlace report × GivesReads files read × IsCut report.frames files read old new
+OutcomeOf statuses.NoMemory report files read old new = HasNoPlace report × (report.frames ≡ 0) × (new ≡ old)
+
+-- what a report says of the files that were taken, of a text, and of the bytes of the output
+abbrev pub Outcome : Report → List (List ℕ) → Text → List ℕ → List ℕ → Type 0
+Outcome report files text old new = OutcomeOf report.status report files (reading text) old new
 
 -- How far reading went ahead: where the output failed, at most 4,096 bytes past the end of the `tick` line of the frame whose lines were cut,
 -- and where a line is bad, at most 4,096 bytes past the end of that line.
@@ -100,7 +146,43 @@ ReadsAheadBy statuses.NoMemory report text = Unit {0}
 abbrev pub ReadsAhead : Report → Text → Type 0
 ReadsAhead report text = ReadsAheadBy report.status report text
 
+-- A rehearsal ended before the scenario was asked for, at the last FILE that was; nothing was written.
+pub record EndsBefore (report : Report) (names : List (List ℕ)) (words : List (List ℕ)) (held_before held_now : Option (List ℕ)) (before after : Content) : Type 0 where
+  pub some : 0 < length names
+  pub count : ℕ
+  pub asked : AsksFor words count before after
+  pub ends : EndsAtFile report before.files names count
+  pub unwritten : WhereTold held_before held_now (λ old new. new ≡ old)
+
+-- All FILEs were taken, and an entry of one's table isn't in order; the scenario wasn't asked for, and nothing was written.
+pub record EndsAtTables (report : Report) (asked_for : Asked) (held_before held_now : Option (List ℕ)) (before after : Content) : Type 0 where
+  pub some : 0 < length asked_for.files
+  pub asked : AsksFor (words_to_open asked_for) (length asked_for.files) before after
+  pub files : List (List ℕ)
+  pub taken : AreTaken before.files asked_for.files files
+  pub refuses : RefusesEntry report files
+  pub unwritten : WhereTold held_before held_now (λ old new. new ≡ old)
+
+-- All FILEs were taken, their tables loaded, and the scenario was asked for, of whose file this text was handed out.
+pub record ReadsScenario (report : Report) (asked_for : Asked) (is_open : Bool) (faults_before faults_now : ℕ) (held_before held_now : Option (List ℕ)) (before after : Content) : Type 0 where
+  pub asked : AsksFor (words_to_open asked_for) (length asked_for.files + 1) before after
+  pub files : List (List ℕ)
+  pub taken : AreTaken before.files asked_for.files files
+  pub loaded : tables_fault files ≡ None
+  pub text : Text
+  pub is_text : IsText is_open faults_before faults_now (file_named before.files asked_for.scenario) after.rest text
+  pub ahead : ReadsAhead report text
+  pub outcome : WhereTold held_before held_now (Outcome report files text)
+
+-- what a rehearsal comes to, by what these words ask for, whether a file is open, the counts of faults before and now, the bytes of the output,
+-- and what the shelf told
+abbrev pub Rehearses : Report → Asked → Bool → ℕ → ℕ → Option (List ℕ) → Option (List ℕ) → Content → Content → Type 0
+Rehearses report asked is_open faults_before faults_now held_before held_now before after =
+    EndsBefore report asked.files (words_to_open asked) held_before held_now before after
+    ⊎ EndsAtTables report asked held_before held_now before after
+    ⊎ ReadsScenario report asked is_open faults_before faults_now held_before held_now before after
+
 -- the whole log of a text was written, or memory ran out before the first frame
-abbrev pub Completes : Report → Text → List ℕ → List ℕ → Type 0
-Completes report text old new =
-    ((report.status ≡ statuses.Done) × IsWhole report.frames (reading text) old new) ⊎ ((report.status ≡ statuses.NoMemory) × (report.frames ≡ 0) × (new ≡ old))
+abbrev pub Completes : Report → List (List ℕ) → Text → List ℕ → List ℕ → Type 0
+Completes report files text old new =
+    ((report.status ≡ statuses.Done) × IsWhole report.frames files (reading text) old new) ⊎ ((report.status ≡ statuses.NoMemory) × (report.frames ≡ 0) × (new ≡ old))

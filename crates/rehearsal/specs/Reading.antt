@@ -1,6 +1,6 @@
 -- How far the reading of the scenario's file has come, and what the reader gave.
-use Rattle.std.specs.Prelude.{◌≡◌, ℕ, ◌+◌, ◌*◌, ◌-◌, List, [], ◌∷◌, ◌++◌, length, slice_index, ◌≤◌, true, false, cond, Some, None, is_some, if◌then◌else◌, Result, Ok, Err}
-use Rattle.fsw_outside.specs.Files.{Content, file_named}
+use Rattle.std.specs.Prelude.{◌≡◌, ℕ, ◌+◌, ◌*◌, ◌-◌, List, [], ◌∷◌, ◌++◌, length, slice_index, ◌≤◌, true, false, cond, Result, Ok, Err}
+use Rattle.fsw_outside.specs.Files.{Content}
 use Rattle.fsw_outside.specs.declared.traits.Failed.{Failed}
 use Rattle.scenario.specs.declared.reader.Reader.{Reader}
 use Rattle.scenario.specs.declared.item.Item.TheVariants as answers
@@ -9,20 +9,9 @@ use Rattle.scenario.specs.Texts.{Text, Given, Bad, reading}
 use Rattle.scenario.specs.Answers.{answer_at_end}
 use Rattle.scenario.specs.Standing.{Stands, left, header_in, frame_in}
 use Rattle.rehearsal.specs.Fed.{Fed}
+use Rattle.rehearsal.specs.Asking.{IsSameOpening}
 use Rattle.rehearsal.specs.declared.feeding.Next.{Next}
 use Rattle.rehearsal.specs.declared.feeding.Next.TheVariants as nexts
-
--- nothing was asked for
-pub record IsSameOpening (old new : Content) : Type 0 where
-  pub files : new.files ≡ old.files
-  pub openings : new.openings ≡ old.openings
-  pub name : new.name ≡ old.name
-
--- one file was asked for, by this name
-pub record OpensOnce (asked : List ℕ) (old new : Content) : Type 0 where
-  pub files : new.files ≡ old.files
-  pub openings : new.openings ≡ old.openings + 1
-  pub name : new.name ≡ (if is_some (file_named old.files asked) then Some asked else None)
 
 -- what a call for bytes leaves pending, where nothing was
 abbrev pub Fills : Result (Unit {0}) Failed → Fed → Content → Content → Type 0

@@ -1,12 +1,17 @@
 //! Which words are accepted.
 
-ghost use Rattle.std.specs.Prelude.{◌≡◌, ◌≤◌, length, drop, IfSome, IfNone};
-ghost use Rattle.rehearsal.specs.AcceptedWords.{workers_in, is_dashed, is_drill, is_scenario, is_workers, accepted_words, IsPlan};
+ghost use Rattle.std.specs.Prelude.{◌≡◌, ◌+◌, ◌<◌, ◌≤◌, not, true, length, drop, IfSome, IfNone, Some, None};
+ghost use Rattle.std.specs.List.{list_all};
+ghost use Rattle.rehearsal.specs.AcceptedWords.{workers_in, is_dashed, is_drill, is_scenario, is_workers, are_file_names, asked_for, accepted_words, asked_by, IsPlan};
 
 use crate::words::Words;
 use scenario::digits;
 
-/// What accepted words ask for: how many workers, from 1 to 16, and the place of the word that names the scenario.
+/// How many FILEs there may be.
+const MOST_FILES: usize = 100;
+
+/// What accepted words ask for: how many workers, from 1 to 16, and the place of the word that names the scenario. The words
+/// behind it name the FILEs, of which there are at most 100.
 #[derive(Clone, Copy, Debug, PartialEq, Eq)]
 pub struct Plan {
     pub workers: u32,
@@ -18,49 +23,65 @@ pub fn accept(words: &Words) -> Option<Plan>
     ensures refused { IfNone result (accepted_words words.now ≡ None) }
     ensures accepted { IfSome result (IsPlan words.now) }
 {
-    if words.len() == 1 {
-        return plan_of_one(words);
-    }
-    if words.len() == 3 {
-        return plan_of_three(words);
-    }
-    None
-}
-
-// SCENARIO alone.
-fn plan_of_one(words: &Words) -> Option<Plan>
-    requires { length words.now ≡ 1 }
-    ensures refused { IfNone result (accepted_words words.now ≡ None) }
-    ensures accepted { IfSome result (IsPlan words.now) }
-{
-    if !is_scenario(words.word(0)) {
+    if words.len() == 0 {
         return None;
     }
-    Some(Plan {
-        workers: 1,
-        scenario: 0,
-    })
-}
-
-// `--workers`, N and SCENARIO.
-fn plan_of_three(words: &Words) -> Option<Plan>
-    requires { length words.now ≡ 3 }
-    ensures refused { IfNone result (accepted_words words.now ≡ None) }
-    ensures accepted { IfSome result (IsPlan words.now) }
-{
     if !is_workers(words.word(0)) {
-        return None;
+        return plan_from(words, 0, 1);
     }
-    if !is_scenario(words.word(2)) {
+    if words.len() == 1 {
         return None;
     }
     let Some(workers) = workers_in(words.word(1)) else {
         return None;
     };
+    plan_from(words, 2, workers)
+}
+
+// The plan with SCENARIO at a place, and the FILEs behind it.
+fn plan_from(words: &Words, place: usize, workers: u32) -> Option<Plan>
+    ensures refused { IfNone result (asked_for workers (drop place words.now) ≡ None) }
+    ensures accepted { IfSome result (λ plan. (plan.workers ≡ workers) × (plan.scenario < length words.now) × (length words.now ≤ plan.scenario + 101)
+        × (asked_for workers (drop place words.now) ≡ Some (asked_by words.now plan))) }
+{
+    if place >= words.len() {
+        return None;
+    }
+    if !is_scenario(words.word(place)) {
+        return None;
+    }
+    if !are_file_names(words, place + 1) {
+        return None;
+    }
     Some(Plan {
         workers,
-        scenario: 2,
+        scenario: place,
     })
+}
+
+// Whether the words from a place on name FILEs.
+fn are_file_names(words: &Words, from: usize) -> bool
+    requires { from ≤ length words.now }
+    ensures names { result ≡ are_file_names (drop from words.now) }
+    ensures few { result ≡ true → length words.now ≤ from + 100 }
+{
+    if words.len() - from > MOST_FILES {
+        return false;
+    }
+    are_undashed(words, from)
+}
+
+// Whether none of the words from a place on begins with `-`.
+fn are_undashed(words: &Words, from: usize) -> bool
+    requires { from ≤ length words.now }
+    ensures { result ≡ list_all (λ word. not (is_dashed word)) (drop from words.now) }
+{
+    for place in from..words.len() {
+        if is_dashed(words.word(place)) {
+            return false;
+        }
+    }
+    true
 }
 
 // The number of workers that a word says.

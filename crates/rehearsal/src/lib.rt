@@ -3,6 +3,8 @@
 
 mod accepting;
 mod feeding;
+mod fetching;
+mod gathering;
 mod rehearsing;
 mod report;
 mod running;

@@ -1,25 +1,80 @@
 //! A whole rehearsal, from the words to the report.
 
-ghost use Rattle.std.specs.Prelude.{◌≡◌, ◌≢◌, ℕ, ◌↔◌, List, true, Some, None, IsTrue};
+ghost use Rattle.std.specs.Prelude.{◌≡◌, ◌≢◌, ℕ, ◌+◌, ◌<◌, ◌↔◌, ◌⊎◌, List, length, true, Some, None, IsTrue};
 ghost use Rattle.fsw_outside.specs.Told.{WhereTold};
 ghost use Rattle.fsw_outside.specs.Files.{file_named};
 ghost use Rattle.fsw_outside.specs.Causes.{HasRisen};
-ghost use Rattle.scenario.specs.Texts.{Text, Ended, reading};
-ghost use Rattle.rehearsal.specs.AcceptedWords.{Asked, accepted_words};
-ghost use Rattle.rehearsal.specs.Reading.{OpensOnce};
-ghost use Rattle.rehearsal.specs.Outcome.{IsText, ReadsAhead, Outcome, Completes};
+ghost use Rattle.scenario.specs.Texts.{Ended, reading};
+ghost use Rattle.frame_exec.specs.Tables.{AreLoaded, tables_fault};
+ghost use Rattle.rehearsal.specs.AcceptedWords.{Asked, accepted_words, asked_by, words_to_open, IsPlan};
+ghost use Rattle.rehearsal.specs.Asking.{AsksFor};
+ghost use Rattle.rehearsal.specs.FileWords.{AreTaken};
+ghost use Rattle.rehearsal.specs.Outcome.{GivesReads, Rehearses, Completes};
 ghost use Rattle.rehearsal.specs.ErrorLine.{error_line, Tells};
 
-use crate::accepting::accept;
+use crate::accepting::{Plan, accept};
+use crate::gathering::gather;
 use crate::report::{Report, Status};
-use crate::scenario_run::run_scenario;
+use crate::scenario_run::{run_alone, run_scenario};
 use crate::telling::tell;
 use crate::words::Words;
+use frame_exec::Tables;
 use fsw_outside::{Gate, Shelf, Sink};
 use std::alloc::Global;
 use std::thread::Threads;
+use table_files::Files;
 
-// Reads the words, and runs the scenario that they name.
+// Takes the FILEs in, the first of which is the word at a place, and runs the scenario.
+fn run_with_files<R: Threads + Sync, S: Shelf, O: Sink, G: Gate>(
+    rt: &R,
+    alloc: Global,
+    words: &Words,
+    plan: Plan,
+    first: usize,
+    shelf: &mut S,
+    out: &mut O,
+    gate: &G,
+) -> Report
+    requires plan { IsPlan words.now plan }
+    requires first { (first ≡ plan.scenario + 1) × (first < length words.now) }
+    ensures accepted { result.status ≢ Status.WordsRefused }
+    ensures outcome { WhereTold (S.told shelf.old) (S.told shelf.new) (Rehearses result (asked_by words.now plan) (S.is_open shelf.new) (S.faults shelf.old) (S.faults shelf.new) (O.held out.old) (O.held out.new)) }
+    ensures opening { WhereTold (S.told shelf.old) (S.told shelf.new) (λ before after. (count : ℕ) × AsksFor (words_to_open (asked_by words.now plan)) count before after) }
+    ensures mark { (S.mark shelf.new ≡ S.faults shelf.old) ⊎ ((shelf.new ≡ shelf.old) × (result.status ≡ Status.NoMemory)) }
+    ensures opened { result.status ≢ Status.ReadFailed → IsTrue (S.is_open shelf.new) ⊎ ((shelf.new ≡ shelf.old) × (result.status ≡ Status.NoMemory)) }
+    ensures read_failed { result.status ≡ Status.ReadFailed → HasRisen (S.told shelf.new) (S.faults shelf.old) (S.faults shelf.new) }
+    ensures read_well { result.status ≢ Status.ReadFailed → S.faults shelf.new ≡ S.faults shelf.old }
+    ensures file_refused { result.status ≡ Status.FileRefused → out.new ≡ out.old }
+    ensures write_failed { result.status ≡ Status.WriteFailed → HasRisen (O.held out.new) (O.faults out.old) (O.faults out.new) }
+    ensures wrote_well { result.status ≢ Status.WriteFailed → O.faults out.new ≡ O.faults out.old }
+{
+    let Ok(mut files) = Files::open(alloc) else {
+        return Report::at(Status::NoMemory, 0);
+    };
+    match gather(alloc, shelf, words, first, &mut files) {
+        Ok(()) => {}
+        Err(report) => return report,
+    }
+    let tables = match Tables::load(&files) {
+        Ok(tables) => tables,
+        Err(fault) => {
+            return Report::file_refused(fault.file, fault.entry, fault.reason.saturating_add(10));
+        }
+    };
+    run_scenario(
+        rt,
+        alloc,
+        plan.workers,
+        tables,
+        &files,
+        words.word(plan.scenario),
+        shelf,
+        out,
+        gate,
+    )
+}
+
+// Reads the words, and runs the scenario that they name with the files that they name.
 fn rehearse<R: Threads + Sync, S: Shelf, O: Sink, G: Gate>(
     rt: &R,
     alloc: Global,
@@ -32,21 +87,28 @@ fn rehearse<R: Threads + Sync, S: Shelf, O: Sink, G: Gate>(
     ensures refused { accepted_words words.now ≡ None → result ≡ record { status = Status.WordsRefused; file = 0; line = 0; reason = 0; frames = 0 } }
     ensures unread { accepted_words words.now ≡ None → shelf.new ≡ shelf.old }
     ensures unwritten { accepted_words words.now ≡ None → out.new ≡ out.old }
-    ensures outcome { (asked : Asked) → accepted_words words.now ≡ Some asked → WhereTold (S.told shelf.old) (S.told shelf.new) (λ before after.
-        (text : Text) × IsText (S.is_open shelf.new) (S.faults shelf.old) (S.faults shelf.new) (file_named before.files asked.scenario) after.rest text × ReadsAhead result text
-        × WhereTold (O.held out.old) (O.held out.new) (Outcome result text)) }
-    ensures opening { (asked : Asked) → accepted_words words.now ≡ Some asked → WhereTold (S.told shelf.old) (S.told shelf.new) (OpensOnce asked.scenario) }
-    ensures mark { (asked : Asked) → accepted_words words.now ≡ Some asked → S.mark shelf.new ≡ S.faults shelf.old }
-    ensures opened { (asked : Asked) → accepted_words words.now ≡ Some asked → result.status ≢ Status.ReadFailed → IsTrue (S.is_open shelf.new) }
+    ensures outcome { (asked : Asked) → accepted_words words.now ≡ Some asked → WhereTold (S.told shelf.old) (S.told shelf.new)
+        (Rehearses result asked (S.is_open shelf.new) (S.faults shelf.old) (S.faults shelf.new) (O.held out.old) (O.held out.new)) }
+    ensures opening { (asked : Asked) → accepted_words words.now ≡ Some asked → WhereTold (S.told shelf.old) (S.told shelf.new) (λ before after.
+        (count : ℕ) × AsksFor (words_to_open asked) count before after) }
+    ensures mark { (asked : Asked) → accepted_words words.now ≡ Some asked
+        → (S.mark shelf.new ≡ S.faults shelf.old) ⊎ ((shelf.new ≡ shelf.old) × (result.status ≡ Status.NoMemory) × (0 < length asked.files)) }
+    ensures opened { (asked : Asked) → accepted_words words.now ≡ Some asked → result.status ≢ Status.ReadFailed
+        → IsTrue (S.is_open shelf.new) ⊎ ((shelf.new ≡ shelf.old) × (result.status ≡ Status.NoMemory) × (0 < length asked.files)) }
     ensures read_failed { result.status ≡ Status.ReadFailed → HasRisen (S.told shelf.new) (S.faults shelf.old) (S.faults shelf.new) }
     ensures read_well { result.status ≢ Status.ReadFailed → S.faults shelf.new ≡ S.faults shelf.old }
+    ensures file_refused { result.status ≡ Status.FileRefused → out.new ≡ out.old }
     ensures write_failed { result.status ≡ Status.WriteFailed → HasRisen (O.held out.new) (O.faults out.old) (O.faults out.new) }
     ensures wrote_well { result.status ≢ Status.WriteFailed → O.faults out.new ≡ O.faults out.old }
 {
     let Some(plan) = accept(words) else {
         return Report::at(Status::WordsRefused, 0);
     };
-    run_scenario(
+    let count = words.len();
+    if plan.scenario + 1 < count {
+        return run_with_files(rt, alloc, words, plan, plan.scenario + 1, shelf, out, gate);
+    }
+    run_alone(
         rt,
         alloc,
         plan.workers,
@@ -58,7 +120,7 @@ fn rehearse<R: Threads + Sync, S: Shelf, O: Sink, G: Gate>(
 }
 
 /// Runs the rehearsal that the words ask for, and tells its report on `err`. The words are those after the program's
-/// name. The shelf holds the scenario's file, and `out` gets the log.
+/// name. The shelf holds the FILEs and the scenario's file, and `out` gets the log.
 pub fn vigil<R: Threads + Sync, S: Shelf, O: Sink, E: Sink, G: Gate>(
     rt: &R,
     alloc: Global,
@@ -74,15 +136,21 @@ pub fn vigil<R: Threads + Sync, S: Shelf, O: Sink, E: Sink, G: Gate>(
     ensures unread { accepted_words words.now ≡ None → shelf.new ≡ shelf.old }
     ensures unwritten { accepted_words words.now ≡ None → out.new ≡ out.old }
 
-    // What the report says of the text that was handed out and of the bytes of `out`, where both objects tell.
-    ensures outcome { (asked : Asked) → accepted_words words.now ≡ Some asked → WhereTold (S.told shelf.old) (S.told shelf.new) (λ before after.
-        (text : Text) × IsText (S.is_open shelf.new) (S.faults shelf.old) (S.faults shelf.new) (file_named before.files asked.scenario) after.rest text × ReadsAhead result text
-        × WhereTold (O.held out.old) (O.held out.new) (Outcome result text)) }
+    // What the report says of the FILEs, of the text that was handed out, and of the bytes of `out`, where both objects tell.
+    ensures outcome { (asked : Asked) → accepted_words words.now ≡ Some asked → WhereTold (S.told shelf.old) (S.told shelf.new)
+        (Rehearses result asked (S.is_open shelf.new) (S.faults shelf.old) (S.faults shelf.new) (O.held out.old) (O.held out.new)) }
 
-    // The scenario's file is asked for once, and nothing else.
-    ensures opening { (asked : Asked) → accepted_words words.now ≡ Some asked → WhereTold (S.told shelf.old) (S.told shelf.new) (OpensOnce asked.scenario) }
-    ensures mark { (asked : Asked) → accepted_words words.now ≡ Some asked → S.mark shelf.new ≡ S.faults shelf.old }
-    ensures opened { (asked : Asked) → accepted_words words.now ≡ Some asked → result.status ≢ Status.ReadFailed → IsTrue (S.is_open shelf.new) }
+    // The FILEs in order and then the scenario's file are asked for, as far as it came, and nothing else; nothing is asked for after a
+    // fault, so that the count as the last opening began is the one at the start. Where memory ran out before the first FILE nothing was.
+    ensures opening { (asked : Asked) → accepted_words words.now ≡ Some asked → WhereTold (S.told shelf.old) (S.told shelf.new) (λ before after.
+        (count : ℕ) × AsksFor (words_to_open asked) count before after) }
+    ensures mark { (asked : Asked) → accepted_words words.now ≡ Some asked
+        → (S.mark shelf.new ≡ S.faults shelf.old) ⊎ ((shelf.new ≡ shelf.old) × (result.status ≡ Status.NoMemory) × (0 < length asked.files)) }
+    ensures opened { (asked : Asked) → accepted_words words.now ≡ Some asked → result.status ≢ Status.ReadFailed
+        → IsTrue (S.is_open shelf.new) ⊎ ((shelf.new ≡ shelf.old) × (result.status ≡ Status.NoMemory) × (0 < length asked.files)) }
+
+    // Nothing is written where a FILE is refused.
+    ensures file_refused { result.status ≡ Status.FileRefused → out.new ≡ out.old }
 
     // No fault is invented, and none is kept back.
     ensures read_failed { result.status ≡ Status.ReadFailed → HasRisen (S.told shelf.new) (S.faults shelf.old) (S.faults shelf.new) }
@@ -90,11 +158,12 @@ pub fn vigil<R: Threads + Sync, S: Shelf, O: Sink, E: Sink, G: Gate>(
     ensures write_failed { result.status ≡ Status.WriteFailed → HasRisen (O.held out.new) (O.faults out.old) (O.faults out.new) }
     ensures wrote_well { result.status ≢ Status.WriteFailed → O.faults out.new ≡ O.faults out.old }
 
-    // A scenario that ends well is run to its end, or memory ran out, where neither object failed.
-    ensures complete { (asked : Asked) (bytes : List ℕ) → accepted_words words.now ≡ Some asked → (reading (record { bytes = bytes; closed = true })).ending ≡ Ended
+    // Files that can be taken and whose tables load, and a scenario that ends well and whose map gives their reads, are run to its end, or memory ran out, where neither object failed.
+    ensures complete { (asked : Asked) (files : List (List ℕ)) (bytes : List ℕ) → accepted_words words.now ≡ Some asked → tables_fault files ≡ None
+        → (reading (record { bytes = bytes; closed = true })).ending ≡ Ended → GivesReads files (reading (record { bytes = bytes; closed = true }))
         → S.faults shelf.new ≡ S.faults shelf.old → O.faults out.new ≡ O.faults out.old
-        → WhereTold (S.told shelf.old) (S.told shelf.new) (λ before _. file_named before.files asked.scenario ≡ Some bytes
-        → WhereTold (O.held out.old) (O.held out.new) (Completes result (record { bytes = bytes; closed = true }))) }
+        → WhereTold (S.told shelf.old) (S.told shelf.new) (λ before _. AreTaken before.files asked.files files → file_named before.files asked.scenario ≡ Some bytes
+        → WhereTold (O.held out.old) (O.held out.new) (Completes result files (record { bytes = bytes; closed = true }))) }
 
     // The line of the report, or a part of it where `err` failed.
     ensures told { WhereTold (E.held err.old) (E.held err.new) (Tells (E.faults err.old) (E.faults err.new) (error_line result)) }

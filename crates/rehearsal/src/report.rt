@@ -61,4 +61,30 @@ impl Report {
             frames,
         }
     }
+
+    /// A FILE is refused before the first frame: its number from 1, an entry of its table or 0, and why.
+    pub fn file_refused(file: u32, entry: u32, reason: u8) -> Report
+        ensures { result ≡ record { status = Status.FileRefused; file = file; line = entry; reason = reason; frames = 0 } }
+    {
+        Report {
+            status: Status::FileRefused,
+            file,
+            line: entry,
+            reason,
+            frames: 0,
+        }
+    }
+
+    /// The shelf failed on a FILE: its number from 1.
+    pub fn file_unread(file: u32) -> Report
+        ensures { result ≡ record { status = Status.ReadFailed; file = file; line = 0; reason = 0; frames = 0 } }
+    {
+        Report {
+            status: Status::ReadFailed,
+            file,
+            line: 0,
+            reason: 0,
+            frames: 0,
+        }
+    }
 }

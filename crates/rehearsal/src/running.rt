@@ -5,9 +5,8 @@ ghost use Rattle.fsw_outside.specs.Told.{WhereTold};
 ghost use Rattle.fsw_outside.specs.Files.{Content};
 ghost use Rattle.fsw_outside.specs.Causes.{HasRisen};
 ghost use Rattle.scenario.specs.Texts.{Text, Given};
-ghost use Rattle.frame_exec.specs.Standing.{Stands as BenchStands};
 ghost use Rattle.rehearsal.specs.Reading.{IsRead, Holds};
-ghost use Rattle.rehearsal.specs.Outcome.{frames_of, setup_of, IsTextOf, ReadsAhead, Outcome};
+ghost use Rattle.rehearsal.specs.Outcome.{frames_of, Runs, IsTextOf, ReadsAhead, Outcome};
 
 use crate::feeding::{Feed, Next, read_on};
 use crate::report::{Report, Status};
@@ -27,20 +26,20 @@ pub fn run_frames<R: Threads + Sync, S: Shelf, O: Sink, G: Gate>(
     gate: &G,
 ) -> Report
     requires opened { IsTrue (S.is_open shelf.old) }
-    requires holds { (text : Text) × (gave : List Given) × Holds reader.old feed.old text gave × BenchStands bench.old (setup_of gave) (frames_of gave)
+    requires holds { (files : List (List ℕ)) × (text : Text) × (gave : List Given) × Holds reader.old feed.old text gave × Runs bench.old files gave
         × (frames_of gave ≡ []) × (0 < length gave) }
-    ensures outcome { (text : Text) (gave : List Given) → Holds reader.old feed.old text gave → BenchStands bench.old (setup_of gave) (frames_of gave)
+    ensures outcome { (files : List (List ℕ)) (text : Text) (gave : List Given) → Holds reader.old feed.old text gave → Runs bench.old files gave
         → frames_of gave ≡ [] → 0 < length gave
         → WhereTold (S.told shelf.old) (S.told shelf.new) (λ before after. (start : Content) → IsRead text feed.old.pending start before
         → (whole : Text) × IsTextOf (S.faults shelf.old) (S.faults shelf.new) start after whole × ReadsAhead result whole
-        × WhereTold (O.held out.old) (O.held out.new) (Outcome result whole)) }
+        × WhereTold (O.held out.old) (O.held out.new) (Outcome result files whole)) }
     ensures is_open { IsTrue (S.is_open shelf.new) }
     ensures mark { S.mark shelf.new ≡ S.mark shelf.old }
     ensures read_failed { result.status ≡ Status.ReadFailed → HasRisen (S.told shelf.new) (S.faults shelf.old) (S.faults shelf.new) }
     ensures read_well { result.status ≢ Status.ReadFailed → S.faults shelf.new ≡ S.faults shelf.old }
     ensures write_failed { result.status ≡ Status.WriteFailed → HasRisen (O.held out.new) (O.faults out.old) (O.faults out.new) }
     ensures wrote_well { result.status ≢ Status.WriteFailed → O.faults out.new ≡ O.faults out.old }
-    ensures accepted { result.status ≢ Status.WordsRefused }
+    ensures accepted { (result.status ≢ Status.WordsRefused) × (result.status ≢ Status.FileRefused) }
 {
     let mut frames = 0;
     'frames: loop {

@@ -13,7 +13,7 @@ fn words_of(alloc: Global, text: &str) -> Result<Words, Fail> {
 }
 
 /// Words, how many workers they ask for, and the place of the scenario's name; no workers where they are refused.
-const WORDS: [(&str, u32, usize); 14] = [
+const WORDS: [(&str, u32, usize); 20] = [
     ("v1.txt", 1, 0),
     ("", 1, 0),
     ("drill:", 1, 0),
@@ -27,7 +27,13 @@ const WORDS: [(&str, u32, usize); 14] = [
     ("--workers/1/--workers", 0, 0),
     ("drill:7", 0, 0),
     ("-", 0, 0),
-    ("v1.txt/a", 0, 0),
+    ("v1.txt/a", 1, 0),
+    ("v1.txt/a/drill:7/", 1, 0),
+    ("--workers/3/v1.txt/a/b", 3, 2),
+    ("v1.txt/a/-b", 0, 0),
+    ("v1.txt/--workers/3", 0, 0),
+    ("--workers/3", 0, 0),
+    ("--workers", 0, 0),
 ];
 
 #[test]
@@ -41,6 +47,19 @@ fn words_are_accepted_or_refused(rt: HostRuntime) -> Result<(), Fail> {
         };
         assert_eq!(rt; accept(&words_of(rt.alloc(), text)?), wanted, "at {text}");
     }
+    Ok(())
+}
+
+#[test]
+fn at_most_a_hundred_files_are_named(rt: HostRuntime) -> Result<(), Fail> {
+    let mut words = words_of(rt.alloc(), "v1.txt")?;
+    for _ in 0..100 {
+        words.add("a")?;
+    }
+    let (workers, scenario) = (1, 0);
+    assert_eq!(rt; accept(&words), Some(Plan { workers, scenario }));
+    words.add("a")?;
+    assert_eq!(rt; accept(&words), None);
     Ok(())
 }
 

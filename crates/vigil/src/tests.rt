@@ -1,6 +1,7 @@
 //! Whole rehearsals over memory.
 
 mod faults;
+mod files;
 mod lengths;
 mod refusals;
 mod rows;

@@ -166,8 +166,8 @@ const REFUSED_WORDS: [&[&str]; 17] = [
     &["-"],
     &["drill:7"],
     &["--workers", "1", "drill:000007"],
-    &["s", "file"],
-    &["--workers", "1", "s", "file"],
+    &["s", "-"],
+    &["--workers", "1", "s", "file", "--workers"],
 ];
 
 // Words whose scenario isn't on the shelf.

@@ -1,16 +1,17 @@
-use Rattle.std.proofs.Common.{◌≡◌}
+use Rattle.std.proofs.Common.{◌≡◌, inl, inr, IsTrue}
 use Rattle.rehearsal.specs.declared.report.Status.TheVariants as statuses
-use Rattle.rehearsal.proofs.Completeness.{completes, not_risen}
+use Rattle.rehearsal.proofs.Completeness.{rehearses_complete, not_risen}
 use Rattle.rehearsal.proofs.rehearsing.vigil.Goals as goal
 
 pub returns-clause-complete : goal.returns-clause-complete
-returns-clause-complete g c = λ asked bytes is ended well wrote after tells.
+returns-clause-complete g c = λ asked files bytes is loaded ended given well wrote after tells.
     let o = c.rehearse-report.ensures.outcome asked is after tells in
-    let read = λ (failed : c.rehearse-report.result.status ≡ statuses.ReadFailed). not_risen _ after _ _ tells well (c.rehearse-report.ensures.read_failed failed) in (
+    let read = λ (failed : c.rehearse-report.result.status ≡ statuses.ReadFailed). not_risen _ after _ _ tells well (c.rehearse-report.ensures.read_failed failed) in
+    let opened : ((c.rehearse-report.result.status ≡ statuses.ReadFailed → ⊥) → (c.rehearse-report.result.status ≡ statuses.NoMemory → ⊥) → IsTrue (g.S.Shelf.is_open c.rehearse-report.new.shelf)) =
+    λ reading some. elim (c.rehearse-report.ensures.opened asked is reading) [ inl holds ↦ holds | inr unasked ↦ absurd (some unasked.1) ] in (
       o.0,
       o.1,
-      λ file new told.
-          let inner = o.2.3 new told in
-          let write = λ (failed : c.rehearse-report.result.status ≡ statuses.WriteFailed). not_risen _ new _ _ told wrote (c.rehearse-report.ensures.write_failed failed) in
-          (inner.0, inner.1, completes c.rehearse-report.result _ _ _ bytes after.rest _ o.2.0 inner.0 new file o.2.1 ended read (c.rehearse-report.ensures.opened asked is) write inner.2),
+      λ taken file.
+          rehearses_complete c.rehearse-report.result asked (g.S.Shelf.is_open c.rehearse-report.new.shelf) _ _ _ _ o.0 after files bytes o.2 taken file loaded ended given read opened
+          (λ new told failed. not_risen _ new _ _ told wrote (c.rehearse-report.ensures.write_failed failed)),
     )

@@ -1,12 +1,14 @@
-use Rattle.std.proofs.Common.{ℕ, ◌<◌, Bool, false, [], ◌∷◌, length, sym, ◌∙◌, subst, refl, arith}
+use Rattle.std.proofs.Common.{ap, ℕ, ◌<◌, Bool, false, [], ◌∷◌, length, sym, ◌∙◌, subst, refl, arith}
 use Rattle.fsw_outside.proofs.Telling.{told_then, told_map, told_nothing}
 use Rattle.scenario.specs.Texts.{Given, reading}
 use Rattle.scenario.specs.Standing.{header_in}
+use Rattle.frame_exec.specs.Tables.{TableSet}
+use Rattle.scenario.proofs.TextLaws.{given_first}
 use Rattle.rehearsal.specs.Outcome.{IsTextOf}
 use Rattle.rehearsal.proofs.TextFacts.{no_first_frame}
 use Rattle.rehearsal.proofs.Endings.{not_open_at_end, not_open_at_bad}
-use Rattle.rehearsal.proofs.Outcomes.{whole_of, is_closed, text_of, closed_same, open_after, tells_some, reading_same, reading_whole, read_failed, done, refused_at}
-use Rattle.rehearsal.proofs.Beginnings.{unread, begins, read_none, no_frames, no_log, header_setup, header_alone, out_of_memory, opened}
+use Rattle.rehearsal.proofs.Outcomes.{whole_of, is_closed, text_of, closed_same, open_after, tells_some, reading_same, reading_whole, items_whole, refused_none, read_failed, done, refused_at}
+use Rattle.rehearsal.proofs.Beginnings.{unread, begins, read_none, no_frames, no_log, header_setup, header_alone, header_refuses, header_refuses_whole, not_opened, not_opened_ahead, out_of_memory, opened}
 use Rattle.rehearsal.proofs.Ahead.{ahead_by, bad_ahead}
 use Rattle.rehearsal.proofs.scenario_run.run_open.Goals as goal
 
@@ -16,7 +18,7 @@ returns-in_default-clause-outcome g c = told_nothing _ _ (λ start.
       whole_of unread [] end,
       text_of unread [] start start (g.S.Shelf.faults c.args.shelf.now) (g.S.Shelf.faults c.args.shelf.now) (read_none (record { pending = []; total = 0; ended = false }) start refl),
       ahead_by c.at.result _ (whole_of unread [] end) c.at.ensures tt,
-      told_nothing _ _ (λ held. out_of_memory c.at.result (whole_of unread [] end) held c.at.ensures),
+      told_nothing _ _ (λ held. out_of_memory c.args.files.now c.at.result (whole_of unread [] end) held c.at.ensures),
     ))
 
 pub unreachable-requires : goal.unreachable-requires
@@ -24,27 +26,17 @@ unreachable-requires g c =
     let a = c.in-Frame.ensures.reads unread [] (begins c.in-Ok.reader c.new-feed.result c.in-Ok.ensures.stands c.new-feed.ensures) in
     no_first_frame c.read_on.new.reader a.0 _ a.1.0.stands
 
-pub returns-in_default-open-clause-outcome : goal.returns-in_default-open-clause-outcome
-returns-in_default-open-clause-outcome g c =
-    let a = c.in-Header.ensures.reads unread [] (begins c.in-Ok.reader c.new-feed.result c.in-Ok.ensures.stands c.new-feed.ensures) in
-    told_map a.2 (λ start after first.
-    let end : Bool = is_closed after.rest (g.S.Shelf.faults c.args.shelf.now) (g.S.Shelf.faults c.read_on.new.shelf) in (
-      whole_of a.0 c.read_on.new.feed.pending end,
-      text_of a.0 c.read_on.new.feed.pending start after (g.S.Shelf.faults c.args.shelf.now) (g.S.Shelf.faults c.read_on.new.shelf) (first start (read_none c.new-feed.result start c.new-feed.ensures)),
-      ahead_by c.at-in_default-open.result _ (whole_of a.0 c.read_on.new.feed.pending end) c.at-in_default-open.ensures tt,
-      told_nothing _ _ (λ held. out_of_memory c.at-in_default-open.result (whole_of a.0 c.read_on.new.feed.pending end) held c.at-in_default-open.ensures),
-    ))
-
 pub run_frames-requires-clause-holds : goal.run_frames-requires-clause-holds
 run_frames-requires-clause-holds g c = λ _ _.
     let a = c.in-Header.ensures.reads unread [] (begins c.in-Ok.reader c.new-feed.result c.in-Ok.ensures.stands c.new-feed.ensures) in
     let item : Given = header_in c.read_on.new.reader in
     let some : 0 < length (item ∷ []) = omega arith in
     let head = c.header.ensures a.0 (item ∷ []) a.1.stands some in
-    let setup = header_setup item c.header.result.now.epoch c.header.result.now.map head.0 head.1 in
+    let setup = header_setup c.args.files.now item c.header.result.now.epoch c.header.result.now.map head.0 head.1 in
     let none = header_alone item c.header.result.now.epoch c.header.result.now.map head.0 head.1 in
-    let stands = opened c.in-Ok-open.bench item _ c.in-Ok-open.ensures setup none in
-    (a.0, item ∷ [], a.1, stands, none, some)
+    let stands = opened c.args.files.now c.in-Ok-open.bench item _ c.in-Ok-open.ensures.stands (setup ∙ ap (λ (t : TableSet). record { epoch = c.header.result.now.epoch; regions = c.header.result.now.map; tables = t }) (sym c.requires.loaded.named)) none in
+    let given = header_refuses c.args.files.now item c.header.result.now.epoch c.header.result.now.map head.0 head.1 ∙ c.in-Ok-open.ensures.refused in
+    (c.args.files.now, a.0, item ∷ [], a.1, record { stands = stands; given = given }, none, some)
 
 pub returns-in-Failed-clause-outcome : goal.returns-in-Failed-clause-outcome
 returns-in-Failed-clause-outcome g c = λ after tells.
@@ -60,7 +52,7 @@ returns-in-Failed-clause-outcome g c = λ after tells.
         whole_of a.0 c.read_on.new.feed.pending end,
         text_of a.0 c.read_on.new.feed.pending first.0 after (g.S.Shelf.faults c.args.shelf.now) (g.S.Shelf.faults c.read_on.new.shelf) (first.2 first.0 (read_none c.new-feed.result first.0 c.new-feed.ensures)),
         ahead_by c.at-in-Failed.result _ (whole_of a.0 c.read_on.new.feed.pending end) c.at-in-Failed.ensures tt,
-        told_nothing _ _ (λ held. read_failed c.at-in-Failed.result 0 a.0 (whole_of a.0 c.read_on.new.feed.pending end) [] held held c.at-in-Failed.ensures same a.1.1 a.1.2 (no_frames [] refl) (no_log [] held refl)),
+        told_nothing _ _ (λ held. read_failed c.args.files.now c.at-in-Failed.result 0 a.0 (whole_of a.0 c.read_on.new.feed.pending end) [] held held c.at-in-Failed.ensures (refused_none c.args.files.now) same a.1.1 a.1.2 (no_frames [] refl) (no_log c.args.files.now [] held refl)),
       ),
     )
 
@@ -75,7 +67,7 @@ returns-in-End-clause-outcome g c =
       whole_of a.0 c.read_on.new.feed.pending end,
       text_of a.0 c.read_on.new.feed.pending start after (g.S.Shelf.faults c.args.shelf.now) (g.S.Shelf.faults c.read_on.new.shelf) read,
       ahead_by c.at-in-End.result _ (whole_of a.0 c.read_on.new.feed.pending end) c.at-in-End.ensures tt,
-      told_nothing _ _ (λ held. done c.at-in-End.result 0 a.0 (whole_of a.0 c.read_on.new.feed.pending end) [] held held c.at-in-End.ensures same a.1.1 a.1.2 (no_frames [] refl) (no_log [] held refl)),
+      told_nothing _ _ (λ held. done c.args.files.now c.at-in-End.result 0 a.0 (whole_of a.0 c.read_on.new.feed.pending end) [] held held c.at-in-End.ensures (refused_none c.args.files.now) same a.1.1 a.1.2 (no_frames [] refl) (no_log c.args.files.now [] held refl)),
     ))
 
 pub returns-in-Bad-clause-outcome : goal.returns-in-Bad-clause-outcome
@@ -89,7 +81,7 @@ returns-in-Bad-clause-outcome g c =
       whole_of a.0 c.read_on.new.feed.pending end,
       text_of a.0 c.read_on.new.feed.pending start after (g.S.Shelf.faults c.args.shelf.now) (g.S.Shelf.faults c.read_on.new.shelf) read,
       ahead_by c.refused.result _ (whole_of a.0 c.read_on.new.feed.pending end) c.refused.ensures (bad_ahead a.0 (whole_of a.0 c.read_on.new.feed.pending end) [] c.read_on.new.feed.pending same a.1.1 refl a.1.0.few a.1.3),
-      told_nothing _ _ (λ held. refused_at c.refused.result c.in-Bad.line c.in-Bad.reason 0 a.0 (whole_of a.0 c.read_on.new.feed.pending end) [] held held c.refused.ensures same a.1.1 a.1.2 (no_frames [] refl) (no_log [] held refl)),
+      told_nothing _ _ (λ held. refused_at c.args.files.now c.refused.result c.in-Bad.line c.in-Bad.reason 0 a.0 (whole_of a.0 c.read_on.new.feed.pending end) [] held held c.refused.ensures (refused_none c.args.files.now) same a.1.1 a.1.2 (no_frames [] refl) (no_log c.args.files.now [] held refl)),
     ))
 
 pub returns-clause-outcome : goal.returns-clause-outcome
@@ -98,11 +90,32 @@ returns-clause-outcome g c =
     let item : Given = header_in c.read_on.new.reader in
     let some : 0 < length (item ∷ []) = omega arith in
     let head = c.header.ensures a.0 (item ∷ []) a.1.stands some in
-    let setup = header_setup item c.header.result.now.epoch c.header.result.now.map head.0 head.1 in
+    let setup = header_setup c.args.files.now item c.header.result.now.epoch c.header.result.now.map head.0 head.1 in
     let none = header_alone item c.header.result.now.epoch c.header.result.now.map head.0 head.1 in
-    let stands = opened c.in-Ok-open.bench item _ c.in-Ok-open.ensures setup none in
-    let ran = c.run_frames.ensures.outcome a.0 (item ∷ []) a.1 stands none some in
+    let stands = opened c.args.files.now c.in-Ok-open.bench item _ c.in-Ok-open.ensures.stands (setup ∙ ap (λ (t : TableSet). record { epoch = c.header.result.now.epoch; regions = c.header.result.now.map; tables = t }) (sym c.requires.loaded.named)) none in
+    let given = header_refuses c.args.files.now item c.header.result.now.epoch c.header.result.now.map head.0 head.1 ∙ c.in-Ok-open.ensures.refused in
+    let ran = c.run_frames.ensures.outcome c.args.files.now a.0 (item ∷ []) a.1 (record { stands = stands; given = given }) none some in
     let well = c.in-Header.ensures.well (λ other. cc) in
     told_then a.2 ran (λ start middle after first second.
     let o = second start (first start (read_none c.new-feed.result start c.new-feed.ensures)) in
     (o.0, subst (λ (n : ℕ). IsTextOf n (g.S.Shelf.faults c.run_frames.new.shelf) start after o.0) well o.1, o.2, o.3))
+
+pub returns-in-Err-clause-outcome : goal.returns-in-Err-clause-outcome
+returns-in-Err-clause-outcome g c =
+    let a = c.in-Header.ensures.reads unread [] (begins c.in-Ok.reader c.new-feed.result c.in-Ok.ensures.stands c.new-feed.ensures) in
+    let item : Given = header_in c.read_on.new.reader in
+    let some : 0 < length (item ∷ []) = omega arith in
+    let head = c.header.ensures a.0 (item ∷ []) a.1.stands some in
+    let refused = header_refuses c.args.files.now item c.header.result.now.epoch c.header.result.now.map head.0 head.1 in
+    let first_of_now = given_first c.read_on.new.reader a.0 (item ∷ []) a.1.stands in
+    told_map a.2 (λ start after first.
+    let read = first start (read_none c.new-feed.result start c.new-feed.ensures) in
+    let end : Bool = is_closed after.rest (g.S.Shelf.faults c.args.shelf.now) (g.S.Shelf.faults c.read_on.new.shelf) in
+    let closed = closed_same c.read_on.new.reader c.read_on.new.feed a.0 (item ∷ []) start after (g.S.Shelf.faults c.args.shelf.now) (g.S.Shelf.faults c.read_on.new.shelf) a.1 read (c.in-Header.ensures.well (λ other. cc)) in
+    let grown = items_whole a.0 c.read_on.new.feed.pending end closed in
+    let all = header_refuses_whole c.args.files.now item first_of_now.0 grown.0 (reading a.0).items (reading (whole_of a.0 c.read_on.new.feed.pending end)).items first_of_now.1 grown.1 in (
+      whole_of a.0 c.read_on.new.feed.pending end,
+      text_of a.0 c.read_on.new.feed.pending start after (g.S.Shelf.faults c.args.shelf.now) (g.S.Shelf.faults c.read_on.new.shelf) read,
+      not_opened_ahead c.report_of.result (whole_of a.0 c.read_on.new.feed.pending end) c.in-Err.fault c.report_of.ensures,
+      told_nothing _ _ (λ held. not_opened c.args.files.now c.report_of.result (whole_of a.0 c.read_on.new.feed.pending end) c.in-Err.fault _ held c.report_of.ensures c.in-Err.ensures.refused (all ∙ refused)),
+    ))

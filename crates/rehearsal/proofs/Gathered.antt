@@ -1,0 +1,124 @@
+-- What the FILEs taken so far come to with one more.
+use Rattle.std.proofs.Common.{◌≡◌, ℕ, zero, suc, ◌+◌, ◌-◌, ◌<◌, ◌≤◌, List, [], ◌∷◌, ◌++◌, length, map, take, drop, refl, sym, ◌∙◌, ap, arith, append_assoc, length-append, add-zero, add-one, append-nil, slice_index_or, Option, Some, None, Err}
+use Rattle.std.proofs.Math.ListN.{get_or-append}
+use Rattle.std.proofs.Math.Seq.{take-suc, get_or-append_seam}
+use Rattle.std.proofs.lemmas.List.{map-append, get_or-drop}
+use Rattle.fsw_outside.specs.Files.{Stored, Content, file_named}
+use Rattle.rehearsal.specs.Asking.{AsksFor, OpensOnce, noted_name}
+use Rattle.rehearsal.specs.FileWords.{Refusal, refused_or, refusal_behind, refusal_after, first_refusal, AreTaken}
+use Rattle.rehearsal.specs.Gathering.{FailsAtFile, RefusesFile, RunsOut, EndsAtFile, stop_report}
+use Rattle.rehearsal.specs.declared.gathering.Stop.{Stop}
+use Rattle.rehearsal.specs.declared.gathering.Stop.TheVariants as stops
+use Rattle.rehearsal.specs.declared.report.Report.{Report}
+use Rattle.rehearsal.specs.Fetching.{Takes}
+
+-- none of the first files is refused where no file is
+pub none_before : (n : ℕ) (reason : Option ℕ) (behind : Option Refusal) → refused_or n reason behind ≡ None → (reason ≡ None) × (behind ≡ None)
+none_before n None behind none = (refl, none)
+none_before n (Some reason) behind none = cc
+
+-- with one file more it is that file alone that may be refused
+refusal_more : (before files : List (List ℕ)) (file : List ℕ) → refusal_after before files ≡ None
+    → refusal_after before (files ++ file ∷ []) ≡ refused_or (length before + length files + 1) (refusal_behind (before ++ files) file) None
+unfolding refusal_after
+refusal_more before [] file none = rw (append-nil before, add-zero (length before)) refl
+refusal_more before (first ∷ files) file none =
+    let parts = none_before (length before + 1) (refusal_behind before first) (refusal_after (before ++ first ∷ []) files) none in
+    let front = append_assoc before (first ∷ []) files in
+    let size : length (before ++ first ∷ []) + length files + 1 ≡ length before + suc (length files) + 1 = omega (arith, length-append before (first ∷ [])) in
+    rw parts.0 (refusal_more (before ++ first ∷ []) files file parts.1 ∙ ap (λ (n : ℕ). refused_or n (refusal_behind ((before ++ first ∷ []) ++ files) file) None) size
+    ∙ ap (λ (b : List (List ℕ)). refused_or (length before + suc (length files) + 1) (refusal_behind b file) None) front)
+
+-- the file behind those that were taken
+first_more : (files : List (List ℕ)) (file : List ℕ) (reason : Option ℕ) → first_refusal files ≡ None → refusal_behind files file ≡ reason
+    → first_refusal (files ++ file ∷ []) ≡ refused_or (length files + 1) reason None
+unfolding first_refusal
+first_more files file reason none is =
+    let size : 0 + length files + 1 ≡ length files + 1 = omega arith in
+    refusal_more [] files file none ∙ ap (λ (n : ℕ). refused_or n (refusal_behind files file) None) size ∙ ap (λ (r : Option ℕ). refused_or (length files + 1) r None) is
+
+-- no FILE at all
+pub taken_none : (stored : List Stored) (names files : List (List ℕ)) → files ≡ [] → AreTaken stored (take (length files) names) files
+unfolding first_refusal refusal_after
+taken_none stored names files none = rw none (record { named = refl; taken = refl })
+
+-- the names so far with one more
+named_more : (stored : List Stored) (names files : List (List ℕ)) (file : List ℕ) → length files < length names → map (file_named stored) (take (length files) names) ≡ map Some files
+    → file_named stored (slice_index_or names (length files) []) ≡ Some file → map (file_named stored) (take (length files + 1) names) ≡ map Some (files ++ file ∷ [])
+named_more stored names files file within named is =
+    let n = length files in
+    ap (λ (k : ℕ). map (file_named stored) (take k names)) (add-one n) ∙ ap (map (file_named stored)) (take-suc names n [] within)
+    ∙ map-append (file_named stored) (take n names) (slice_index_or names n [] ∷ [])
+    ∙ (λ i. named i ++ is i ∷ [])
+    ∙ sym (map-append Some files (file ∷ []))
+
+-- one FILE more is taken
+pub taken_more : (stored : List Stored) (names files now : List (List ℕ)) (file : List ℕ) → length files < length names → AreTaken stored (take (length files) names) files
+    → file_named stored (slice_index_or names (length files) []) ≡ Some file → refusal_behind files file ≡ None → now ≡ files ++ file ∷ [] → AreTaken stored (take (length now) names) now
+taken_more stored names files now file within taken is good grown =
+    let size : length now ≡ length files + 1 = omega (arith, ap length grown, length-append files (file ∷ [])) in
+    rw (size, grown) (record { named = named_more stored names files file within taken.named is; taken = first_more files file None taken.taken good })
+
+-- the next FILE isn't taken
+pub stops_at : (stored : List Stored) (names files : List (List ℕ)) (why : Stop) (now : List (List ℕ)) → length files < length names → AreTaken stored (take (length files) names) files
+    → Takes (Err why) (file_named stored (slice_index_or names (length files) [])) files now → EndsAtFile (stop_report why (length files + 1)) stored names (length files + 1)
+stops_at stored names files stops.Failed now within taken why = (
+  record {
+    before = files;
+    taken = taken;
+    file = refl;
+    within = omega (arith, within);
+    line = refl;
+    reason = refl;
+    frames = refl;
+  },
+  refl,
+)
+stops_at stored names files (stops.Refused reason) now within taken why = (
+  record {
+    files = files ++ why.0 ∷ [];
+    named = named_more stored names files why.0 within taken.named why.1;
+    refused = first_more files why.0 (Some reason) taken.taken why.2;
+    line = refl;
+    frames = refl;
+  },
+  refl,
+)
+stops_at stored names files stops.NoMemory now within taken why = record { file = refl; line = refl; reason = refl; frames = refl }
+
+-- nothing was asked for
+pub asks_none : (words files : List (List ℕ)) (content : Content) → files ≡ [] → AsksFor words (length files) content content
+asks_none words files content none = rw none (record { files = refl; within = omega arith; openings = sym (add-zero content.openings); name = λ some. absurd (omega (arith, some)); nothing = λ _. refl })
+
+-- one word more was asked for
+pub asks_more : (words : List (List ℕ)) (count : ℕ) (name : List ℕ) (before middle after : Content) → count < length words → name ≡ slice_index_or words count [] → AsksFor words count before middle → OpensOnce name middle after
+    → AsksFor words (count + 1) before after
+asks_more words count name before middle after within is asked opens = record {
+  files = opens.files ∙ asked.files;
+  within = omega (arith, within);
+  openings = omega (arith, opens.openings, asked.openings);
+  name = λ _. opens.name ∙ ap (λ (stored : List Stored). noted_name stored name) asked.files ∙ ap (noted_name before.files) (is ∙ ap (λ (k : ℕ). slice_index_or words k []) (count_is count));
+  nothing = λ none. absurd (omega (arith, none));
+}
+  where
+    count_is : (n : ℕ) → n ≡ n + 1 - 1
+    count_is n = omega arith
+
+-- the word at a place, among the words from another place on
+pub word_at : (words : List (List ℕ)) (from place count : ℕ) (word : List ℕ) → word ≡ slice_index_or words place [] → from + count ≡ place → word ≡ slice_index_or (drop from words) count []
+word_at words from place count word is at = is ∙ ap (λ (k : ℕ). slice_index_or words k []) (sym at) ∙ sym (get_or-drop from words count [])
+
+-- the words before the last were asked for
+pub asks_front : (names : List (List ℕ)) (last : List ℕ) (count : ℕ) (before after : Content) → AsksFor names count before after → AsksFor (names ++ last ∷ []) count before after
+asks_front names last count before after asked = record {
+  files = asked.files;
+  within = omega (arith, asked.within, length-append names (last ∷ []));
+  openings = asked.openings;
+  name = λ some. asked.name some ∙ ap (noted_name before.files) (sym (get_or-append names (last ∷ []) [] (count - 1) (omega (arith, some, asked.within))));
+  nothing = asked.nothing;
+}
+
+-- and then the last of them
+pub asks_all : (names : List (List ℕ)) (last : List ℕ) (before middle after : Content) → AsksFor names (length names) before middle → OpensOnce last middle after → AsksFor (names ++ last ∷ []) (length names + 1) before after
+asks_all names last before middle after asked opens =
+    asks_more (names ++ last ∷ []) (length names) last before middle after (omega (arith, length-append names (last ∷ []))) (sym (get_or-append_seam names last [] [])) (asks_front names last (length names) before middle asked) opens
