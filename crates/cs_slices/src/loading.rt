@@ -1,5 +1,5 @@
 //! The reading of a table's payload.
-ghost use Rattle.std.specs.Prelude.{◌≡◌, ◌<◌, length, IfOk, MatchResult, Some, None};
+ghost use Rattle.std.specs.Prelude.{◌≡◌, ◌<◌, ◌≤◌, length, IfOk, IfErr, IfSome, MatchResult, Some, None};
 ghost use Rattle.cs_slices.specs.Tables.{segment_at, segment_reason, segments_fault_of, segments_of};
 
 use crate::segments::{ENTRIES, Segment, Segments};
@@ -12,6 +12,7 @@ pub fn load_segments(payload: &[u8]) -> Result<Segments, EntryFault>
     requires { length payload.now ≡ 192 }
     ensures table { IfOk result (λ table. table ≡ segments_of payload.now) }
     ensures fault { MatchResult result (λ _. segments_fault_of payload.now ≡ None) (λ fault. segments_fault_of payload.now ≡ Some fault) }
+    ensures small { IfErr result (λ fault. fault.reason ≤ 2) }
 {
     let mut entries = [Segment::BLANK; ENTRIES];
     for i in 0..ENTRIES {
@@ -43,7 +44,8 @@ fn segment_at(payload: &[u8], i: usize) -> Segment
 // The least reason to refuse an entry.
 #[tactic(auto, unfolding(crate::specs::Tables::segment_reason))]
 fn segment_reason(segment: Segment) -> Option<u8>
-    ensures { result ≡ segment_reason segment }
+    ensures reason { result ≡ segment_reason segment }
+    ensures small { IfSome result (λ reason. reason ≤ 2) }
 {
     if segment.state > 2 {
         return Some(1);

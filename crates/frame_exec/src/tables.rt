@@ -1,6 +1,6 @@
 //! The tables of the applications, by the files that name them.
 
-ghost use Rattle.std.specs.Prelude.{◌≡◌, ℕ, ◌≤◌, ◌-◌, List, length, slice_set, None, Some, IfOk, IfErr};
+ghost use Rattle.std.specs.Prelude.{◌≡◌, ℕ, ◌≤◌, ◌-◌, List, length, slice_set, None, Some, IfOk, IfErr, IfSome};
 ghost use Rattle.table_files.specs.Headers.{Shows};
 ghost use Rattle.cs_slices.specs.Tables.{segments_of, segments_fault_of};
 ghost use Rattle.md_dwell.specs.Tables.{dwell_of, dwell_fault_of};
@@ -61,6 +61,7 @@ impl Tables {
         ensures tables { IfOk result (λ tables. tables ≡ tables_of files.now) }
         ensures well { IfOk result (λ tables. tables_fault files.now ≡ None) }
         ensures fault { IfErr result (λ fault. tables_fault files.now ≡ Some fault) }
+        ensures small { IfErr result (λ fault. fault.reason ≤ 3) }
     {
         let mut tables = Tables::blank();
         for i in 0..files.len() {
@@ -102,6 +103,7 @@ impl Tables {
         requires { (file : List ℕ) × Shows file image }
         ensures fault { (file : List ℕ) → Shows file image.entry → result ≡ entry_fault_in file }
         ensures tables { (file : List ℕ) → Shows file image.entry → result ≡ None → self.new ≡ with_file self.old file }
+        ensures small { IfSome result (λ fault. fault.reason ≤ 3) }
     {
         match image {
             FileImage::Load { .. } => None,
@@ -119,6 +121,7 @@ impl Tables {
         requires number { (1 ≤ n) × (n ≤ 4) }
         requires size { length payload.now ≡ 204 }
         ensures fault { result ≡ dwell_fault_of payload.now }
+        ensures small { IfSome result (λ fault. fault.reason ≤ 3) }
         ensures table { result ≡ None → self.new ≡ record self.old { dwells = slice_set self.old.dwells (n - 1) (dwell_of payload.now) } }
     {
         match load_dwell(payload) {
@@ -134,6 +137,7 @@ impl Tables {
     fn put_eeprom(&mut self, payload: &[u8]) -> Option<EntryFault>
         requires size { length payload.now ≡ 192 }
         ensures fault { result ≡ segments_fault_of payload.now }
+        ensures small { IfSome result (λ fault. fault.reason ≤ 3) }
         ensures table { result ≡ None → self.new ≡ record self.old { eeprom = segments_of payload.now } }
     {
         match load_segments(payload) {
@@ -149,6 +153,7 @@ impl Tables {
     fn put_memory(&mut self, payload: &[u8]) -> Option<EntryFault>
         requires size { length payload.now ≡ 192 }
         ensures fault { result ≡ segments_fault_of payload.now }
+        ensures small { IfSome result (λ fault. fault.reason ≤ 3) }
         ensures table { result ≡ None → self.new ≡ record self.old { memory = segments_of payload.now } }
     {
         match load_segments(payload) {

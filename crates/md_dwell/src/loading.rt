@@ -1,5 +1,5 @@
 //! The reading of a table's payload.
-ghost use Rattle.std.specs.Prelude.{◌≡◌, ◌<◌, ◌≤◌, length, IfOk, MatchResult, Some, None};
+ghost use Rattle.std.specs.Prelude.{◌≡◌, ◌<◌, ◌≤◌, length, IfOk, IfErr, IfSome, MatchResult, Some, None};
 ghost use Rattle.md_dwell.specs.Tables.{entry_at, entry_reason, dwell_fault_of, dwell_of};
 
 use crate::tables::{Dwell, DwellEntry, ENTRIES};
@@ -13,6 +13,7 @@ pub fn load_dwell(payload: &[u8]) -> Result<Dwell, EntryFault>
     requires { length payload.now ≡ 204 }
     ensures table { IfOk result (λ table. table ≡ dwell_of payload.now) }
     ensures fault { MatchResult result (λ _. dwell_fault_of payload.now ≡ None) (λ fault. dwell_fault_of payload.now ≡ Some fault) }
+    ensures small { IfErr result (λ fault. fault.reason ≤ 3) }
 {
     let enabled = be16(payload, 0);
     if enabled > 1 {
@@ -51,7 +52,8 @@ fn entry_at(payload: &[u8], i: usize) -> DwellEntry
 // The least reason to refuse an entry.
 #[tactic(auto, unfolding(crate::specs::Tables::entry_reason))]
 fn entry_reason(entry: DwellEntry) -> Option<u8>
-    ensures { result ≡ entry_reason entry }
+    ensures reason { result ≡ entry_reason entry }
+    ensures small { IfSome result (λ reason. reason ≤ 3) }
 {
     if !entry.has_length() {
         return Some(1);

@@ -8,7 +8,7 @@ pub returns-in-Some-clause-fault : goal.returns-in-Some-clause-fault
 unfolding segments_fault_of
 returns-in-Some-clause-fault c =
     c.loop-i.invariant.faultless
-    ∙ fault_here c.args.payload.now c.loop-i.i c.in-Some.reason c.loop-i-test.true (rw (← c.segment_at-segment.ensures) (sym c.in-Some.ensures))
+    ∙ fault_here c.args.payload.now c.loop-i.i c.in-Some.reason c.loop-i-test.true (rw (← c.segment_at-segment.ensures) (sym c.in-Some.ensures.reason))
 
 pub loop-i-preserved : goal.loop-i-preserved
 loop-i-preserved c = record {
@@ -16,7 +16,7 @@ loop-i-preserved c = record {
   read = below_more _ _
       (λ k below. let other : k ≢ c.loop-i.i = omega arith in rw get_or-set_other (c.loop-i.invariant.read k below))
       (let within : c.loop-i.i < length c.loop-i.entries = omega arith in rw get_or-set_same c.segment_at-segment.ensures);
-  faultless = c.loop-i.invariant.faultless ∙ fault_later c.args.payload.now c.loop-i.i c.loop-i-test.true (rw (← c.segment_at-segment.ensures) (sym c.segment_reason.ensures ∙ c.in_default.is));
+  faultless = c.loop-i.invariant.faultless ∙ fault_later c.args.payload.now c.loop-i.i c.loop-i-test.true (rw (← c.segment_at-segment.ensures) (sym c.segment_reason.ensures.reason ∙ c.in_default.is));
 }
 
 pub returns-clause-table : goal.returns-clause-table

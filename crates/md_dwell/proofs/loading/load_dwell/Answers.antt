@@ -26,7 +26,7 @@ pub returns-in-Some-clause-fault : goal.returns-in-Some-clause-fault
 returns-in-Some-clause-fault c =
     by_entries c.args.payload.now c.be16-enabled.result c.be16-enabled.ensures c.if-enabled-gt1.false
     ∙ c.loop-i.invariant.faultless
-    ∙ fault_here c.args.payload.now c.loop-i.i c.in-Some.reason c.loop-i-test.true (rw (← c.entry_at-entry.ensures) (sym c.in-Some.ensures))
+    ∙ fault_here c.args.payload.now c.loop-i.i c.in-Some.reason c.loop-i-test.true (rw (← c.entry_at-entry.ensures) (sym c.in-Some.ensures.reason))
 
 pub loop-i-preserved : goal.loop-i-preserved
 loop-i-preserved c = record {
@@ -34,7 +34,7 @@ loop-i-preserved c = record {
   read = below_more _ _
       (λ k below. let other : k ≢ c.loop-i.i = omega arith in rw get_or-set_other (c.loop-i.invariant.read k below))
       (let within : c.loop-i.i < length c.loop-i.entries = omega arith in rw get_or-set_same c.entry_at-entry.ensures);
-  faultless = c.loop-i.invariant.faultless ∙ fault_later c.args.payload.now c.loop-i.i c.loop-i-test.true (rw (← c.entry_at-entry.ensures) (sym c.entry_reason.ensures ∙ c.in_default.is));
+  faultless = c.loop-i.invariant.faultless ∙ fault_later c.args.payload.now c.loop-i.i c.loop-i-test.true (rw (← c.entry_at-entry.ensures) (sym c.entry_reason.ensures.reason ∙ c.in_default.is));
 }
 
 pub returns-clause-table : goal.returns-clause-table
