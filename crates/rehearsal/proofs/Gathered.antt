@@ -1,15 +1,14 @@
 -- What the FILEs taken so far come to with one more.
-use Rattle.std.proofs.Common.{◌≡◌, ℕ, zero, suc, ◌+◌, ◌-◌, ◌<◌, ◌≤◌, List, [], ◌∷◌, ◌++◌, length, map, take, drop, refl, sym, ◌∙◌, ap, arith, append_assoc, length-append, add-zero, add-one, append-nil, slice_index_or, Option, Some, None, Err}
+use Rattle.std.proofs.Common.{◌≡◌, ℕ, suc, ◌+◌, ◌-◌, ◌<◌, List, [], ◌∷◌, ◌++◌, length, map, take, drop, refl, sym, ◌∙◌, ap, arith, append_assoc, length-append, add-zero, add-one, append-nil, slice_index_or, Option, Some, None, Err}
 use Rattle.std.proofs.Math.ListN.{get_or-append}
 use Rattle.std.proofs.Math.Seq.{take-suc, get_or-append_seam}
 use Rattle.std.proofs.lemmas.List.{map-append, get_or-drop}
 use Rattle.fsw_outside.specs.Files.{Stored, Content, file_named}
 use Rattle.rehearsal.specs.Asking.{AsksFor, OpensOnce, noted_name}
 use Rattle.rehearsal.specs.FileWords.{Refusal, refused_or, refusal_behind, refusal_after, first_refusal, AreTaken}
-use Rattle.rehearsal.specs.Gathering.{FailsAtFile, RefusesFile, RunsOut, EndsAtFile, stop_report}
+use Rattle.rehearsal.specs.Gathering.{EndsAtFile, stop_report}
 use Rattle.rehearsal.specs.declared.gathering.Stop.{Stop}
 use Rattle.rehearsal.specs.declared.gathering.Stop.TheVariants as stops
-use Rattle.rehearsal.specs.declared.report.Report.{Report}
 use Rattle.rehearsal.specs.Fetching.{Takes}
 
 -- none of the first files is refused where no file is

@@ -1,5 +1,5 @@
 -- How a rehearsal's stages come together.
-use Rattle.std.proofs.Common.{◌≡◌, ℕ, ◌+◌, ◌<◌, ◌≤◌, Bool, List, [], ◌∷◌, ◌++◌, length, min, drop, refl, sym, ◌∙◌, ap, subst, arith, inl, inr, length-drop, slice_index_or, Option, Some, None}
+use Rattle.std.proofs.Common.{◌≡◌, ℕ, ◌+◌, ◌<◌, ◌≤◌, Bool, List, [], ◌∷◌, ◌++◌, length, drop, refl, sym, ◌∙◌, subst, arith, inl, inr, length-drop, slice_index_or, Option, Some, None}
 use Rattle.fsw_outside.specs.Told.{WhereTold}
 use Rattle.fsw_outside.specs.Files.{Content, file_named}
 use Rattle.scenario.specs.Texts.{Text}
@@ -39,7 +39,7 @@ with_reason fault reason = record { status = statuses.FileRefused; file = fault.
 
 -- all FILEs were taken, and a table wasn't loaded
 pub ends_at_tables : (words : List (List ℕ)) (plan : Plan) (first : ℕ) (report : Report) (fault : TablesFault) (files : List (List ℕ)) (before after : Content) (is_open : Bool) (start faults : ℕ) (held now : Option (List ℕ)) → first ≡ plan.scenario + 1 → first < length words
-    → report ≡ with_reason fault (min (fault.reason + 10) 255) → tables_fault files ≡ Some fault
+    → report ≡ with_reason fault (fault.reason + 10) → tables_fault files ≡ Some fault
     → AsksFor (drop first words) (length (drop first words)) before after → AreTaken before.files (drop first words) files → WhereTold held now (λ old new. new ≡ old)
     → Rehearses report (asked_by words plan) is_open start faults held now before after
 unfolding words_to_open

@@ -1,6 +1,6 @@
 -- The words that are accepted, by their places.
-use Rattle.std.proofs.Common.{◌≡◌, ◌≢◌, ℕ, zero, suc, ◌+◌, ◌-◌, ◌<◌, ◌≤◌, Bool, true, false, List, [], ◌∷◌, length, drop, refl, sym, ◌∙◌, ap, arith, add-one, length-drop, slice_index_or, Option, Some, None, IsTrue, cond}
-use Rattle.std.specs.Prelude.{◌&&◌, not, nat_le, IfNone, IfSome}
+use Rattle.std.proofs.Common.{◌≡◌, ℕ, zero, suc, ◌+◌, ◌-◌, ◌<◌, ◌≤◌, Bool, true, false, List, [], ◌∷◌, length, drop, refl, sym, ◌∙◌, ap, arith, add-one, length-drop, slice_index_or, Option, Some, None}
+use Rattle.std.specs.Prelude.{not, nat_le, IfNone, IfSome}
 use Rattle.std.proofs.lemmas.Option.{IfSome_then}
 use Rattle.std.specs.List.{list_all}
 use Rattle.std.proofs.lemmas.Bool.Decides.{nat_tests}

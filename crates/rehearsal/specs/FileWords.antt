@@ -1,5 +1,5 @@
 -- The files that FILE words name, and the first of them that is refused.
-use Rattle.std.specs.Prelude.{◌≡◌, ℕ, ◌+◌, ◌<◌, ◌≤◌, nat_lt, if◌then◌else◌, List, [], ◌∷◌, ◌++◌, length, map, take, Option, Some, None}
+use Rattle.std.specs.Prelude.{◌≡◌, ℕ, ◌+◌, nat_lt, if◌then◌else◌, List, [], ◌∷◌, ◌++◌, length, map, Option, Some, None}
 use Rattle.fsw_outside.specs.Files.{Stored, file_named}
 use Rattle.table_files.specs.Faults.{file_fault_number}
 use Rattle.table_files.specs.Files.{addition_of}

@@ -1,5 +1,5 @@
 -- What a report says of the scenario's text and of the bytes of the output.
-use Rattle.std.specs.Prelude.{◌≡◌, ℕ, ◌+◌, ◌==◌, ◌&&◌, ◌<◌, ◌≤◌, List, [], ◌∷◌, ◌++◌, length, min, slice_index, Bool, IsTrue, IsFalse, Option, Some, None, ◌⊎◌}
+use Rattle.std.specs.Prelude.{◌≡◌, ℕ, ◌+◌, ◌==◌, ◌&&◌, ◌<◌, ◌≤◌, List, [], ◌∷◌, ◌++◌, length, slice_index, Bool, IsTrue, IsFalse, Option, Some, None, ◌⊎◌}
 use Rattle.std.specs.List.{flat_map}
 use Rattle.fsw_outside.specs.Told.{WhereTold}
 use Rattle.fsw_outside.specs.Files.{Content, file_named}
@@ -98,7 +98,7 @@ pub record RefusesEntry (report : Report) (files : List (List ℕ)) : Type 0 whe
   pub is : tables_fault files ≡ Some fault
   pub file : report.file ≡ fault.file
   pub line : report.line ≡ fault.entry
-  pub reason : report.reason ≡ min (fault.reason + 10) 255
+  pub reason : report.reason ≡ fault.reason + 10
   pub frames : report.frames ≡ 0
 
 -- the map of the text refuses the read of an entry of a file's table: the first such file, its first such entry, and reason 10

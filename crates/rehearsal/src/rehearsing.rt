@@ -58,7 +58,7 @@ fn run_with_files<R: Threads + Sync, S: Shelf, O: Sink, G: Gate>(
     let tables = match Tables::load(&files) {
         Ok(tables) => tables,
         Err(fault) => {
-            return Report::file_refused(fault.file, fault.entry, fault.reason.saturating_add(10));
+            return Report::file_refused(fault.file, fault.entry, fault.reason + 10);
         }
     };
     run_scenario(

@@ -1,4 +1,4 @@
-use Rattle.std.proofs.Common.{◌≡◌, ◌-◌, ◌<◌, ◌≤◌, length, arith}
+use Rattle.std.proofs.Common.{arith}
 use Rattle.rehearsal.proofs.WordLists.{many_names, few_names}
 use Rattle.rehearsal.proofs.accepting.are_file_names.Goals as goal
 

@@ -1,4 +1,4 @@
-use Rattle.std.proofs.Common.{◌≤◌, length, sym, ◌∙◌, subst, arith}
+use Rattle.std.proofs.Common.{sym, ◌∙◌, arith}
 use Rattle.rehearsal.proofs.WordLists.{undashed_step, undashed_stop, undashed_end}
 use Rattle.rehearsal.proofs.accepting.are_undashed.Goals as goal
 

@@ -1,4 +1,4 @@
-use Rattle.std.proofs.Common.{◌≡◌, ◌+◌, ◌-◌, ◌≤◌, ◌++◌, length, IsTrue}
+use Rattle.std.proofs.Common.{◌≡◌, ◌-◌, ◌≤◌, ◌++◌, length, IsTrue}
 use Rattle.fsw_outside.specs.Told.{WhereTold}
 use Rattle.rehearsal.specs.Asking.{IsSameOpening}
 use Rattle.rehearsal.proofs.fetching.read_rest.Given as goal

@@ -1,4 +1,4 @@
-use Rattle.std.proofs.Common.{◌≡◌, ◌+◌, ◌<◌, ◌≤◌, length, drop, take, IsTrue}
+use Rattle.std.proofs.Common.{◌≡◌, ◌+◌, ◌<◌, length, drop, take, IsTrue}
 use Rattle.fsw_outside.specs.Told.{WhereTold}
 use Rattle.rehearsal.specs.Asking.{AsksFor}
 use Rattle.rehearsal.specs.FileWords.{AreTaken}

@@ -1,9 +1,8 @@
-use Rattle.std.proofs.Common.{◌≡◌, ◌+◌, ◌<◌, List, ℕ, length, drop, refl, sym, ◌∙◌, ap, subst, arith, inl, inr, length-drop}
+use Rattle.std.proofs.Common.{◌+◌, length, drop, refl, inl}
 use Rattle.fsw_outside.proofs.Telling.{told_nothing, told_map, told_then, told_and}
-use Rattle.rehearsal.specs.Asking.{OpensOnce, AsksFor}
 use Rattle.rehearsal.specs.AcceptedWords.{words_to_open}
 use Rattle.rehearsal.proofs.Gathered.{asks_front, asks_all}
-use Rattle.rehearsal.proofs.Stages.{ends_before, ends_at_tables, reads_scenario, with_reason}
+use Rattle.rehearsal.proofs.Stages.{ends_before, ends_at_tables, reads_scenario}
 use Rattle.rehearsal.proofs.rehearsing.run_with_files.Goals as goal
 
 pub returns-in-Err-clause-outcome : goal.returns-in-Err-clause-outcome
@@ -30,7 +29,7 @@ pub returns-in-Err-load-clause-outcome : goal.returns-in-Err-load-clause-outcome
 returns-in-Err-load-clause-outcome g c =
     told_map c.in-Ok-gather.ensures.content (λ before after first.
     ends_at_tables c.args.words.now c.args.plan c.args.first c.file_refused.result c.in-Err-load.fault c.gather.new.files before after _ _ _ _ _ c.requires.first.0 c.requires.first.1
-    (c.file_refused.ensures ∙ ap (λ (r : ℕ). with_reason c.in-Err-load.fault r) c.saturating_add.ensures) c.in-Err-load.ensures.fault first.0 first.1 (told_nothing _ _ (λ held. refl)))
+    c.file_refused.ensures c.in-Err-load.ensures.fault first.0 first.1 (told_nothing _ _ (λ held. refl)))
 
 pub returns-in-Err-load-clause-opening : goal.returns-in-Err-load-clause-opening
 unfolding words_to_open
