@@ -1,6 +1,9 @@
 //! The program: a rehearsal over the runtime's files and streams.
 #![tactic(auto)]
 
+ghost use Rattle.std.specs.Prelude.{◌≡◌, IfErr};
+ghost use Rattle.vigil.specs.Ends.{exit_number, EndsEarly};
+
 use fsw_outside::{FileShelf, OpenGate, StdSink};
 use rehearsal::{Report, Status, Words, tell, vigil};
 use std::env;
@@ -8,8 +11,18 @@ use std::io::ErrorKind;
 use std::process::ExitCode;
 use std::rt::Env;
 
+// The exit status of an end.
+fn exit_number(status: Status) -> u8
+    ensures { result ≡ exit_number status }
+{
+    status as u8
+}
+
 // How the program ends where the runtime doesn't give its words.
-fn status_without_words(kind: ErrorKind) -> Status {
+fn status_without_words(kind: ErrorKind) -> Status
+    ensures early { EndsEarly result }
+    ensures memory { kind ≡ ErrorKind.OutOfMemory → result ≡ Status.NoMemory }
+{
     match kind {
         ErrorKind::OutOfMemory => Status::NoMemory,
         _ => Status::WordsRefused,
@@ -17,7 +30,9 @@ fn status_without_words(kind: ErrorKind) -> Status {
 }
 
 // The words after the program's name, or how the program ends without them.
-fn read_words<R: Env + AllocGlobal>(rt: &R) -> Result<Words, Status> {
+fn read_words<R: Env + AllocGlobal>(rt: &R) -> Result<Words, Status>
+    ensures { IfErr result EndsEarly }
+{
     let given = match env::args(rt) {
         Ok(given) => given,
         Err(error) => return Err(status_without_words(error.kind())),
@@ -41,7 +56,7 @@ fn main(rt: HostRuntime) -> ExitCode {
         Ok(words) => words,
         Err(status) => {
             tell(&mut err, &Report::at(status, 0));
-            return ExitCode::from(status as u8);
+            return ExitCode::from(exit_number(status));
         }
     };
     let report = vigil(
@@ -53,7 +68,7 @@ fn main(rt: HostRuntime) -> ExitCode {
         &mut err,
         &OpenGate,
     );
-    ExitCode::from(report.status as u8)
+    ExitCode::from(exit_number(report.status))
 }
 
 #[cfg(test)]
