@@ -53,6 +53,11 @@ fn dwell_file(alloc: Global, name: &str, enabled: u8, entries: &[Entry]) -> Resu
     Ok(bytes)
 }
 
+// The first so many bytes of a file.
+fn first_bytes(file: &[u8], count: usize) -> &[u8] {
+    &file[..file.len().min(count)]
+}
+
 // The entry in a place, and zeros where there is none.
 fn entry_in(entries: &[Entry], place: usize) -> Entry {
     for entry in entries {
@@ -74,11 +79,12 @@ fn push_entry(bytes: &mut Vec<u8>, entry: Entry) -> Result<(), Fail> {
 fn assert_ends<R: Threads + Sync + AllocGlobal + Abort>(
     rt: &R,
     words: &[&str],
-    files: [&[u8]; 2],
+    first: &[u8],
+    second: &[u8],
     report: Report,
     told: &str,
 ) -> Result<(), Fail> {
-    let ran = run_beside(rt, words, SCENARIO, files, &HONEST)?;
+    let ran = run_beside(rt, words, SCENARIO, first, second, &HONEST)?;
     assert_text(rt, "out", ran.out.bytes(), "");
     assert_text(rt, "err", ran.err.bytes(), told);
     assert_eq!(rt; ran.report, report, "at {words:?}");
@@ -87,18 +93,41 @@ fn assert_ends<R: Threads + Sync + AllocGlobal + Abort>(
 
 #[test]
 fn tables_are_taken(rt: HostRuntime) -> Result<(), Fail> {
-    let first = dwell_file(rt.alloc(), "MD.DWELL_TABLE1", 1, &[(1, 4, 2, 0x1000)])?;
+    let first = dwell_file(rt.alloc(), "MD.DWELL_TABLE1", 0, &[(1, 4, 2, 0x1000)])?;
     let second = dwell_file(rt.alloc(), "MD.DWELL_TABLE2", 0, &[])?;
     let done = Report::at(Status::Done, 1);
-    assert_ends(&rt, &["s", "a"], [&first, &second], done, "")?;
-    assert_ends(&rt, &["s", "b", "a"], [&first, &second], done, "")?;
+    assert_ends(&rt, &["s", "a"], &first, &second, done, "")?;
+    assert_ends(&rt, &["s", "b", "a"], &first, &second, done, "")?;
     assert_ends(
         &rt,
         &["--workers", "2", "s", "a", "b"],
-        [&first, &second],
+        &first,
+        &second,
         done,
         "",
     )
+}
+
+// A table that is named is the one that MD reads by.
+#[test]
+fn table_dwells(rt: HostRuntime) -> Result<(), Fail> {
+    let file = dwell_file(
+        rt.alloc(),
+        "MD.DWELL_TABLE1",
+        1,
+        &[(1, 1, 0, 0x1000), (2, 2, 1, 0x1002)],
+    )?;
+    let text =
+        "epoch 1000\nregion RAM 0x1000 256\nstart\nupset 0x1000 160\nupset 0x1003 176\ntick\nend\n";
+    let ran = run_beside(&rt, &["s", "a"], text, &file, b"", &HONEST)?;
+    assert_text(
+        &rt,
+        "out",
+        ran.out.bytes(),
+        "0 pkt 0891C000000C000003E8000000010003A000B0\n",
+    );
+    assert_eq!(rt; ran.report, Report::at(Status::Done, 1));
+    Ok(())
 }
 
 #[test]
@@ -114,34 +143,38 @@ fn headers_are_refused(rt: HostRuntime) -> Result<(), Fail> {
     pad(&mut too_large, 65_701)?;
     let size = Report::file_refused(1, 0, 6);
     let told = "vigil: file 1 refused, reason 6, entry 0\n";
-    assert_ends(&rt, &["s", "a"], [&whole[..319], b""], size, told)?;
-    assert_ends(&rt, &["s", "a"], [&long, b""], size, told)?;
-    assert_ends(&rt, &["s", "a"], [&largest, b""], size, told)?;
+    assert_ends(&rt, &["s", "a"], first_bytes(&whole, 319), b"", size, told)?;
+    assert_ends(&rt, &["s", "a"], &long, b"", size, told)?;
+    assert_ends(&rt, &["s", "a"], &largest, b"", size, told)?;
     assert_ends(
         &rt,
         &["s", "a"],
-        [&too_large, b""],
+        &too_large,
+        b"",
         Report::file_refused(1, 0, 9),
         "vigil: file 1 refused, reason 9, entry 0\n",
     )?;
     assert_ends(
         &rt,
         &["s", "b", "a"],
-        [&offset, &whole],
+        &offset,
+        &whole,
         Report::file_refused(2, 0, 4),
         "vigil: file 2 refused, reason 4, entry 0\n",
     )?;
     assert_ends(
         &rt,
         &["s", "a"],
-        [&whole[..10], b""],
+        first_bytes(&whole, 10),
+        b"",
         Report::file_refused(1, 0, 1),
         "vigil: file 1 refused, reason 1, entry 0\n",
     )?;
     assert_ends(
         &rt,
         &["s", "a", "a"],
-        [&whole, b""],
+        &whole,
+        b"",
         Report::file_refused(2, 0, 8),
         "vigil: file 2 refused, reason 8, entry 0\n",
     )
@@ -165,13 +198,7 @@ fn entries_are_refused(rt: HostRuntime) -> Result<(), Fail> {
             "vigil: file 2 refused, reason {reason}, entry {line}\n"
         )?;
         let report = Report::file_refused(2, line, reason);
-        assert_ends(
-            &rt,
-            &["s", "a", "b"],
-            [&first, &file],
-            report,
-            told.as_str(),
-        )?;
+        assert_ends(&rt, &["s", "a", "b"], &first, &file, report, told.as_str())?;
     }
     Ok(())
 }
@@ -187,7 +214,7 @@ fn shelf_fails_on_a_file(rt: HostRuntime) -> Result<(), Fail> {
             shelf: &fails,
             ..HONEST
         };
-        let ran = run_beside(&rt, &["s", "a", "b"], SCENARIO, [&first, &second], &outside)?;
+        let ran = run_beside(&rt, &["s", "a", "b"], SCENARIO, &first, &second, &outside)?;
         assert_text(&rt, "out", ran.out.bytes(), "");
         let told = format!(in rt.alloc(); "vigil: read failed on file {file}\n")?;
         assert_text(&rt, "err", ran.err.bytes(), told.as_str());
@@ -206,7 +233,8 @@ fn shelf_fails_on_a_file(rt: HostRuntime) -> Result<(), Fail> {
     assert_ends(
         &rt,
         &["s", "a", "drill:7", "b"],
-        [&first, &second],
+        &first,
+        &second,
         missing,
         told,
     )
@@ -218,7 +246,7 @@ fn files_are_read_byte_by_byte(rt: HostRuntime) -> Result<(), Fail> {
     let file = dwell_file(rt.alloc(), "MD.DWELL_TABLE1", 0, &[(25, 3, 1, 0)])?;
     for most in [1, 7, 320, 321] {
         let outside = Outside { most, ..HONEST };
-        let ran = run_beside(&rt, &["s", "a"], SCENARIO, [&file, b""], &outside)?;
+        let ran = run_beside(&rt, &["s", "a"], SCENARIO, &file, b"", &outside)?;
         assert_eq!(rt; ran.report, Report::file_refused(1, 25, 11), "at {most}");
     }
     Ok(())

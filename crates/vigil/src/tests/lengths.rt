@@ -61,26 +61,56 @@ fn held_pipe_fills_and_drops(rt: HostRuntime) -> Result<(), Fail> {
     assert_log(&rt, text.as_str(), 4, log.as_str())
 }
 
-// Seventeen packets for an application's pipe in frame 0, one more in frame 1, where it is held, and one in frame 2.
+// The scenario of an application that is held: seventeen packets for its pipe in frame 0, one more in frame 1, where it is
+// held, and one in each of the frames 2 and 3.
+fn held_text(alloc: Global, name: &str, packet: &str) -> Result<String, AllocError> {
+    let send = format!(in alloc; "send {packet}\n")?;
+    let end = format!(in alloc; "tick\n{send}hold {name}\ntick\n{send}tick\n{send}tick\nend\n")?;
+    repeated(alloc, "", send.as_str(), 17, end.as_str())
+}
+
+// Asserts what is dropped where an application that answers nothing is held.
 fn assert_held<R: Threads + Sync + AllocGlobal + Abort>(
     rt: &R,
     name: &str,
     packet: &str,
 ) -> Result<(), Fail> {
     let alloc = rt.alloc();
-    let send = format!(in alloc; "send {packet}\n")?;
-    let end = format!(in alloc; "tick\n{send}hold {name}\ntick\n{send}tick\n{send}tick\nend\n")?;
-    let text = repeated(alloc, "", send.as_str(), 17, end.as_str())?;
+    let text = held_text(alloc, name, packet)?;
     let log = format!(in alloc; "0 drop {name} limit {packet}\n1 drop {name} limit {packet}\n")?;
+    assert_log(rt, text.as_str(), 4, log.as_str())
+}
+
+// Asserts what is dropped and answered where an application is held that answers each packet by event 16. Its name has two
+// letters, whose codes are given.
+fn assert_held_and_answered<R: Threads + Sync + AllocGlobal + Abort>(
+    rt: &R,
+    name: &str,
+    codes: &str,
+    packet: &str,
+) -> Result<(), Fail> {
+    let alloc = rt.alloc();
+    let text = held_text(alloc, name, packet)?;
+    let mut log = format!(in alloc;
+        "0 drop {name} limit {packet}\n1 drop {name} limit {packet}\n"
+    )?;
+    for count in 0..17u16 {
+        let (frame, time) = if count < 16 { (2, "3EA") } else { (3, "3EB") };
+        write!(
+            log,
+            "{frame} pkt 0808C0{count:02X}002500000{time}0000{codes}{:036}001000020000004200000001\n",
+            0
+        )?;
+    }
     assert_log(rt, text.as_str(), 4, log.as_str())
 }
 
 #[test]
 fn each_held_application_keeps_its_pipe(rt: HostRuntime) -> Result<(), Fail> {
     assert_held(&rt, "HS", "18AEC00000010088")?;
-    assert_held(&rt, "CS", "189FC000000100B9")?;
+    assert_held_and_answered(&rt, "CS", "4353", "189FC000000100B9")?;
     assert_held(&rt, "SC", "18A9C0000001008F")?;
-    assert_held(&rt, "MD", "1890C000000100B6")
+    assert_held_and_answered(&rt, "MD", "4D44", "1890C000000100B6")
 }
 
 // While HS is held, 32 events stay in its event pipe, and the next one is dropped.

@@ -45,7 +45,7 @@ pub fn run<R: Threads + Sync + AllocGlobal>(
     text: &str,
     outside: &Outside<'_>,
 ) -> Result<Ran, NoMemory> {
-    run_beside(rt, words, text, [b"", b""], outside)
+    run_beside(rt, words, text, b"", b"", outside)
 }
 
 /// Runs these words over a shelf whose file `s` is this text, and whose files `a` and `b` are these.
@@ -53,7 +53,8 @@ pub fn run_beside<R: Threads + Sync + AllocGlobal>(
     rt: &R,
     words: &[&str],
     text: &str,
-    files: [&[u8]; 2],
+    first: &[u8],
+    second: &[u8],
     outside: &Outside<'_>,
 ) -> Result<Ran, NoMemory> {
     let alloc = rt.alloc();
@@ -64,8 +65,8 @@ pub fn run_beside<R: Threads + Sync + AllocGlobal>(
     }
     let mut shelf = MemShelf::short(alloc, outside.shelf, most)?;
     shelf.put("s", text.as_bytes())?;
-    shelf.put("a", files[0])?;
-    shelf.put("b", files[1])?;
+    shelf.put("a", first)?;
+    shelf.put("b", second)?;
     let mut out = MemSink::short(alloc, outside.out, ROOM, most)?;
     let mut err = MemSink::short(alloc, outside.err, 256, most)?;
     let report = vigil(rt, alloc, &given, &mut shelf, &mut out, &mut err, &OpenGate);
