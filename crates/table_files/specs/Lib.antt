@@ -2,3 +2,4 @@ pub mod Kinds
 pub mod Faults
 pub mod Headers
 pub mod Files
+pub mod Entries
