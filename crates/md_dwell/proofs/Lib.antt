@@ -1,6 +1,4 @@
 pub mod Lists
-pub mod Judging
-pub mod Payloads
 pub mod Rounds
 pub mod Courses
 pub mod Counts

@@ -1,7 +1,8 @@
 -- Dwell tables, and the payloads that spell them.
-use Rattle.std.specs.Prelude.{ℕ, ◌+◌, ◌*◌, ◌%◌, ◌==◌, Bool, false, not, ◌||◌, nat_lt, if◌then◌else◌, List, [], ◌∷◌, map, replicate, Option, Some, None}
+use Rattle.std.specs.Prelude.{ℕ, ◌+◌, ◌*◌, ◌%◌, ◌==◌, Bool, false, not, ◌||◌, nat_lt, if◌then◌else◌, List, map, replicate, Option, Some, None}
 use Rattle.std.specs.List.{range_with_len}
 use Rattle.packet_forms.specs.Numbers.{be16_at, be32_at}
+use Rattle.table_files.specs.Entries.{first_fault}
 use Rattle.table_files.specs.declared.fault.EntryFault.{EntryFault}
 use Rattle.md_dwell.specs.declared.tables.DwellEntry.{DwellEntry}
 
@@ -30,19 +31,9 @@ is_aligned e = (e.len == 0) || (e.at % e.len == 0)
 unfoldable pub entry_reason : DwellEntry → Option ℕ
 entry_reason e = if not (is_length e.len) then Some 1 else if is_aligned e then None else Some 3
 
--- The fault of entry n, where it has one, or else another.
-abbrev pub fault_or : ℕ → Option ℕ → Option EntryFault → Option EntryFault
-fault_or n None behind = behind
-fault_or n (Some reason) behind = Some (record { entry = n; reason = reason })
-
--- The fault of the first faulty one of these entries, the first of which has number n.
-unfoldable pub first_fault : ℕ → List DwellEntry → Option EntryFault
-first_fault n [] = None
-first_fault n (e ∷ entries) = fault_or n (entry_reason e) (first_fault (n + 1) entries)
-
 -- The fault of a payload: reason 2 with entry 0 where the enabled flag is over 1, or else that of its first faulty entry.
 unfoldable pub dwell_fault_of : List ℕ → Option EntryFault
-dwell_fault_of payload = if nat_lt 1 (be16_at payload 0) then Some (record { entry = 0; reason = 2 }) else first_fault 1 (entries_in payload)
+dwell_fault_of payload = if nat_lt 1 (be16_at payload 0) then Some (record { entry = 0; reason = 2 }) else first_fault entry_reason 1 (entries_in payload)
 
 -- The table that a payload without fault spells.
 unfoldable pub dwell_of : List ℕ → DwellTable

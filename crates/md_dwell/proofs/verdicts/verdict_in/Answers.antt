@@ -1,9 +1,9 @@
 use Rattle.std.proofs.Common.{◌≡◌, refl, sym, ◌∙◌, ap, None, Some, ℕ, subst, List}
 use Rattle.packet_forms.specs.Packets.{payload_of}
+use Rattle.commands.proofs.Judging.{verdict_accepted, verdict_refused, verdict_first_refused, verdict_request, verdict_other}
 use Rattle.md_dwell.specs.Reading.{image_of}
 use Rattle.md_dwell.specs.Instructions.{md_codes, instruction_of}
-use Rattle.md_dwell.specs.Verdicts.{own_refusal, CanBeDone}
-use Rattle.md_dwell.proofs.Judging.{verdict_accepted, verdict_refused, verdict_first_refused, verdict_request, verdict_other}
+use Rattle.md_dwell.specs.Verdicts.{own_refusal, verdict_in, CanBeDone}
 use Rattle.md_dwell.specs.declared.instructions.Instruction.{Instruction}
 use Rattle.md_dwell.proofs.verdicts.verdict_in.Goals as goal
 use Rattle.md_dwell.proofs.verdicts.verdict_in.Goals.{In-None, In-Some}
@@ -20,8 +20,8 @@ own_some : (c : In-Some) → Some c.in-Some.reason ≡ own_refusal (image_of c.a
 own_some c = sym c.in-Some.is ∙ c.own_refusal.ensures ∙ ap (λ (i : Instruction). own_refusal (image_of c.args.window) i) (c.instruction_of.ensures ∙ ap (λ (p : List ℕ). instruction_of c.in-Accepted.code p) c.payload.ensures)
 
 pub returns-in-None-clause-verdict : goal.returns-in-None-clause-verdict
-unfolding md_codes
-returns-in-None-clause-verdict c = verdict_accepted (image_of c.args.window) c.args.packet.now c.in-Accepted.code c.in-Accepted.ensures.verdict (own_none c)
+unfolding md_codes verdict_in
+returns-in-None-clause-verdict c = verdict_accepted _ _ c.in-Accepted.code c.in-Accepted.ensures.verdict (own_none c)
 
 pub returns-in-None-clause-sound : goal.returns-in-None-clause-sound
 unfolding md_codes
@@ -33,17 +33,17 @@ returns-in-None-clause-sound c = λ code same.
     })
 
 pub returns-in-Some-clause-verdict : goal.returns-in-Some-clause-verdict
-unfolding md_codes
-returns-in-Some-clause-verdict c = verdict_refused (image_of c.args.window) c.args.packet.now c.in-Accepted.code c.in-Some.reason c.in-Accepted.ensures.verdict (own_some c)
+unfolding md_codes verdict_in
+returns-in-Some-clause-verdict c = verdict_refused _ _ c.in-Accepted.code c.in-Some.reason c.in-Accepted.ensures.verdict (own_some c)
 
 pub returns-in-Refused-clause-verdict : goal.returns-in-Refused-clause-verdict
-unfolding md_codes
-returns-in-Refused-clause-verdict c = verdict_first_refused (image_of c.args.window) c.args.packet.now c.in-Refused.reason c.in-Refused.ensures.verdict
+unfolding md_codes verdict_in
+returns-in-Refused-clause-verdict c = verdict_first_refused _ _ c.in-Refused.reason c.in-Refused.ensures.verdict
 
 pub returns-in-Request-clause-verdict : goal.returns-in-Request-clause-verdict
-unfolding md_codes
-returns-in-Request-clause-verdict c = verdict_request (image_of c.args.window) c.args.packet.now c.in-Request.ensures.verdict
+unfolding md_codes verdict_in
+returns-in-Request-clause-verdict c = verdict_request _ _ c.in-Request.ensures.verdict
 
 pub returns-in-Other-clause-verdict : goal.returns-in-Other-clause-verdict
-unfolding md_codes
-returns-in-Other-clause-verdict c = verdict_other (image_of c.args.window) c.args.packet.now c.in-Other.ensures.verdict
+unfolding md_codes verdict_in
+returns-in-Other-clause-verdict c = verdict_other _ _ c.in-Other.ensures.verdict
