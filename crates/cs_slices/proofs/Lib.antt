@@ -1,5 +1,3 @@
-pub mod Payloads
-pub mod Judging
 pub mod Places
 pub mod Switching
 pub mod Passes

@@ -1,7 +1,8 @@
 -- Checksum tables, and the payloads that spell them.
-use Rattle.std.specs.Prelude.{ℕ, ◌+◌, ◌*◌, ◌==◌, not, ◌&&◌, nat_lt, if◌then◌else◌, List, [], ◌∷◌, map, replicate, slice_index_or, Option, Some, None}
+use Rattle.std.specs.Prelude.{ℕ, ◌+◌, ◌*◌, ◌==◌, not, ◌&&◌, nat_lt, if◌then◌else◌, List, map, replicate, slice_index_or, Option, Some, None}
 use Rattle.std.specs.List.{range_with_len}
 use Rattle.packet_forms.specs.Numbers.{be16_at, be32_at}
+use Rattle.table_files.specs.Entries.{first_fault}
 use Rattle.table_files.specs.declared.fault.EntryFault.{EntryFault}
 use Rattle.cs_slices.specs.declared.segments.Segment.{Segment}
 
@@ -20,19 +21,9 @@ segment_reason s =
     else if not (s.state == 0) && (s.len == 0) then Some 2
     else None
 
--- The fault of entry n, where it has one, or else another.
-abbrev pub fault_or : ℕ → Option ℕ → Option EntryFault → Option EntryFault
-fault_or n None behind = behind
-fault_or n (Some reason) behind = Some (record { entry = n; reason = reason })
-
--- The fault of the first faulty one of these entries, the first of which has number n.
-unfoldable pub first_fault : ℕ → List Segment → Option EntryFault
-first_fault n [] = None
-first_fault n (s ∷ entries) = fault_or n (segment_reason s) (first_fault (n + 1) entries)
-
 -- The fault of a payload: that of its first faulty entry.
 unfoldable pub segments_fault_of : List ℕ → Option EntryFault
-segments_fault_of payload = first_fault 1 (segments_of payload)
+segments_fault_of payload = first_fault segment_reason 1 (segments_of payload)
 
 -- An empty entry.
 abbrev pub blank_segment : Segment

@@ -1,8 +1,8 @@
 use Rattle.std.proofs.Common.{◌≡◌, refl, sym, ◌∙◌, ap, None, Some, ℕ, subst, List, ◌++◌}
 use Rattle.packet_forms.specs.Packets.{payload_of}
+use Rattle.commands.proofs.Judging.{verdict_accepted, verdict_refused, verdict_first_refused, verdict_request, verdict_other}
 use Rattle.cs_slices.specs.Instructions.{cs_codes, instruction_of}
-use Rattle.cs_slices.specs.Verdicts.{own_refusal, CanBeDone}
-use Rattle.cs_slices.proofs.Judging.{verdict_accepted, verdict_refused, verdict_first_refused, verdict_request, verdict_other}
+use Rattle.cs_slices.specs.Verdicts.{own_refusal, verdict_in, CanBeDone}
 use Rattle.cs_slices.specs.declared.instructions.Instruction.{Instruction}
 use Rattle.cs_slices.proofs.verdicts.verdict_in.Goals as goal
 use Rattle.cs_slices.proofs.verdicts.verdict_in.Goals.{In-None, In-Some}
@@ -19,8 +19,8 @@ own_some : (c : In-Some) → Some c.in-Some.reason ≡ own_refusal (c.args.eepro
 own_some c = sym c.in-Some.is ∙ c.own_refusal.ensures ∙ ap (λ (i : Instruction). own_refusal (c.args.eeprom.now ++ c.args.memory.now) i) (c.instruction_of.ensures ∙ ap (λ (p : List ℕ). instruction_of c.in-Accepted.code p) c.payload.ensures)
 
 pub returns-in-None-clause-verdict : goal.returns-in-None-clause-verdict
-unfolding cs_codes
-returns-in-None-clause-verdict c = verdict_accepted (c.args.eeprom.now ++ c.args.memory.now) c.args.packet.now c.in-Accepted.code c.in-Accepted.ensures.verdict (own_none c)
+unfolding cs_codes verdict_in
+returns-in-None-clause-verdict c = verdict_accepted _ _ c.in-Accepted.code c.in-Accepted.ensures.verdict (own_none c)
 
 pub returns-in-None-clause-sound : goal.returns-in-None-clause-sound
 unfolding cs_codes
@@ -32,17 +32,17 @@ returns-in-None-clause-sound c = λ code same.
     })
 
 pub returns-in-Some-clause-verdict : goal.returns-in-Some-clause-verdict
-unfolding cs_codes
-returns-in-Some-clause-verdict c = verdict_refused (c.args.eeprom.now ++ c.args.memory.now) c.args.packet.now c.in-Accepted.code c.in-Some.reason c.in-Accepted.ensures.verdict (own_some c)
+unfolding cs_codes verdict_in
+returns-in-Some-clause-verdict c = verdict_refused _ _ c.in-Accepted.code c.in-Some.reason c.in-Accepted.ensures.verdict (own_some c)
 
 pub returns-in-Refused-clause-verdict : goal.returns-in-Refused-clause-verdict
-unfolding cs_codes
-returns-in-Refused-clause-verdict c = verdict_first_refused (c.args.eeprom.now ++ c.args.memory.now) c.args.packet.now c.in-Refused.reason c.in-Refused.ensures.verdict
+unfolding cs_codes verdict_in
+returns-in-Refused-clause-verdict c = verdict_first_refused _ _ c.in-Refused.reason c.in-Refused.ensures.verdict
 
 pub returns-in-Request-clause-verdict : goal.returns-in-Request-clause-verdict
-unfolding cs_codes
-returns-in-Request-clause-verdict c = verdict_request (c.args.eeprom.now ++ c.args.memory.now) c.args.packet.now c.in-Request.ensures.verdict
+unfolding cs_codes verdict_in
+returns-in-Request-clause-verdict c = verdict_request _ _ c.in-Request.ensures.verdict
 
 pub returns-in-Other-clause-verdict : goal.returns-in-Other-clause-verdict
-unfolding cs_codes
-returns-in-Other-clause-verdict c = verdict_other (c.args.eeprom.now ++ c.args.memory.now) c.args.packet.now c.in-Other.ensures.verdict
+unfolding cs_codes verdict_in
+returns-in-Other-clause-verdict c = verdict_other _ _ c.in-Other.ensures.verdict

@@ -1,4 +1,4 @@
-use Rattle.std.proofs.Common.{◌≡◌, ◌<◌, ◌≤◌, ◌+◌, length, sym, ap, ◌∙◌, None, List, drop, not, arith}
+use Rattle.std.proofs.Common.{◌≡◌, ◌<◌, ◌+◌, length, sym, ap, ◌∙◌, None, List, drop, not, arith}
 use Rattle.std.specs.List.{position_from}
 use Rattle.histories.proofs.Firsts.{fails_here, ends_well}
 use Rattle.cs_slices.specs.Given.{is_given, first_refused}
