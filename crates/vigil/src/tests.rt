@@ -1,8 +1,11 @@
 //! Whole rehearsals over memory.
 
+mod checksums;
+mod dwell;
 mod faults;
 mod files;
 mod lengths;
 mod refusals;
 mod rows;
 mod runs;
+mod tables;

@@ -11,11 +11,11 @@ const SCENARIO: &str = "epoch 1000\nregion RAM 0x1000 256\nstart\n\
     send 1888C000000602A30800001010\ntick\ntick\nend\n";
 
 const LINES: [Line<'static>; 5] = [
-    Line::Event(1, 0, 19, 2),
+    Line::Event("MM", 1, 0, 19, 2),
     Line::Text("1 pkt 088AC000000E000003E90000080000101000000000"),
-    Line::Event(1, 1, 18, 2),
+    Line::Event("MM", 1, 1, 18, 2),
     Line::Text("2 pkt 088AC001000E000003EA00000800001010000000AB"),
-    Line::Event(2, 2, 18, 2),
+    Line::Event("MM", 2, 2, 18, 2),
 ];
 
 /// Where each frame's `tick` ends in the scenario.
@@ -178,7 +178,7 @@ fn failed_read_ends_the_run(rt: HostRuntime) -> Result<(), Fail> {
     assert_eq!(rt; ran.report, Report::at(Status::ReadFailed, 1));
     let two = "epoch 1000\nregion RAM 0x1000 256\nstart\nsend 1888C000000100AE\ntick\ntick\nti";
     let ran = run(&rt, &["s"], two, &outside)?;
-    let log = log_of(rt.alloc(), &[Line::Event(1, 0, 16, 2)])?;
+    let log = log_of(rt.alloc(), &[Line::Event("MM", 1, 0, 16, 2)])?;
     assert_text(&rt, "out", ran.out.bytes(), log.as_str());
     assert_text(&rt, "err", ran.err.bytes(), told);
     assert_eq!(rt; ran.report, Report::at(Status::ReadFailed, 2));

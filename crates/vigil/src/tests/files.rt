@@ -1,133 +1,59 @@
 //! FILE words: which files are taken, and how a rehearsal ends at one.
 
-use super::runs::{HONEST, Outside, assert_text, run_beside};
+use super::runs::{
+    HEADER, HONEST, Line, Outside, Rehearsal, assert_rehearsal, assert_text, run_beside,
+};
+use super::tables::{Dwelling, Segment, dwell_file, headers, pad, segments_file};
 use rehearsal::{Report, Status};
-use std::alloc::Global;
 use std::process::Abort;
 use std::test::Fail;
 use std::thread::Threads;
 
-/// A scenario of one empty frame, over one region from 0x1000 to 0x10FF.
-const SCENARIO: &str = "epoch 1000\nregion RAM 0x1000 256\nstart\ntick\nend\n";
+/// A scenario of one empty frame, over two regions, from 0x1000 to 0x10FF and from 0x1100 to 0x113F.
+const SCENARIO: &str =
+    "epoch 1000\nregion RAM 0x1000 256\nregion MEM16 0x1100 64\nstart\ntick\nend\n";
 
-/// An entry of a dwell table: its place from 1, its length, its delay and its address.
-type Entry = (usize, u16, u16, u32);
-
-// Appends a number of four bytes.
-fn push_u32(bytes: &mut Vec<u8>, number: u32) -> Result<(), Fail> {
-    bytes.extend_from_slice(&number.to_be_bytes())?;
-    Ok(())
-}
-
-// Appends zeros up to a length.
-fn pad(bytes: &mut Vec<u8>, len: usize) -> Result<(), Fail> {
-    for _ in bytes.len()..len {
-        bytes.push(0)?;
-    }
-    Ok(())
-}
-
-// The headers of a table file that says 204 bytes of payload, at this offset.
-fn headers(alloc: Global, name: &str, offset: u32) -> Result<Vec<u8>, Fail> {
-    let mut bytes = Vec::new(alloc);
-    push_u32(&mut bytes, 0x6346_4531)?;
-    push_u32(&mut bytes, 8)?;
-    pad(&mut bytes, 68)?;
-    push_u32(&mut bytes, offset)?;
-    push_u32(&mut bytes, 204)?;
-    bytes.extend_from_slice(name.as_bytes())?;
-    pad(&mut bytes, 116)?;
-    Ok(bytes)
-}
-
-// A file of a dwell table with this enabled flag and these entries.
-fn dwell_file(alloc: Global, name: &str, enabled: u8, entries: &[Entry]) -> Result<Vec<u8>, Fail> {
-    let mut bytes = headers(alloc, name, 0)?;
-    bytes.push(0)?;
-    bytes.push(enabled)?;
-    bytes.push(0)?;
-    bytes.push(0)?;
-    for place in 1..26 {
-        push_entry(&mut bytes, entry_in(entries, place))?;
-    }
-    Ok(bytes)
-}
-
-// The first so many bytes of a file.
-fn first_bytes(file: &[u8], count: usize) -> &[u8] {
-    &file[..file.len().min(count)]
-}
-
-// The entry in a place, and zeros where there is none.
-fn entry_in(entries: &[Entry], place: usize) -> Entry {
-    for entry in entries {
-        if entry.0 == place {
-            return *entry;
-        }
-    }
-    (place, 0, 0, 0)
-}
-
-fn push_entry(bytes: &mut Vec<u8>, entry: Entry) -> Result<(), Fail> {
-    let (_, len, delay, at) = entry;
-    bytes.extend_from_slice(&len.to_be_bytes())?;
-    bytes.extend_from_slice(&delay.to_be_bytes())?;
-    push_u32(bytes, at)
-}
-
-// Asserts how these words end over a scenario of one frame with these files `a` and `b`.
+// Asserts how these words end over a scenario of one frame beside these files.
 fn assert_ends<R: Threads + Sync + AllocGlobal + Abort>(
     rt: &R,
     words: &[&str],
-    first: &[u8],
-    second: &[u8],
+    files: &[&[u8]],
     report: Report,
     told: &str,
 ) -> Result<(), Fail> {
-    let ran = run_beside(rt, words, SCENARIO, first, second, &HONEST)?;
+    let ran = run_beside(rt, words, SCENARIO, files, &HONEST)?;
     assert_text(rt, "out", ran.out.bytes(), "");
     assert_text(rt, "err", ran.err.bytes(), told);
     assert_eq!(rt; ran.report, report, "at {words:?}");
     Ok(())
 }
 
+// Asserts that the second of two files is refused at this entry, for this reason.
+fn assert_second_refused<R: Threads + Sync + AllocGlobal + Abort>(
+    rt: &R,
+    files: &[&[u8]],
+    entry: u32,
+    reason: u8,
+) -> Result<(), Fail> {
+    let told = format!(in rt.alloc(); "vigil: file 2 refused, reason {reason}, entry {entry}\n")?;
+    let report = Report::file_refused(2, entry, reason);
+    assert_ends(rt, &["s", "a", "b"], files, report, told.as_str())
+}
+
 #[test]
 fn tables_are_taken(rt: HostRuntime) -> Result<(), Fail> {
-    let first = dwell_file(rt.alloc(), "MD.DWELL_TABLE1", 0, &[(1, 4, 2, 0x1000)])?;
+    let first = dwell_file(rt.alloc(), "MD.DWELL_TABLE1", 1, &[(1, 4, 0, 0x1000)])?;
     let second = dwell_file(rt.alloc(), "MD.DWELL_TABLE2", 0, &[])?;
     let done = Report::at(Status::Done, 1);
-    assert_ends(&rt, &["s", "a"], &first, &second, done, "")?;
-    assert_ends(&rt, &["s", "b", "a"], &first, &second, done, "")?;
+    assert_ends(&rt, &["s", "a"], &[&first, &second], done, "")?;
+    assert_ends(&rt, &["s", "b", "a"], &[&first, &second], done, "")?;
     assert_ends(
         &rt,
         &["--workers", "2", "s", "a", "b"],
-        &first,
-        &second,
+        &[&first, &second],
         done,
         "",
     )
-}
-
-// A table that is named is the one that MD reads by.
-#[test]
-fn table_dwells(rt: HostRuntime) -> Result<(), Fail> {
-    let file = dwell_file(
-        rt.alloc(),
-        "MD.DWELL_TABLE1",
-        1,
-        &[(1, 1, 0, 0x1000), (2, 2, 1, 0x1002)],
-    )?;
-    let text =
-        "epoch 1000\nregion RAM 0x1000 256\nstart\nupset 0x1000 160\nupset 0x1003 176\ntick\nend\n";
-    let ran = run_beside(&rt, &["s", "a"], text, &file, b"", &HONEST)?;
-    assert_text(
-        &rt,
-        "out",
-        ran.out.bytes(),
-        "0 pkt 0891C000000C000003E8000000010003A000B0\n",
-    );
-    assert_eq!(rt; ran.report, Report::at(Status::Done, 1));
-    Ok(())
 }
 
 #[test]
@@ -135,57 +61,54 @@ fn headers_are_refused(rt: HostRuntime) -> Result<(), Fail> {
     let whole = dwell_file(rt.alloc(), "MD.DWELL_TABLE1", 0, &[])?;
     let mut long = dwell_file(rt.alloc(), "MD.DWELL_TABLE1", 0, &[])?;
     long.push(0)?;
-    let mut offset = headers(rt.alloc(), "MD.DWELL_TABLE1", 4)?;
+    let mut offset = headers(rt.alloc(), "MD.DWELL_TABLE1", 4, 204)?;
     pad(&mut offset, 320)?;
-    let mut largest = headers(rt.alloc(), "MD.DWELL_TABLE1", 0)?;
+    let mut largest = headers(rt.alloc(), "MD.DWELL_TABLE1", 0, 204)?;
     pad(&mut largest, 65_700)?;
-    let mut too_large = headers(rt.alloc(), "MD.DWELL_TABLE1", 0)?;
+    let mut too_large = headers(rt.alloc(), "MD.DWELL_TABLE1", 0, 204)?;
     pad(&mut too_large, 65_701)?;
     let size = Report::file_refused(1, 0, 6);
     let told = "vigil: file 1 refused, reason 6, entry 0\n";
-    assert_ends(&rt, &["s", "a"], first_bytes(&whole, 319), b"", size, told)?;
-    assert_ends(&rt, &["s", "a"], &long, b"", size, told)?;
-    assert_ends(&rt, &["s", "a"], &largest, b"", size, told)?;
+    assert_ends(&rt, &["s", "a"], &[&whole[..319]], size, told)?;
+    assert_ends(&rt, &["s", "a"], &[&long], size, told)?;
+    assert_ends(&rt, &["s", "a"], &[&largest], size, told)?;
     assert_ends(
         &rt,
         &["s", "a"],
-        &too_large,
-        b"",
+        &[&too_large],
         Report::file_refused(1, 0, 9),
         "vigil: file 1 refused, reason 9, entry 0\n",
     )?;
     assert_ends(
         &rt,
         &["s", "b", "a"],
-        &offset,
-        &whole,
+        &[&offset, &whole],
         Report::file_refused(2, 0, 4),
         "vigil: file 2 refused, reason 4, entry 0\n",
     )?;
     assert_ends(
         &rt,
         &["s", "a"],
-        first_bytes(&whole, 10),
-        b"",
+        &[&whole[..10]],
         Report::file_refused(1, 0, 1),
         "vigil: file 1 refused, reason 1, entry 0\n",
     )?;
     assert_ends(
         &rt,
         &["s", "a", "a"],
-        &whole,
-        b"",
+        &[&whole],
         Report::file_refused(2, 0, 8),
         "vigil: file 2 refused, reason 8, entry 0\n",
     )
 }
 
 /// Entries that are refused: the enabled flag, the entry, and the entry and the reason that are told.
-const REFUSED: [(u8, Entry, u32, u8); 5] = [
+const REFUSED: [(u16, Dwelling, u32, u8); 6] = [
     (0, (3, 3, 1, 0x1000), 3, 11),
     (2, (3, 1, 1, 0x1000), 0, 12),
     (0, (2, 2, 1, 0x1001), 2, 13),
     (0, (4, 1, 1, 0x2000), 4, 10),
+    (1, (1, 1, 1, 0x1100), 1, 10),
     (0, (25, 3, 1, 0x1000), 25, 11),
 ];
 
@@ -194,13 +117,48 @@ fn entries_are_refused(rt: HostRuntime) -> Result<(), Fail> {
     let first = dwell_file(rt.alloc(), "MD.DWELL_TABLE1", 0, &[])?;
     for (enabled, entry, line, reason) in REFUSED {
         let file = dwell_file(rt.alloc(), "MD.DWELL_TABLE2", enabled, &[entry])?;
-        let told = format!(in rt.alloc();
-            "vigil: file 2 refused, reason {reason}, entry {line}\n"
-        )?;
-        let report = Report::file_refused(2, line, reason);
-        assert_ends(&rt, &["s", "a", "b"], &first, &file, report, told.as_str())?;
+        assert_second_refused(&rt, &[&first, &file], line, reason)?;
     }
     Ok(())
+}
+
+/// Entries of checksum tables that are refused: the table, its entries, and the entry and the reason that are told.
+const REFUSED_SEGMENTS: [(&str, &[Segment], u32, u8); 10] = [
+    ("CS.DefEepromTbl", &[(3, 1, 0x2000, 4)], 3, 10),
+    ("CS.DefMemoryTbl", &[(16, 2, 0x0FFF, 2)], 16, 10),
+    ("CS.DefMemoryTbl", &[(16, 2, 0x10FD, 4)], 16, 10),
+    ("CS.DefEepromTbl", &[(1, 1, 0x1101, 2)], 1, 10),
+    ("CS.DefEepromTbl", &[(1, 2, 0x1100, 3)], 1, 10),
+    ("CS.DefMemoryTbl", &[(5, 3, 0x1000, 4)], 5, 11),
+    ("CS.DefEepromTbl", &[(1, 1, 0x1000, 0)], 1, 12),
+    ("CS.DefMemoryTbl", &[(2, 2, 0x2000, 0), (3, 3, 0, 0)], 2, 12),
+    ("CS.DefEepromTbl", &[(16, 3, 0x1000, 0)], 16, 11),
+    ("CS.DefMemoryTbl", &[(1, 1, 0x2000, 4), (4, 1, 0, 0)], 4, 12),
+];
+
+#[test]
+fn checksum_entries_are_refused(rt: HostRuntime) -> Result<(), Fail> {
+    let first = dwell_file(rt.alloc(), "MD.DWELL_TABLE1", 0, &[])?;
+    for (name, entries, line, reason) in REFUSED_SEGMENTS {
+        let file = segments_file(rt.alloc(), name, entries)?;
+        assert_second_refused(&rt, &[&first, &file], line, reason)?;
+    }
+    Ok(())
+}
+
+// Every file's entries are looked at before any is asked of the map, and then the first file is told.
+#[test]
+fn loaders_come_before_the_map(rt: HostRuntime) -> Result<(), Fail> {
+    let outside = dwell_file(rt.alloc(), "MD.DWELL_TABLE4", 0, &[(25, 4, 0, 0x2000)])?;
+    let strange = segments_file(rt.alloc(), "CS.DefMemoryTbl", &[(2, 3, 0x1000, 4)])?;
+    assert_second_refused(&rt, &[&outside, &strange], 2, 11)?;
+    let far = segments_file(rt.alloc(), "CS.DefMemoryTbl", &[(2, 1, 0x2000, 4)])?;
+    let refused = Report::file_refused(1, 25, 10);
+    let told = "vigil: file 1 refused, reason 10, entry 25\n";
+    assert_ends(&rt, &["s", "a", "b"], &[&outside, &far], refused, told)?;
+    let refused = Report::file_refused(1, 2, 10);
+    let told = "vigil: file 1 refused, reason 10, entry 2\n";
+    assert_ends(&rt, &["s", "b", "a"], &[&outside, &far], refused, told)
 }
 
 // The shelf fails on a call: where it opens or reads FILE 1, FILE 2 or the scenario. Nothing is opened after it.
@@ -214,7 +172,13 @@ fn shelf_fails_on_a_file(rt: HostRuntime) -> Result<(), Fail> {
             shelf: &fails,
             ..HONEST
         };
-        let ran = run_beside(&rt, &["s", "a", "b"], SCENARIO, &first, &second, &outside)?;
+        let ran = run_beside(
+            &rt,
+            &["s", "a", "b"],
+            SCENARIO,
+            &[&first, &second],
+            &outside,
+        )?;
         assert_text(&rt, "out", ran.out.bytes(), "");
         let told = format!(in rt.alloc(); "vigil: read failed on file {file}\n")?;
         assert_text(&rt, "err", ran.err.bytes(), told.as_str());
@@ -233,8 +197,7 @@ fn shelf_fails_on_a_file(rt: HostRuntime) -> Result<(), Fail> {
     assert_ends(
         &rt,
         &["s", "a", "drill:7", "b"],
-        &first,
-        &second,
+        &[&first, &second],
         missing,
         told,
     )
@@ -246,8 +209,79 @@ fn files_are_read_byte_by_byte(rt: HostRuntime) -> Result<(), Fail> {
     let file = dwell_file(rt.alloc(), "MD.DWELL_TABLE1", 0, &[(25, 3, 1, 0)])?;
     for most in [1, 7, 320, 321] {
         let outside = Outside { most, ..HONEST };
-        let ran = run_beside(&rt, &["s", "a"], SCENARIO, &file, b"", &outside)?;
+        let ran = run_beside(&rt, &["s", "a"], SCENARIO, &[&file], &outside)?;
         assert_eq!(rt; ran.report, Report::file_refused(1, 25, 11), "at {most}");
     }
     Ok(())
 }
+
+// An empty entry isn't looked at, and a whole region of 16 bits may be read.
+#[test]
+fn checksum_tables_are_taken(rt: HostRuntime) -> Result<(), Fail> {
+    let segments = [(1, 0, 0x2000, 4), (2, 0, 0x1101, 0), (3, 1, 0x1100, 64)];
+    let first = segments_file(rt.alloc(), "CS.DefEepromTbl", &segments)?;
+    let second = segments_file(rt.alloc(), "CS.DefMemoryTbl", &segments)?;
+    let done = Report::at(Status::Done, 1);
+    assert_ends(&rt, &["s", "a", "b"], &[&first, &second], done, "")
+}
+
+// A hundred FILE words are accepted, and the second that names a table is refused; one word more is refused at once.
+#[test]
+fn a_hundred_files_are_accepted(rt: HostRuntime) -> Result<(), Fail> {
+    let file = dwell_file(rt.alloc(), "MD.DWELL_TABLE1", 0, &[])?;
+    let mut words = ["a"; 102];
+    words[0] = "s";
+    let twice = Report::file_refused(2, 0, 8);
+    let told = "vigil: file 2 refused, reason 8, entry 0\n";
+    assert_ends(&rt, &words[..101], &[&file], twice, told)?;
+    let refused = Report::at(Status::WordsRefused, 0);
+    assert_ends(&rt, &words, &[&file], refused, "vigil: words refused\n")
+}
+
+// Six tables are named in a mixed order. What they give in a frame stands in the order of the applications and of
+// the tables, and a poke of that frame is read by none of them.
+#[test]
+fn six_tables_answer_in_one_frame(rt: HostRuntime) -> Result<(), Fail> {
+    let alloc = rt.alloc();
+    let fourth = dwell_file(alloc, "MD.DWELL_TABLE4", 1, &[(1, 1, 2, 0x1003)])?;
+    let memory = segments_file(alloc, "CS.DefMemoryTbl", &[(1, 1, 0x1004, 4)])?;
+    let second = dwell_file(alloc, "MD.DWELL_TABLE2", 1, &[(1, 1, 2, 0x1001)])?;
+    let first = dwell_file(alloc, "MD.DWELL_TABLE1", 1, &[(1, 1, 2, 0x1000)])?;
+    let eeprom = segments_file(alloc, "CS.DefEepromTbl", &[(1, 1, 0x1000, 4)])?;
+    let third = dwell_file(alloc, "MD.DWELL_TABLE3", 1, &[(1, 1, 2, 0x1002)])?;
+    let files: [&[u8]; 6] = [&fourth, &memory, &second, &first, &eeprom, &third];
+    assert_rehearsal(&rt, HEADER, &files, &SIX_TABLES)
+}
+
+const SIX_TABLES: Rehearsal<'static> = Rehearsal {
+    frames: 5,
+    parts: &[&[
+        (
+            1,
+            "send 1890C000000100B6\nsend 1888C000000A03C9080000100000000077\nsend 189FC000000100B9\n",
+        ),
+        (
+            2,
+            "upset 0x1000 0xA1\nupset 0x1001 0xA2\nupset 0x1002 0xA3\nupset 0x1003 0xA4\n",
+        ),
+    ]],
+    lines: &[
+        Line::Text("0 pkt 0891C000000A000003E800000001000100"),
+        Line::Text("0 pkt 0892C000000A000003E800000002000100"),
+        Line::Text("0 pkt 0893C000000A000003E800000003000100"),
+        Line::Text("0 pkt 0894C000000A000003E800000004000100"),
+        Line::Event("CS", 2, 0, 16, 2),
+        Line::Event("CS", 2, 1, 101, 3),
+        Line::Event("MM", 2, 2, 19, 2),
+        Line::Event("MD", 2, 3, 16, 2),
+        Line::Text("2 pkt 0891C001000A000003EA000000010001A1"),
+        Line::Text("2 pkt 0892C001000A000003EA000000020001A2"),
+        Line::Text("2 pkt 0893C001000A000003EA000000030001A3"),
+        Line::Text("2 pkt 0894C001000A000003EA000000040001A4"),
+        Line::Event("CS", 4, 4, 101, 3),
+        Line::Text("4 pkt 0891C002000A000003EC00000001000177"),
+        Line::Text("4 pkt 0892C002000A000003EC000000020001A2"),
+        Line::Text("4 pkt 0893C002000A000003EC000000030001A3"),
+        Line::Text("4 pkt 0894C002000A000003EC000000040001A4"),
+    ],
+};

@@ -27,19 +27,29 @@ fn repeated(
     Ok(text)
 }
 
-// Appends the events of so many commands of a frame, the first of which has this sequence count.
-fn push_events(
+// Appends the events of so many accepted no-ops of a frame, the first of which has this sequence count.
+fn push_noops(
     log: &mut String,
+    name: &str,
     frame: u32,
     first: u32,
     many: u32,
-    id: u32,
-    kind: u32,
+) -> Result<(), AllocError> {
+    push_events(log, name, frame, (first, many), (16, 2))
+}
+
+// Appends the events of so many commands of a frame, by the first sequence count, and by the event's number and type.
+fn push_events(
+    log: &mut String,
+    name: &str,
+    frame: u32,
+    (first, many): (u32, u32),
+    (id, kind): (u32, u32),
 ) -> Result<(), AllocError> {
     for more in 0..many {
         push_line(
             log,
-            Line::Event(frame, first.saturating_add(more), id, kind),
+            Line::Event(name, frame, first.saturating_add(more), id, kind),
         )?;
     }
     Ok(())
@@ -57,60 +67,41 @@ fn held_pipe_fills_and_drops(rt: HostRuntime) -> Result<(), Fail> {
     let mut log = String::new(rt.alloc());
     push_line(&mut log, Line::Text("0 drop MM limit 1888C000000100AE"))?;
     push_line(&mut log, Line::Text("0 drop MM full 1889C000000100AF"))?;
-    push_events(&mut log, 3, 0, 16, 16, 2)?;
+    push_noops(&mut log, "MM", 3, 0, 16)?;
     assert_log(&rt, text.as_str(), 4, log.as_str())
 }
 
-// The scenario of an application that is held: seventeen packets for its pipe in frame 0, one more in frame 1, where it is
-// held, and one in each of the frames 2 and 3.
-fn held_text(alloc: Global, name: &str, packet: &str) -> Result<String, AllocError> {
-    let send = format!(in alloc; "send {packet}\n")?;
-    let end = format!(in alloc; "tick\n{send}hold {name}\ntick\n{send}tick\n{send}tick\nend\n")?;
-    repeated(alloc, "", send.as_str(), 17, end.as_str())
-}
-
-// Asserts what is dropped where an application that answers nothing is held.
+// Seventeen no-ops for an application in frame 0, one more in frame 1, where it is held, and one in frame 2. An
+// application that isn't built yet answers none of the 17 that it takes.
 fn assert_held<R: Threads + Sync + AllocGlobal + Abort>(
     rt: &R,
     name: &str,
     packet: &str,
+    built: bool,
 ) -> Result<(), Fail> {
     let alloc = rt.alloc();
-    let text = held_text(alloc, name, packet)?;
-    let log = format!(in alloc; "0 drop {name} limit {packet}\n1 drop {name} limit {packet}\n")?;
-    assert_log(rt, text.as_str(), 4, log.as_str())
-}
-
-// Asserts what is dropped and answered where an application is held that answers each packet by event 16. Its name has two
-// letters, whose codes are given.
-fn assert_held_and_answered<R: Threads + Sync + AllocGlobal + Abort>(
-    rt: &R,
-    name: &str,
-    codes: &str,
-    packet: &str,
-) -> Result<(), Fail> {
-    let alloc = rt.alloc();
-    let text = held_text(alloc, name, packet)?;
-    let mut log = format!(in alloc;
+    let send = format!(in alloc; "send {packet}\n")?;
+    let end = format!(in alloc; "tick\n{send}hold {name}\ntick\n{send}tick\ntick\nend\n")?;
+    let text = repeated(alloc, "", send.as_str(), 17, end.as_str())?;
+    let mut log = String::new(alloc);
+    write!(
+        log,
         "0 drop {name} limit {packet}\n1 drop {name} limit {packet}\n"
     )?;
-    for count in 0..17u16 {
-        let (frame, time) = if count < 16 { (2, "3EA") } else { (3, "3EB") };
-        write!(
-            log,
-            "{frame} pkt 0808C0{count:02X}002500000{time}0000{codes}{:036}001000020000004200000001\n",
-            0
-        )?;
+    if built {
+        push_noops(&mut log, name, 2, 0, 16)?;
+        push_noops(&mut log, name, 3, 16, 1)?;
     }
     assert_log(rt, text.as_str(), 4, log.as_str())
 }
 
 #[test]
 fn each_held_application_keeps_its_pipe(rt: HostRuntime) -> Result<(), Fail> {
-    assert_held(&rt, "HS", "18AEC00000010088")?;
-    assert_held_and_answered(&rt, "CS", "4353", "189FC000000100B9")?;
-    assert_held(&rt, "SC", "18A9C0000001008F")?;
-    assert_held_and_answered(&rt, "MD", "4D44", "1890C000000100B6")
+    assert_held(&rt, "HS", "18AEC00000010088", false)?;
+    assert_held(&rt, "CS", "189FC000000100B9", true)?;
+    assert_held(&rt, "SC", "18A9C0000001008F", false)?;
+    assert_held(&rt, "MM", "1888C000000100AE", true)?;
+    assert_held(&rt, "MD", "1890C000000100B6", true)
 }
 
 // While HS is held, 32 events stay in its event pipe, and the next one is dropped.
@@ -122,9 +113,9 @@ fn held_events_fill_their_pipe(rt: HostRuntime) -> Result<(), Fail> {
     text.push_str(NOOP)?;
     text.push_str("tick\nhold HS\ntick\nend\n")?;
     let mut log = String::new(rt.alloc());
-    push_events(&mut log, 1, 0, 16, 16, 2)?;
-    push_events(&mut log, 2, 16, 16, 16, 2)?;
-    push_events(&mut log, 3, 32, 1, 16, 2)?;
+    push_noops(&mut log, "MM", 1, 0, 16)?;
+    push_noops(&mut log, "MM", 2, 16, 16)?;
+    push_noops(&mut log, "MM", 3, 32, 1)?;
     let lost =
         "3 drop HS.EV limit 0808C0200025000003EB00004D4D000000000000000000000000000000000000001000020000004200000001";
     push_line(&mut log, Line::Text(lost))?;
@@ -168,8 +159,8 @@ fn counts_begin_anew(rt: HostRuntime) -> Result<(), Fail> {
     let mut log = String::new(rt.alloc());
     let mut first = 0u32;
     for number in 1..8751u32 {
-        push_events(&mut log, number, first, 8, 16, 2)?;
-        push_events(&mut log, number, first.saturating_add(8), 8, 1, 3)?;
+        push_noops(&mut log, "MM", number, first, 8)?;
+        push_events(&mut log, "MM", number, (first.saturating_add(8), 8), (1, 3))?;
         first = first.saturating_add(16);
     }
     push_line(

@@ -21,11 +21,11 @@ fn peek_reads_the_image(rt: HostRuntime) -> Result<(), Fail> {
     let body = "send 1888C000000A03050800001010000000AB\nsend 1888C000000602A30800001010\ntick\n\
         send 1888C000000602A30800001010\ntick\ntick\nend\n";
     let lines = [
-        Line::Event(1, 0, 19, 2),
+        Line::Event("MM", 1, 0, 19, 2),
         Line::Text("1 pkt 088AC000000E000003E90000080000101000000000"),
-        Line::Event(1, 1, 18, 2),
+        Line::Event("MM", 1, 1, 18, 2),
         Line::Text("2 pkt 088AC001000E000003EA00000800001010000000AB"),
-        Line::Event(2, 2, 18, 2),
+        Line::Event("MM", 2, 2, 18, 2),
     ];
     assert_lines(&rt, HEADER, body, 3, &lines)
 }
@@ -36,10 +36,10 @@ fn peek_refusals_in_order(rt: HostRuntime) -> Result<(), Fail> {
         send 1888C0000006026120000010FA\nsend 1888C0000006025410000010FF\ntick\ntick\nend\n";
     let lines = [
         Line::Text("1 pkt 088AC000000E000003E9000020000010FC00000000"),
-        Line::Event(1, 0, 18, 2),
-        Line::Event(1, 1, 4, 3),
-        Line::Event(1, 2, 5, 3),
-        Line::Event(1, 3, 4, 3),
+        Line::Event("MM", 1, 0, 18, 2),
+        Line::Event("MM", 1, 1, 4, 3),
+        Line::Event("MM", 1, 2, 5, 3),
+        Line::Event("MM", 1, 3, 4, 3),
     ];
     assert_lines(&rt, HEADER, body, 2, &lines)
 }
@@ -51,12 +51,12 @@ fn eeprom_protection(rt: HostRuntime) -> Result<(), Fail> {
         send 1888C000000A038C080000200000000002\ntick\nsend 1888C000000A038D080000200000000003\ntick\n\
         send 1888C000000602830800002000\nsend 1889C000000100AF\ntick\ntick\nend\n";
     let lines = [
-        Line::Event(1, 0, 7, 3),
-        Line::Event(1, 1, 27, 2),
-        Line::Event(1, 2, 7, 3),
-        Line::Event(2, 3, 19, 2),
+        Line::Event("MM", 1, 0, 7, 3),
+        Line::Event("MM", 1, 1, 27, 2),
+        Line::Event("MM", 1, 2, 7, 3),
+        Line::Event("MM", 2, 3, 19, 2),
         Line::Text("3 pkt 088AC000000E000003EB0000080000200000000003"),
-        Line::Event(3, 4, 18, 2),
+        Line::Event("MM", 3, 4, 18, 2),
         Line::Text("3 pkt 0887C0000009000003EB000003020100"),
     ];
     assert_lines(
@@ -73,9 +73,9 @@ fn command_refusals(rt: HostRuntime) -> Result<(), Fail> {
     let body = "send 1888C000000100AF\nsend 1888C000000106A8\nsend 1888C000000200AD00\n\
         send 1889C000000100AF\ntick\ntick\nend\n";
     let lines = [
-        Line::Event(1, 0, 1, 3),
-        Line::Event(1, 1, 2, 3),
-        Line::Event(1, 2, 3, 3),
+        Line::Event("MM", 1, 0, 1, 3),
+        Line::Event("MM", 1, 1, 2, 3),
+        Line::Event("MM", 1, 2, 3, 3),
         Line::Text("1 pkt 0887C0000009000003E9000000030000"),
     ];
     assert_lines(&rt, HEADER, body, 2, &lines)
@@ -88,14 +88,14 @@ fn pokes_are_read_a_frame_later(rt: HostRuntime) -> Result<(), Fail> {
         send 1888C000000A03D71000001020FFFFBEEF\nsend 1888C000000602891000001022\nsend 1888C000000602900800001023\ntick\n\
         send 1888C000000602BB2000001020\ntick\ntick\nend\n";
     let lines = [
-        Line::Event(1, 0, 19, 2),
-        Line::Event(2, 1, 19, 2),
+        Line::Event("MM", 1, 0, 19, 2),
+        Line::Event("MM", 2, 1, 19, 2),
         Line::Text("2 pkt 088AC000000E000003EA0000100000102200000304"),
-        Line::Event(2, 2, 18, 2),
+        Line::Event("MM", 2, 2, 18, 2),
         Line::Text("2 pkt 088AC001000E000003EA0000080000102300000004"),
-        Line::Event(2, 3, 18, 2),
+        Line::Event("MM", 2, 3, 18, 2),
         Line::Text("3 pkt 088AC002000E000003EB00002000001020BEEF0304"),
-        Line::Event(3, 4, 18, 2),
+        Line::Event("MM", 3, 4, 18, 2),
     ];
     assert_lines(&rt, HEADER, body, 4, &lines)
 }
@@ -107,7 +107,7 @@ fn upsets_come_before_the_image(rt: HostRuntime) -> Result<(), Fail> {
         "send 1888C000000602A30800001010\ntick\nupset 0x1010 17\nupset 0x1010 18\ntick\nend\n";
     let lines = [
         Line::Text("1 pkt 088AC000000E000003E90000080000101000000012"),
-        Line::Event(1, 0, 18, 2),
+        Line::Event("MM", 1, 0, 18, 2),
     ];
     assert_lines(&rt, HEADER, body, 2, &lines)
 }
@@ -118,7 +118,7 @@ fn upset_of_a_protected_byte(rt: HostRuntime) -> Result<(), Fail> {
     let body = "send 1888C000000602830800002000\ntick\nupset 0x2000 18\ntick\nend\n";
     let lines = [
         Line::Text("1 pkt 088AC000000E000003E90000080000200000000012"),
-        Line::Event(1, 0, 18, 2),
+        Line::Event("MM", 1, 0, 18, 2),
     ];
     assert_lines(
         &rt,

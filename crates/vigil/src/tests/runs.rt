@@ -45,16 +45,23 @@ pub fn run<R: Threads + Sync + AllocGlobal>(
     text: &str,
     outside: &Outside<'_>,
 ) -> Result<Ran, NoMemory> {
-    run_beside(rt, words, text, b"", b"", outside)
+    run_beside(rt, words, text, &[], outside)
 }
 
-/// Runs these words over a shelf whose file `s` is this text, and whose files `a` and `b` are these.
+// The file of this place, from 0, and an empty one where there is none.
+fn nth<'a>(files: &[&'a [u8]], place: usize) -> &'a [u8] {
+    match files.get(place) {
+        Some(file) => *file,
+        None => b"",
+    }
+}
+
+/// Runs these words over a shelf whose file `s` is this text, and whose files `a` to `f` are the first six of these.
 pub fn run_beside<R: Threads + Sync + AllocGlobal>(
     rt: &R,
     words: &[&str],
     text: &str,
-    first: &[u8],
-    second: &[u8],
+    files: &[&[u8]],
     outside: &Outside<'_>,
 ) -> Result<Ran, NoMemory> {
     let alloc = rt.alloc();
@@ -65,8 +72,12 @@ pub fn run_beside<R: Threads + Sync + AllocGlobal>(
     }
     let mut shelf = MemShelf::short(alloc, outside.shelf, most)?;
     shelf.put("s", text.as_bytes())?;
-    shelf.put("a", first)?;
-    shelf.put("b", second)?;
+    shelf.put("a", nth(files, 0))?;
+    shelf.put("b", nth(files, 1))?;
+    shelf.put("c", nth(files, 2))?;
+    shelf.put("d", nth(files, 3))?;
+    shelf.put("e", nth(files, 4))?;
+    shelf.put("f", nth(files, 5))?;
     let mut out = MemSink::short(alloc, outside.out, ROOM, most)?;
     let mut err = MemSink::short(alloc, outside.err, 256, most)?;
     let report = vigil(rt, alloc, &given, &mut shelf, &mut out, &mut err, &OpenGate);
@@ -76,15 +87,16 @@ pub fn run_beside<R: Threads + Sync + AllocGlobal>(
 /// A line that a rehearsal must write.
 #[derive(Clone, Copy)]
 pub enum Line<'a> {
-    /// An event of MM: the frame, the sequence count, the event's number and its type.
-    Event(u32, u32, u32, u32),
+    /// An event: its application, the frame, the sequence count, the event's number and its type.
+    Event(&'a str, u32, u32, u32, u32),
     /// Another line, without its end.
     Text(&'a str),
 }
 
-// Appends an event's line, where the time of frame 0 is 1000.
+// Appends an event's line, where the application's name has two letters and the time of frame 0 is 1000.
 fn push_event(
     log: &mut String,
+    name: &str,
     frame: u32,
     count: u32,
     id: u32,
@@ -92,17 +104,19 @@ fn push_event(
 ) -> Result<(), AllocError> {
     let flags = 49152 + count % 16384;
     let time = frame.saturating_add(1000);
-    write!(
-        log,
-        "{frame} pkt 0808{flags:04X}0025{time:08X}00004D4D{:036}{id:04X}{kind:04X}0000004200000001\n",
-        0
-    )
+    write!(log, "{frame} pkt 0808{flags:04X}0025{time:08X}0000")?;
+    for byte in name.bytes() {
+        write!(log, "{byte:02X}")?;
+    }
+    write!(log, "{:036}{id:04X}{kind:04X}0000004200000001\n", 0)
 }
 
 /// Appends a line.
 pub fn push_line(log: &mut String, line: Line<'_>) -> Result<(), AllocError> {
     match line {
-        Line::Event(frame, count, id, kind) => push_event(log, frame, count, id, kind),
+        Line::Event(name, frame, count, id, kind) => {
+            push_event(log, name, frame, count, id, kind)
+        }
         Line::Text(text) => write!(log, "{text}\n"),
     }
 }
@@ -138,7 +152,22 @@ pub fn assert_log<R: Threads + Sync + AllocGlobal + Abort>(
     frames: u32,
     log: &str,
 ) -> Result<(), Fail> {
-    let ran = run(rt, &["s"], text, &HONEST)?;
+    assert_log_beside(rt, &[], text, frames, log)
+}
+
+// The words of a rehearsal with six files.
+const WORDS: [&str; 7] = ["s", "a", "b", "c", "d", "e", "f"];
+
+/// Asserts that this text runs to its end beside these files, in so many frames, and gives this log.
+pub fn assert_log_beside<R: Threads + Sync + AllocGlobal + Abort>(
+    rt: &R,
+    files: &[&[u8]],
+    text: &str,
+    frames: u32,
+    log: &str,
+) -> Result<(), Fail> {
+    let words = &WORDS[..files.len().min(6) + 1];
+    let ran = run_beside(rt, words, text, files, &HONEST)?;
     assert_text(rt, "out", ran.out.bytes(), log);
     assert_text(rt, "err", ran.err.bytes(), "");
     assert_eq!(rt; ran.report, Report::at(Status::Done, frames));
@@ -157,4 +186,49 @@ pub fn assert_lines<R: Threads + Sync + AllocGlobal + Abort>(
     text.push_str(body)?;
     let log = log_of(rt.alloc(), lines)?;
     assert_log(rt, text.as_str(), frames, log.as_str())
+}
+
+/// Lines that stand in a frame of a scenario: the frame's number, and the lines.
+pub type Part<'a> = (u32, &'a str);
+
+/// A rehearsal that runs to its end: how many frames it has, what stands in them, and the lines that it must write.
+#[derive(Clone, Copy)]
+pub struct Rehearsal<'a> {
+    pub frames: u32,
+    pub parts: &'a [&'a [Part<'a>]],
+    pub lines: &'a [Line<'a>],
+}
+
+// Appends those parts that stand in a frame.
+fn push_parts(text: &mut String, parts: &[Part<'_>], frame: u32) -> Result<(), AllocError> {
+    for part in parts.iter() {
+        if part.0 == frame {
+            text.push_str(part.1)?;
+        }
+    }
+    Ok(())
+}
+
+// Appends a frame.
+fn push_frame(text: &mut String, parts: &[&[Part<'_>]], frame: u32) -> Result<(), AllocError> {
+    for some in parts.iter() {
+        push_parts(text, some, frame)?;
+    }
+    text.push_str("tick\n")
+}
+
+/// Asserts what a rehearsal beside these files gives.
+pub fn assert_rehearsal<R: Threads + Sync + AllocGlobal + Abort>(
+    rt: &R,
+    header: &str,
+    files: &[&[u8]],
+    rehearsal: &Rehearsal<'_>,
+) -> Result<(), Fail> {
+    let mut text = String::from_str(rt.alloc(), header)?;
+    for frame in 0..rehearsal.frames {
+        push_frame(&mut text, rehearsal.parts, frame)?;
+    }
+    text.push_str("end\n")?;
+    let log = log_of(rt.alloc(), rehearsal.lines)?;
+    assert_log_beside(rt, files, text.as_str(), rehearsal.frames, log.as_str())
 }
