@@ -1,7 +1,7 @@
 //! Checksum passes over whole rehearsals.
 
 use super::runs::{
-    Line, Part, Rehearsal, assert_log_beside, assert_rehearsal, push_line, push_times,
+    Line, Part, Rehearsal, assert_log_beside, assert_rehearsal, log_of, push_line, push_times,
 };
 use super::tables::{Segment, segments_file};
 use std::alloc::{AllocError, Global};
@@ -64,52 +64,64 @@ fn changed_byte_miscompares(rt: HostRuntime) -> Result<(), Fail> {
 }
 
 /// Commands that turn CS, the memory table and its entry 1 off and on again, and the numbers of their events.
-const SWITCHES: [(&str, &str, u32, u32); 3] = [
-    ("send 189FC000000103BA\n", "send 189FC000000102BB\n", 19, 18),
+const SWITCHES: [((&str, u32), (&str, u32)); 3] = [
     (
-        "send 189FC000000305BC0002\n",
-        "send 189FC000000304BD0002\n",
-        21,
-        20,
+        ("send 189FC000000103BA\n", 19),
+        ("send 189FC000000102BB\n", 18),
     ),
     (
-        "send 189FC000000507B900020001\n",
-        "send 189FC000000506B800020001\n",
-        23,
-        22,
+        ("send 189FC000000305BC0002\n", 21),
+        ("send 189FC000000304BD0002\n", 20),
+    ),
+    (
+        ("send 189FC000000507B900020001\n", 23),
+        ("send 189FC000000506B800020001\n", 22),
     ),
 ];
 
 // In frame 3 the first slice of the second pass is read, with a changed byte that is mended in frame 4.
-const MENDED: [Part<'static>; 3] = [CHANGED, (3, "upset 0x10000 1\n"), (4, "upset 0x10000 0\n")];
+const CHANGE: &str = "upset 0x10001 1\ntick\ntick\ntick\nupset 0x10000 1\n";
+
+const MEND: &str = "tick\nupset 0x10000 0\n";
+
+// In the third frame from here on the last byte of the entry is changed.
+const LAST: &str = "tick\ntick\nupset 0x109C3 1\ntick\nend\n";
 
 // The pass that is abandoned gives no event. The next one begins at the first byte, in the wakeup in which all is on
 // again, and its last byte is changed as its third slice is read.
+fn assert_abandoned<R: Threads + Sync + AllocGlobal + Abort>(
+    rt: &R,
+    off: (&str, u32),
+    on: (&str, u32),
+) -> Result<(), Fail> {
+    let alloc = rt.alloc();
+    let file = segments_file(alloc, "CS.DefMemoryTbl", &THREE_SLICES)?;
+    let apart = format!(in alloc; "{HEADER}{CHANGE}{}{MEND}{}tick\n{LAST}", off.0, on.0)?;
+    let log = log_of(
+        alloc,
+        &[
+            Line::Event("CS", 4, 0, off.1, 2),
+            Line::Event("CS", 5, 1, on.1, 2),
+            Line::Event("CS", 7, 2, 101, 3),
+        ],
+    )?;
+    assert_log_beside(rt, &[&file], apart.as_str(), 8, log.as_str())?;
+    let together = format!(in alloc; "{HEADER}{CHANGE}{}{}{MEND}{LAST}", off.0, on.0)?;
+    let log = log_of(
+        alloc,
+        &[
+            Line::Event("CS", 4, 0, off.1, 2),
+            Line::Event("CS", 4, 1, on.1, 2),
+            Line::Event("CS", 6, 2, 101, 3),
+        ],
+    )?;
+    assert_log_beside(rt, &[&file], together.as_str(), 7, log.as_str())
+}
+
 #[test]
 fn switches_abandon_a_pass(rt: HostRuntime) -> Result<(), Fail> {
-    for (off, on, off_id, on_id) in SWITCHES {
-        let apart = [(3, off), (4, on), (7, "upset 0x109C3 1\n")];
-        let rehearsal = Rehearsal {
-            frames: 8,
-            parts: &[&MENDED, &apart],
-            lines: &[
-                Line::Event("CS", 4, 0, off_id, 2),
-                Line::Event("CS", 5, 1, on_id, 2),
-                Line::Event("CS", 7, 2, 101, 3),
-            ],
-        };
-        assert_both(&rt, &[], &THREE_SLICES, &rehearsal)?;
-        let together = [(3, off), (3, on), (6, "upset 0x109C3 1\n")];
-        let rehearsal = Rehearsal {
-            frames: 7,
-            parts: &[&MENDED, &together],
-            lines: &[
-                Line::Event("CS", 4, 0, off_id, 2),
-                Line::Event("CS", 4, 1, on_id, 2),
-                Line::Event("CS", 6, 2, 101, 3),
-            ],
-        };
-        assert_both(&rt, &[], &THREE_SLICES, &rehearsal)?;
+    for (off, on) in SWITCHES {
+        assert_abandoned(&rt, off, on)?;
     }
     Ok(())
 }
