@@ -1,6 +1,6 @@
 //! Memory Dwell over whole rehearsals.
 
-use super::runs::{HEADER, Line, Part, Rehearsal, assert_rehearsal};
+use super::runs::{HEADER, Line, Part, Rehearsal, assert_log_beside, assert_rehearsal, push_times};
 use super::tables::{Dwelling, dwell_file};
 use std::process::Abort;
 use std::test::Fail;
@@ -261,4 +261,26 @@ fn four_tables_in_order(rt: HostRuntime) -> Result<(), Fail> {
     let first = dwell_file(alloc, "MD.DWELL_TABLE1", 1, &[(1, 1, 1, 0x1000)])?;
     let second = dwell_file(alloc, "MD.DWELL_TABLE2", 1, &[(1, 2, 2, 0x1000)])?;
     assert_rehearsal(&rt, HEADER, &[&fourth, &third, &first, &second], &FOUR)
+}
+
+// 25 entries of four bytes are one packet in each frame.
+#[test]
+fn full_table_is_one_packet(rt: HostRuntime) -> Result<(), Fail> {
+    let alloc = rt.alloc();
+    let mut entries = Vec::new(alloc);
+    for place in 1..26usize {
+        entries.push((place, 4u16, u16::from(place == 25), 0x1000u32))?;
+    }
+    let file = dwell_file(alloc, "MD.DWELL_TABLE1", 1, &entries)?;
+    let text = format!(in alloc; "{HEADER}upset 0x1003 0x5A\ntick\ntick\nend\n")?;
+    let mut log = String::new(alloc);
+    for begin in [
+        "0 pkt 0891C000006D000003E8000000010064",
+        "1 pkt 0891C001006D000003E9000000010064",
+    ] {
+        log.push_str(begin)?;
+        push_times(&mut log, "0000005A", 25)?;
+        log.push_str("\n")?;
+    }
+    assert_log_beside(&rt, &[&file], text.as_str(), 2, log.as_str())
 }

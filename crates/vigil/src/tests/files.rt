@@ -13,6 +13,11 @@ use std::thread::Threads;
 const SCENARIO: &str =
     "epoch 1000\nregion RAM 0x1000 256\nregion MEM16 0x1100 64\nstart\ntick\nend\n";
 
+// The first so many bytes of a file.
+fn first_bytes(file: &[u8], count: usize) -> &[u8] {
+    &file[..file.len().min(count)]
+}
+
 // Asserts how these words end over a scenario of one frame beside these files.
 fn assert_ends<R: Threads + Sync + AllocGlobal + Abort>(
     rt: &R,
@@ -42,7 +47,7 @@ fn assert_second_refused<R: Threads + Sync + AllocGlobal + Abort>(
 
 #[test]
 fn tables_are_taken(rt: HostRuntime) -> Result<(), Fail> {
-    let first = dwell_file(rt.alloc(), "MD.DWELL_TABLE1", 1, &[(1, 4, 0, 0x1000)])?;
+    let first = dwell_file(rt.alloc(), "MD.DWELL_TABLE1", 0, &[(1, 4, 2, 0x1000)])?;
     let second = dwell_file(rt.alloc(), "MD.DWELL_TABLE2", 0, &[])?;
     let done = Report::at(Status::Done, 1);
     assert_ends(&rt, &["s", "a"], &[&first, &second], done, "")?;
@@ -69,7 +74,7 @@ fn headers_are_refused(rt: HostRuntime) -> Result<(), Fail> {
     pad(&mut too_large, 65_701)?;
     let size = Report::file_refused(1, 0, 6);
     let told = "vigil: file 1 refused, reason 6, entry 0\n";
-    assert_ends(&rt, &["s", "a"], &[&whole[..319]], size, told)?;
+    assert_ends(&rt, &["s", "a"], &[first_bytes(&whole, 319)], size, told)?;
     assert_ends(&rt, &["s", "a"], &[&long], size, told)?;
     assert_ends(&rt, &["s", "a"], &[&largest], size, told)?;
     assert_ends(
@@ -89,7 +94,7 @@ fn headers_are_refused(rt: HostRuntime) -> Result<(), Fail> {
     assert_ends(
         &rt,
         &["s", "a"],
-        &[&whole[..10]],
+        &[first_bytes(&whole, 10)],
         Report::file_refused(1, 0, 1),
         "vigil: file 1 refused, reason 1, entry 0\n",
     )?;
@@ -223,6 +228,19 @@ fn checksum_tables_are_taken(rt: HostRuntime) -> Result<(), Fail> {
     let second = segments_file(rt.alloc(), "CS.DefMemoryTbl", &segments)?;
     let done = Report::at(Status::Done, 1);
     assert_ends(&rt, &["s", "a", "b"], &[&first, &second], done, "")
+}
+
+// A refused header is told before an entry that its map would refuse, and that entry before a frame's bad line.
+#[test]
+fn header_comes_before_the_map(rt: HostRuntime) -> Result<(), Fail> {
+    let file = dwell_file(rt.alloc(), "MD.DWELL_TABLE1", 0, &[(2, 1, 0, 0x2000)])?;
+    let unaligned = "epoch 1000\nregion RAM 0x1002 256\nstart\nend\n";
+    let ran = run_beside(&rt, &["s", "a"], unaligned, &[&file], &HONEST)?;
+    assert_eq!(rt; ran.report, Report::refused(3, 4, 0));
+    let bad = "epoch 1000\nregion RAM 0x1000 256\nstart\njump\n";
+    let ran = run_beside(&rt, &["s", "a"], bad, &[&file], &HONEST)?;
+    assert_eq!(rt; ran.report, Report::file_refused(1, 2, 10));
+    Ok(())
 }
 
 // A hundred FILE words are accepted, and the second that names a table is refused; one word more is refused at once.
