@@ -33,16 +33,19 @@ fn assert_ends<R: Threads + Sync + AllocGlobal + Abort>(
     Ok(())
 }
 
-// Asserts that the second of two files is refused at this entry, for this reason.
-fn assert_second_refused<R: Threads + Sync + AllocGlobal + Abort>(
+// Asserts that these words end at a refused file: its number, the entry or 0, and the reason.
+fn assert_refused<R: Threads + Sync + AllocGlobal + Abort>(
     rt: &R,
+    words: &[&str],
     files: &[&[u8]],
-    entry: u32,
-    reason: u8,
+    refused: (u32, u32, u8),
 ) -> Result<(), Fail> {
-    let told = format!(in rt.alloc(); "vigil: file 2 refused, reason {reason}, entry {entry}\n")?;
-    let report = Report::file_refused(2, entry, reason);
-    assert_ends(rt, &["s", "a", "b"], files, report, told.as_str())
+    let (file, entry, reason) = refused;
+    let told = format!(in rt.alloc();
+        "vigil: file {file} refused, reason {reason}, entry {entry}\n"
+    )?;
+    let report = Report::file_refused(file, entry, reason);
+    assert_ends(rt, words, files, report, told.as_str())
 }
 
 #[test]
@@ -72,39 +75,14 @@ fn headers_are_refused(rt: HostRuntime) -> Result<(), Fail> {
     pad(&mut largest, 65_700)?;
     let mut too_large = headers(rt.alloc(), "MD.DWELL_TABLE1", 0, 204)?;
     pad(&mut too_large, 65_701)?;
-    let size = Report::file_refused(1, 0, 6);
-    let told = "vigil: file 1 refused, reason 6, entry 0\n";
-    assert_ends(&rt, &["s", "a"], &[first_bytes(&whole, 319)], size, told)?;
-    assert_ends(&rt, &["s", "a"], &[&long], size, told)?;
-    assert_ends(&rt, &["s", "a"], &[&largest], size, told)?;
-    assert_ends(
-        &rt,
-        &["s", "a"],
-        &[&too_large],
-        Report::file_refused(1, 0, 9),
-        "vigil: file 1 refused, reason 9, entry 0\n",
-    )?;
-    assert_ends(
-        &rt,
-        &["s", "b", "a"],
-        &[&offset, &whole],
-        Report::file_refused(2, 0, 4),
-        "vigil: file 2 refused, reason 4, entry 0\n",
-    )?;
-    assert_ends(
-        &rt,
-        &["s", "a"],
-        &[first_bytes(&whole, 10)],
-        Report::file_refused(1, 0, 1),
-        "vigil: file 1 refused, reason 1, entry 0\n",
-    )?;
-    assert_ends(
-        &rt,
-        &["s", "a", "a"],
-        &[&whole],
-        Report::file_refused(2, 0, 8),
-        "vigil: file 2 refused, reason 8, entry 0\n",
-    )
+    let words = &["s", "a"];
+    assert_refused(&rt, words, &[first_bytes(&whole, 319)], (1, 0, 6))?;
+    assert_refused(&rt, words, &[&long], (1, 0, 6))?;
+    assert_refused(&rt, words, &[&largest], (1, 0, 6))?;
+    assert_refused(&rt, words, &[&too_large], (1, 0, 9))?;
+    assert_refused(&rt, &["s", "b", "a"], &[&offset, &whole], (2, 0, 4))?;
+    assert_refused(&rt, words, &[first_bytes(&whole, 10)], (1, 0, 1))?;
+    assert_refused(&rt, &["s", "a", "a"], &[&whole], (2, 0, 8))
 }
 
 /// Entries that are refused: the enabled flag, the entry, and the entry and the reason that are told.
@@ -122,7 +100,7 @@ fn entries_are_refused(rt: HostRuntime) -> Result<(), Fail> {
     let first = dwell_file(rt.alloc(), "MD.DWELL_TABLE1", 0, &[])?;
     for (enabled, entry, line, reason) in REFUSED {
         let file = dwell_file(rt.alloc(), "MD.DWELL_TABLE2", enabled, &[entry])?;
-        assert_second_refused(&rt, &[&first, &file], line, reason)?;
+        assert_refused(&rt, &["s", "a", "b"], &[&first, &file], (2, line, reason))?;
     }
     Ok(())
 }
@@ -146,7 +124,7 @@ fn checksum_entries_are_refused(rt: HostRuntime) -> Result<(), Fail> {
     let first = dwell_file(rt.alloc(), "MD.DWELL_TABLE1", 0, &[])?;
     for (name, entries, line, reason) in REFUSED_SEGMENTS {
         let file = segments_file(rt.alloc(), name, entries)?;
-        assert_second_refused(&rt, &[&first, &file], line, reason)?;
+        assert_refused(&rt, &["s", "a", "b"], &[&first, &file], (2, line, reason))?;
     }
     Ok(())
 }
@@ -156,14 +134,11 @@ fn checksum_entries_are_refused(rt: HostRuntime) -> Result<(), Fail> {
 fn loaders_come_before_the_map(rt: HostRuntime) -> Result<(), Fail> {
     let outside = dwell_file(rt.alloc(), "MD.DWELL_TABLE4", 0, &[(25, 4, 0, 0x2000)])?;
     let strange = segments_file(rt.alloc(), "CS.DefMemoryTbl", &[(2, 3, 0x1000, 4)])?;
-    assert_second_refused(&rt, &[&outside, &strange], 2, 11)?;
+    let words = &["s", "a", "b"];
+    assert_refused(&rt, words, &[&outside, &strange], (2, 2, 11))?;
     let far = segments_file(rt.alloc(), "CS.DefMemoryTbl", &[(2, 1, 0x2000, 4)])?;
-    let refused = Report::file_refused(1, 25, 10);
-    let told = "vigil: file 1 refused, reason 10, entry 25\n";
-    assert_ends(&rt, &["s", "a", "b"], &[&outside, &far], refused, told)?;
-    let refused = Report::file_refused(1, 2, 10);
-    let told = "vigil: file 1 refused, reason 10, entry 2\n";
-    assert_ends(&rt, &["s", "b", "a"], &[&outside, &far], refused, told)
+    assert_refused(&rt, words, &[&outside, &far], (1, 25, 10))?;
+    assert_refused(&rt, words, &[&far, &outside], (1, 2, 10))
 }
 
 // The shelf fails on a call: where it opens or reads FILE 1, FILE 2 or the scenario. Nothing is opened after it.
@@ -249,9 +224,7 @@ fn a_hundred_files_are_accepted(rt: HostRuntime) -> Result<(), Fail> {
     let file = dwell_file(rt.alloc(), "MD.DWELL_TABLE1", 0, &[])?;
     let mut words = ["a"; 102];
     words[0] = "s";
-    let twice = Report::file_refused(2, 0, 8);
-    let told = "vigil: file 2 refused, reason 8, entry 0\n";
-    assert_ends(&rt, &words[..101], &[&file], twice, told)?;
+    assert_refused(&rt, &words[..101], &[&file], (2, 0, 8))?;
     let refused = Report::at(Status::WordsRefused, 0);
     assert_ends(&rt, &words, &[&file], refused, "vigil: words refused\n")
 }
