@@ -1,7 +1,10 @@
 -- `along` and `decided` at one more element.
 use Rattle.std.proofs.Common.{◌≡◌, List, [], ◌∷◌, ◌++◌, refl, sym, ◌∙◌, ap, append_assoc, append-nil}
 use Rattle.std.proofs.lemmas.List.Sums.{fold_push}
-use Rattle.histories.specs.Words.{along, along_after, decided}
+use Rattle.std.specs.List.{All, flat_map}
+use Rattle.std.proofs.lemmas.List.Elements.{All-append}
+use Rattle.histories.specs.Words.{along, along_after, joined_along, decided}
+use Rattle.histories.proofs.Fronts.{flat_map_more, none_fail, flat_map_both}
 
 -- behind some elements, at one more
 along_after_more : {A B : Type 0} (f : List A → A → B) (before xs : List A) (x : A) → along_after f before (xs ++ x ∷ []) ≡ along_after f before xs ++ f (before ++ xs) x ∷ []
@@ -63,3 +66,35 @@ decided_more {A} {B} f xs x = fold_push (λ (earlier : List (A × B)) (y : A). e
 pub decided_none : {A B : Type 0} (f : List (A × B) → A → B) → decided f [] ≡ []
 unfolding decided
 decided_none f = refl
+
+-- what is given along a list, at one more element
+pub joined_more : {A B : Type 0} (f : List A → A → List B) (xs : List A) (x : A) → joined_along f (xs ++ x ∷ []) ≡ joined_along f xs ++ f xs x
+unfolding joined_along
+joined_more {A} {B} f xs x = ap (flat_map (λ (given : List B). given)) (along_more f xs x) ∙ flat_map_more (λ (given : List B). given) (along f xs) (f xs x)
+
+-- along one list behind another
+pub joined_both : {A B : Type 0} (f : List A → A → List B) (xs ys : List A) → joined_along f (xs ++ ys) ≡ joined_along f xs ++ joined_along (λ earlier y. f (xs ++ earlier) y) ys
+unfolding joined_along
+joined_both {A} {B} f xs ys =
+    ap (flat_map (λ (given : List B). given)) (along_both f xs ys)
+    ∙ flat_map_both (λ (given : List B). given) (along f xs) (along (λ earlier y. f (xs ++ earlier) y) ys)
+
+-- along no elements
+pub joined_none : {A B : Type 0} (f : List A → A → List B) → joined_along f [] ≡ []
+unfolding joined_along
+joined_none {A} {B} f = ap (flat_map (λ (given : List B). given)) (along_none f)
+
+-- by two functions that agree at each element
+pub joined_same : {A B : Type 0} (f g : List A → A → List B) → ((before : List A) (x : A) → f before x ≡ g before x) → (xs : List A) → joined_along f xs ≡ joined_along g xs
+unfolding joined_along
+joined_same {A} {B} f g same xs = ap (flat_map (λ (given : List B). given)) (along_same f g same xs)
+
+-- a fact of all that is given
+after_each : {A B : Type 0} (P : B → Type 0) (f : List A → A → List B) → ((before : List A) (x : A) → All P (f before x)) → (before xs : List A) → All P (flat_map (λ (given : List B). given) (along_after f before xs))
+unfolding along_after
+after_each P f each before [] = none_fail P
+after_each P f each before (x ∷ xs) = All-append P _ _ (each before x) (after_each P f each (before ++ x ∷ []) xs)
+
+pub joined_each : {A B : Type 0} (P : B → Type 0) (f : List A → A → List B) → ((before : List A) (x : A) → All P (f before x)) → (xs : List A) → All P (joined_along f xs)
+unfolding joined_along along
+joined_each P f each xs = after_each P f each [] xs

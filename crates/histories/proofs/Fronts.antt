@@ -1,8 +1,8 @@
 -- The front of a list, one element longer: what a loop has come to.
-use Rattle.std.proofs.Common.{◌≡◌, ℕ, ◌+◌, ◌<◌, Bool, cond, List, [], ◌∷◌, ◌++◌, length, take, get_or, sym, ◌∙◌, ap, add-one, append-nil}
+use Rattle.std.proofs.Common.{◌≡◌, ℕ, ◌+◌, ◌<◌, Bool, cond, List, [], ◌∷◌, ◌++◌, length, take, get_or, sym, ◌∙◌, ap, arith, add-one, append-nil}
 use Rattle.std.proofs.Math.Seq.{take-suc}
 use Rattle.std.proofs.lemmas.Grind.{flat_map-append}
-use Rattle.std.specs.List.{flat_map, count_by, fold}
+use Rattle.std.specs.List.{All, flat_map, count_by, fold}
 use Rattle.std.proofs.lemmas.List.Sums.{fold_push}
 
 -- one element more
@@ -24,3 +24,11 @@ fold_front f b xs i x within is = ap (fold f b) (front_more xs i x within is) �
 -- a count of one element more
 pub count_more : {A : Type 0} (p : A → Bool) (xs : List A) (x : A) → count_by p (xs ++ x ∷ []) ≡ count_by p xs + cond (p x) 1 0
 count_more p xs x = fold_push (λ (n : ℕ) y. n + cond (p y) 1 0) 0 xs x
+
+-- a `flat_map` of one list behind another
+pub flat_map_both : {A B : Type 0} (f : A → List B) (xs ys : List A) → flat_map f (xs ++ ys) ≡ flat_map f xs ++ flat_map f ys
+flat_map_both f xs ys = flat_map-append f xs ys
+
+-- a fact of all elements of none
+pub none_fail : {A : Type 0} (P : A → Type 0) → All P []
+none_fail P k d within = absurd (omega arith)

@@ -1,5 +1,5 @@
 -- `from_last`, `last_or` and `last_place` at one more element.
-use Rattle.std.proofs.Common.{◌≡◌, ℕ, ◌+◌, ◌-◌, suc, Bool, true, false, cond, not, ◌||◌, ◌⊎◌, inl, inr, List, [], ◌∷◌, ◌++◌, length, drop, reverse, refl, ap, length-append, arith}
+use Rattle.std.proofs.Common.{◌≡◌, ℕ, ◌+◌, ◌-◌, ◌≤◌, suc, Bool, true, false, cond, not, ◌||◌, ◌⊎◌, inl, inr, List, [], ◌∷◌, ◌++◌, length, drop, reverse, refl, ap, length-append, arith}
 use Rattle.std.specs.List.{list_any, after_last, prefix_len}
 use Rattle.std.proofs.lemmas.List.{reverse-append, drop-append-le}
 use Rattle.std.proofs.Math.ListN.{drop_of_length-le}
@@ -61,6 +61,16 @@ pub last_place_none : {A : Type 0} (p : A → Bool) → last_place p [] ≡ 0
 unfolding last_place
 last_place_none p = refl
 
+-- a place of the list, or its first
+pub last_place_within : {A : Type 0} (p : A → Bool) (xs : List A) → last_place p xs ≤ length xs
+unfolding last_place
+last_place_within p [] = omega arith
+last_place_within p (x ∷ xs) = by_case (list_any p xs) (last_place_within p xs)
+  where
+    by_case : (b : Bool) → last_place p xs ≤ length xs → cond b (suc (last_place p xs)) 0 ≤ suc (length xs)
+    by_case true within = omega arith
+    by_case false within = omega arith
+
 -- what stands from the last that passes on stands from its place on
 pub from_last_is : {A : Type 0} (p : A → Bool) (xs : List A) → from_last p xs ≡ drop (last_place p xs) xs
 unfolding from_last last_place
@@ -82,6 +92,14 @@ after_last_other {A} p xs x other =
     let behind : ℕ = prefix_len (λ (y : A). not (p y)) (reverse xs) in
     let same : length xs + 1 - (1 + behind) ≡ length xs - behind = omega arith in
     rw (reverse-append xs (x ∷ []), other, length-append xs (x ∷ []), same) (drop-append-le (length xs - behind) xs (x ∷ []) (omega arith))
+
+-- both at once
+pub after_last_more : {A : Type 0} (p : A → Bool) (xs : List A) (x : A) → after_last p (xs ++ x ∷ []) ≡ cond (p x) [] (after_last p xs ++ x ∷ [])
+after_last_more {A} p xs x = by_case (p x) refl
+  where
+    by_case : (b : Bool) → p x ≡ b → after_last p (xs ++ x ∷ []) ≡ cond b [] (after_last p xs ++ x ∷ [])
+    by_case true passes = after_last_passes p xs x passes
+    by_case false other = after_last_other p xs x other
 
 -- a list is empty, or has a last element
 pub last_cases : {A : Type 0} (xs : List A) → (xs ≡ []) ⊎ ((ys : List A) × (y : A) × (xs ≡ ys ++ y ∷ []))

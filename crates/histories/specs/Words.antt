@@ -1,6 +1,6 @@
 -- Words over lists, the oldest element first.
 use Rattle.std.specs.Prelude.{ℕ, suc, Bool, if◌then◌else◌, List, [], ◌∷◌, ◌++◌}
-use Rattle.std.specs.List.{list_any, fold}
+use Rattle.std.specs.List.{list_any, flat_map, fold}
 
 -- what f gives at each element, of the elements before it and of itself, behind some elements
 unfoldable pub along_after : {A B : Type 0} → (List A → A → B) → List A → List A → List B
@@ -29,3 +29,7 @@ last_place p (x ∷ xs) = if list_any p xs then suc (last_place p xs) else 0
 -- each element with what f gives at it, of the elements before it with what f gave at them, and of itself
 unfoldable pub decided : {A B : Type 0} → (List (A × B) → A → B) → List A → List (A × B)
 decided f xs = fold (λ earlier x. earlier ++ (x, f earlier x) ∷ []) [] xs
+
+-- What f gives along a list, one after another.
+unfoldable pub joined_along : {A B : Type 0} → (List A → A → List B) → List A → List B
+joined_along f xs = flat_map (λ given. given) (along f xs)
