@@ -1,14 +1,10 @@
 -- The answering event as a counted item.
 use Rattle.std.proofs.Common.{◌≡◌, ℕ, true, List, [], ◌∷◌, ◌+◌, refl, ap, ◌∙◌, lit<, arith, ◌<◌, zero, suc}
-use Rattle.std.specs.List.{All, AllPass}
+use Rattle.std.specs.List.{All}
 use Rattle.packet_forms.specs.Built.{telemetry_of, event_of, event_payload}
 use Rattle.packet_forms.proofs.Forms.{telemetry_message_id}
 use Rattle.bus_pipes.specs.Counted.{is_counted, is_item_counted}
-use Rattle.bus_pipes.specs.declared.names.Out.{Out}
 use Rattle.bus_pipes.specs.declared.names.Out.TheVariants.{Made}
-use Rattle.commands.specs.Answers.{answering_event}
-use Rattle.commands.specs.declared.verdicts.Verdict.{Verdict}
-use Rattle.commands.specs.declared.verdicts.Verdict.TheVariants.{Other, Request, Refused, Accepted}
 
 -- of no element
 pub none_fail : {A : Type 0} (P : A → Type 0) → All P []
@@ -27,10 +23,3 @@ telemetry_counted id time payload small counted = ap is_counted (telemetry_messa
 pub event_counted : (name : List ℕ) (id kind time : ℕ) → is_item_counted (Made (event_of name id kind time)) ≡ true
 unfolding event_of is_counted
 event_counted name id kind time = telemetry_counted 0x0808 time (event_payload name id kind) (lit< tt) refl
-
--- the event that answers a packet
-pub answer_counted : (name : List ℕ) (time : ℕ) (verdict : Verdict) → AllPass is_item_counted (answering_event name time verdict)
-answer_counted name time Other = none_fail _
-answer_counted name time Request = none_fail _
-answer_counted name time (Refused reason) = one_passes (λ (item : Out). is_item_counted item ≡ true) _ (event_counted name reason 3 time)
-answer_counted name time (Accepted code) = one_passes (λ (item : Out). is_item_counted item ≡ true) _ (event_counted name (16 + code) 2 time)

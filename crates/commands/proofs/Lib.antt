@@ -1,3 +1,3 @@
 pub mod Tallies
 pub mod Answering
-pub mod Judging
+pub mod Heard

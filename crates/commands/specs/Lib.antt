@@ -1,3 +1,5 @@
+pub mod Rows
 pub mod Verdicts
+pub mod Inputs
 pub mod Counting
-pub mod Answers
+pub mod Answering

@@ -1,62 +1,89 @@
--- What an application makes of a packet of its command pipe.
-use Rattle.std.specs.Prelude.{ℕ, Bool, true, false, ◌==◌, ◌&&◌, if◌then◌else◌, List, length, nat_le, find, Option, Some, None}
+-- What an application makes of the packets of its command pipe. B is what its refusals are decided by as a wakeup begins, I what a
+-- command asks for, E a reason of its own to refuse one.
+use Rattle.std.specs.Prelude.{ℕ, Bool, true, false, ◌==◌, if◌then◌else◌, List, [], ◌∷◌, ◌++◌, filter_map, Option, Some, None}
+use Rattle.std.specs.List.{fold}
 use Rattle.packet_forms.specs.Packets.{message_id, function_code, is_checksum_right, payload_of}
+use Rattle.commands.specs.Rows.{row_of, is_length_allowed}
 use Rattle.commands.specs.declared.verdicts.CodeRow.{CodeRow}
 use Rattle.commands.specs.declared.verdicts.Verdict.{Verdict}
 use Rattle.commands.specs.declared.verdicts.Verdict.TheVariants.{Other, Request, Refused, Accepted}
 
--- The row of a function code in an application's table of codes.
-abbrev pub row_of : List CodeRow → ℕ → Option CodeRow
-row_of rows code = find (λ row. row.code == code) rows
+-- An application's name, the ids of its commands and of the request for its housekeeping, its codes, and what a command of a code asks
+-- for with a payload whose length its row allows.
+pub record Language (I : Type 0) : Type 0 where
+  pub name : List ℕ
+  pub command_id : ℕ
+  pub request_id : ℕ
+  pub codes : List CodeRow
+  pub decode : ℕ → List ℕ → I
 
--- Whether a payload is as long as the row of its code says.
-abbrev pub is_length_allowed : CodeRow → List ℕ → Bool
-is_length_allowed row payload = nat_le row.least (length payload) && nat_le (length payload) row.most
+-- That, the numbers of its own refusals, and which of them meets a command, by what it asks for and what was ordered before it in
+-- the wakeup.
+pub record Protocol (B I E : Type 0) : Type 0 where
+  pub language : Language I
+  pub number : E → ℕ
+  pub refuses : B → List I → I → Option E
 
--- Whether a code is listed and allows a payload of this length.
-abbrev pub is_allowed : Option CodeRow → List ℕ → Bool
-is_allowed None payload = false
-is_allowed (Some row) payload = is_length_allowed row payload
+abbrev pub protocol_of : {B I E : Type 0} → Language I → (E → ℕ) → (B → List I → I → Option E) → Protocol B I E
+protocol_of language number refuses = record { language = language; number = number; refuses = refuses }
 
--- The verdict on a command by the row of its code alone: 2 where it isn't listed, 3 where its payload has another length.
-abbrev pub verdict_by_row : Option CodeRow → ℕ → List ℕ → Verdict
-verdict_by_row None code payload = Refused 2
-verdict_by_row (Some row) code payload = if is_length_allowed row payload then Accepted code else Refused 3
+-- What a packet asks for: only an accepted command does.
+abbrev pub instruction_in : {I : Type 0} → Verdict I → Option I
+instruction_in Other = None
+instruction_in Request = None
+instruction_in (Refused reason) = None
+instruction_in (Accepted code instruction) = Some instruction
 
--- The verdict on a command by the first three refusals alone: 1 where its checksum isn't right, then 2 and 3.
-unfoldable pub command_verdict : List CodeRow → List ℕ → Verdict
-command_verdict rows p = if is_checksum_right p then verdict_by_row (row_of rows (function_code p)) (function_code p) (payload_of p) else Refused 1
+-- What was ordered: what the accepted commands asked for, in order.
+unfoldable pub orders_in : {I : Type 0} → List (Verdict I) → List I
+orders_in verdicts = filter_map instruction_in verdicts
 
--- The verdict on a packet by its id and the first three refusals: a request for housekeeping, a command, or neither.
-unfoldable pub first_verdict : ℕ → ℕ → List CodeRow → List ℕ → Verdict
-first_verdict command_id request_id rows p =
-    if message_id p == request_id then Request
-    else if message_id p == command_id then command_verdict rows p
+-- The verdict on a command whose payload is as long as its row says.
+abbrev pub judged_by : {I E : Type 0} → (E → ℕ) → Option E → ℕ → I → Verdict I
+judged_by number None code instruction = Accepted code instruction
+judged_by number (Some reason) code instruction = Refused (number reason)
+
+-- The verdict on a command with its checksum right: 2 where its code isn't listed, 3 where its payload has another length, and then
+-- its own refusal.
+abbrev pub verdict_by_row : {B I E : Type 0} → Protocol B I E → B → List I → Option CodeRow → ℕ → List ℕ → Verdict I
+verdict_by_row protocol basis orders None code payload = Refused 2
+verdict_by_row protocol basis orders (Some row) code payload =
+    if is_length_allowed row payload
+    then judged_by protocol.number (protocol.refuses basis orders (protocol.language.decode code payload)) code (protocol.language.decode code payload)
+    else Refused 3
+
+-- The verdict on a packet, by what was ordered before it in the wakeup: by its id, then 1 where its checksum isn't right, then by the
+-- row of its code.
+unfoldable pub verdict_at : {B I E : Type 0} → Protocol B I E → B → List I → List ℕ → Verdict I
+verdict_at protocol basis orders p =
+    if message_id p == protocol.language.request_id then Request
+    else if message_id p == protocol.language.command_id then (
+      if is_checksum_right p
+      then verdict_by_row protocol basis orders (row_of protocol.language.codes (function_code p)) (function_code p) (payload_of p)
+      else Refused 1)
     else Other
 
--- The verdict on a command of this code, by its own refusal.
-abbrev pub refused_by : Option ℕ → ℕ → Verdict
-refused_by None code = Accepted code
-refused_by (Some reason) code = Refused reason
-
--- A verdict with the command's own refusals asked after the first three.
-abbrev pub with_own_refusals : (ℕ → Option ℕ) → Verdict → Verdict
-with_own_refusals own Other = Other
-with_own_refusals own Request = Request
-with_own_refusals own (Refused reason) = Refused reason
-with_own_refusals own (Accepted code) = refused_by (own code) code
+-- The verdicts on the packets of a wakeup.
+unfoldable pub verdicts_on : {B I E : Type 0} → Protocol B I E → B → List (List ℕ) → List (Verdict I)
+verdicts_on protocol basis packets = fold (λ heard p. heard ++ verdict_at protocol basis (orders_in heard) p ∷ []) [] packets
 
 -- An accepted command.
-abbrev pub is_accepted : Verdict → Bool
-is_accepted (Accepted code) = true
-is_accepted _ = false
+abbrev pub is_accepted : {I : Type 0} → Verdict I → Bool
+is_accepted Other = false
+is_accepted Request = false
+is_accepted (Refused reason) = false
+is_accepted (Accepted code instruction) = true
 
 -- A refused command.
-abbrev pub is_refused : Verdict → Bool
+abbrev pub is_refused : {I : Type 0} → Verdict I → Bool
+is_refused Other = false
+is_refused Request = false
 is_refused (Refused reason) = true
-is_refused _ = false
+is_refused (Accepted code instruction) = false
 
 -- The accepted command that resets both counts.
-abbrev pub is_reset : Verdict → Bool
-is_reset (Accepted code) = code == 1
-is_reset _ = false
+abbrev pub is_reset : {I : Type 0} → Verdict I → Bool
+is_reset Other = false
+is_reset Request = false
+is_reset (Refused reason) = false
+is_reset (Accepted code instruction) = code == 1

@@ -1,13 +1,16 @@
-//! What the five applications share in the handling of their commands.
+//! The step of one packet of a command pipe, which the applications share: its verdict, what it asks for, both counts, and the event
+//! that answers it.
 #![tactic(auto)]
 
-mod answers;
+mod commanded;
 mod counting;
+mod step;
 mod verdicts;
 
-pub use answers::{answer, named};
-pub use counting::note;
-pub use verdicts::{CodeRow, Verdict, first_verdict};
+pub use commanded::{Command, Commanded, Reason, Terms};
+pub use counting::{note, start_counts};
+pub use step::{handle_all, named};
+pub use verdicts::{CodeRow, Verdict};
 
 #[cfg(test)]
 mod tests;

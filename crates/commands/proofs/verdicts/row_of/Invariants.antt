@@ -1,5 +1,5 @@
 use Rattle.std.proofs.Common.{◌≡◌, drop}
-use Rattle.commands.specs.Verdicts.{row_of}
+use Rattle.commands.specs.Rows.{row_of}
 use Rattle.commands.proofs.verdicts.row_of.Given as goal
 
 -- no row before this one has the code

@@ -1,0 +1,153 @@
+//! The packets of a wakeup, in order.
+ghost use Rattle.std.specs.Prelude.{◌≡◌, ◌+◌, ◌*◌, ◌≤◌, ◌<◌, ℕ, List, [], ◌∷◌, ◌++◌, length, true};
+ghost use Rattle.std.specs.List.{AllPass};
+ghost use Rattle.packet_forms.specs.Names.{is_name_text, name_of};
+ghost use Rattle.bus_pipes.specs.Held.{adding};
+ghost use Rattle.bus_pipes.specs.Counted.{is_item_counted};
+ghost use Rattle.commands.specs.Verdicts.{protocol_of, orders_in, verdict_at, verdicts_on};
+ghost use Rattle.commands.specs.Counting.{counts_of};
+ghost use Rattle.commands.specs.Answering.{items_for, packet_items, command_items};
+ghost use Rattle.commands.specs.declared.verdicts.Verdict.{Verdict};
+
+use crate::commanded::{Command, Commanded, Reason};
+use crate::counting::note;
+use crate::verdicts::{Verdict, is_length_allowed, row_of};
+use bus_pipes::{Counts, Out, Outbox};
+use packet_forms::{Name, Packet, event};
+
+/// Handles the packets of a wakeup, at most 16, in order: each is judged, answered and counted. What is sent goes to `out`, which is
+/// empty, and what is left beside it to `left`.
+pub fn handle_all<R: Copy + Drop, S: Commanded<R>>(
+    counts: &mut Counts,
+    state: &mut S,
+    packets: &[Packet],
+    reads: R,
+    now: u32,
+    left: &mut S::Left,
+    out: &mut Outbox,
+)
+    requires packets { length packets.now ≤ 16 }
+    requires safe { S.is_safe reads 0 state.old left.old }
+    requires empty { out.old.items ≡ [] }
+    requires room { (1 + S.most) * 16 ≤ out.old.room }
+    ensures counts { (turn : S.Turn) → S.belongs turn reads now → S.stands turn [] state.old left.old → counts.old ≡ counts_of (S.answers.earlier turn)
+        → counts.new ≡ counts_of (S.answers.earlier turn ++ verdicts_on (protocol_of S.Instruction.language S.Refusal.number S.refuses) (S.basis turn) packets.now) }
+    ensures stands { (turn : S.Turn) → S.belongs turn reads now → S.stands turn [] state.old left.old
+        → S.stands turn (orders_in (verdicts_on (protocol_of S.Instruction.language S.Refusal.number S.refuses) (S.basis turn) packets.now)) state.new left.new }
+    ensures items { (turn : S.Turn) → S.belongs turn reads now → S.stands turn [] state.old left.old → counts.old ≡ counts_of (S.answers.earlier turn)
+        → out.new ≡ adding out.old (command_items S.answers S.Instruction.language.name turn (verdicts_on (protocol_of S.Instruction.language S.Refusal.number S.refuses) (S.basis turn) packets.now)) }
+    ensures safe { S.is_safe reads (length packets.now) state.new left.new }
+    ensures counted { AllPass is_item_counted out.new.items }
+    ensures few { length out.new.items ≤ (1 + S.most) * length packets.now }
+    ensures room { out.new.room ≡ out.old.room }
+{
+    for packet in packets {
+        handle(counts, state, packet, reads, now, left, out);
+    }
+}
+
+// Handles one packet.
+fn handle<R: Copy + Drop, S: Commanded<R>>(
+    counts: &mut Counts,
+    state: &mut S,
+    packet: &Packet,
+    reads: R,
+    now: u32,
+    left: &mut S::Left,
+    out: &mut Outbox,
+)
+    requires safe { (n : ℕ) × (n < 16) × S.is_safe reads n state.old left.old }
+    requires room { length out.old.items + (1 + S.most) ≤ out.old.room }
+    ensures counts { (turn : S.Turn) (heard : List (Verdict S.Instruction)) → S.belongs turn reads now → S.stands turn (orders_in heard) state.old left.old → counts.old ≡ counts_of (S.answers.earlier turn ++ heard)
+        → counts.new ≡ counts_of ((S.answers.earlier turn ++ heard) ++ verdict_at (protocol_of S.Instruction.language S.Refusal.number S.refuses) (S.basis turn) (orders_in heard) packet.now ∷ []) }
+    ensures stands { (turn : S.Turn) (heard : List (Verdict S.Instruction)) → S.belongs turn reads now → S.stands turn (orders_in heard) state.old left.old
+        → S.stands turn (orders_in (heard ++ verdict_at (protocol_of S.Instruction.language S.Refusal.number S.refuses) (S.basis turn) (orders_in heard) packet.now ∷ [])) state.new left.new }
+    ensures items { (turn : S.Turn) (heard : List (Verdict S.Instruction)) → S.belongs turn reads now → S.stands turn (orders_in heard) state.old left.old → counts.old ≡ counts_of (S.answers.earlier turn ++ heard)
+        → out.new ≡ adding out.old (packet_items S.answers S.Instruction.language.name turn heard (verdict_at (protocol_of S.Instruction.language S.Refusal.number S.refuses) (S.basis turn) (orders_in heard) packet.now)) }
+    ensures safe { (n : ℕ) → n < 16 → S.is_safe reads n state.old left.old → S.is_safe reads (n + 1) state.new left.new }
+    ensures counted { AllPass is_item_counted out.old.items → AllPass is_item_counted out.new.items }
+    ensures few { length out.new.items ≤ length out.old.items + (1 + S.most) }
+    ensures room { out.new.room ≡ out.old.room }
+{
+    let verdict = decide(state, packet, reads, now);
+    act(*counts, state, &verdict, reads, now, left, out);
+    note(counts, &verdict);
+}
+
+// What an application makes of a packet.
+#[tactic(auto, unfolding(crate::specs::Verdicts::verdict_at))]
+fn decide<R: Copy + Drop, S: Commanded<R>>(state: &S, packet: &Packet, reads: R, now: u32) -> Verdict<S::Instruction>
+    ensures verdict { (turn : S.Turn) (orders : List S.Instruction) (left : S.Left) → S.belongs turn reads now → S.stands turn orders state.now left
+        → result ≡ verdict_at (protocol_of S.Instruction.language S.Refusal.number S.refuses) (S.basis turn) orders packet.now }
+    ensures passes { (code : ℕ) (instruction : S.Instruction) → result ≡ Verdict.Accepted code instruction → S.can_obey reads state.now instruction }
+{
+    let terms = S::Instruction::terms();
+    let id = packet.mid();
+    if id == terms.request_id {
+        return Verdict::Request;
+    }
+    if id != terms.command_id {
+        return Verdict::Other;
+    }
+    if !packet.checksum_ok() {
+        return Verdict::Refused(1);
+    }
+    let code = packet.code();
+    let Some(row) = row_of(terms.codes, code) else {
+        return Verdict::Refused(2);
+    };
+    if !is_length_allowed(row, packet.payload()) {
+        return Verdict::Refused(3);
+    }
+    let instruction = S::Instruction::decode(code, packet.payload());
+    match state.refusal(&instruction, reads, now) {
+        None => Verdict::Accepted(code, instruction),
+        Some(reason) => Verdict::Refused(reason.number()),
+    }
+}
+
+// Answers a packet, and does what it asks for.
+#[tactic(auto, using(bus_pipes::proofs::Deliveries::adding_none), unfolding(bus_pipes::specs::Held::adding))]
+fn act<R: Copy + Drop, S: Commanded<R>>(
+    counts: Counts,
+    state: &mut S,
+    verdict: &Verdict<S::Instruction>,
+    reads: R,
+    now: u32,
+    left: &mut S::Left,
+    out: &mut Outbox,
+)
+    requires can { (code : ℕ) (instruction : S.Instruction) → verdict.now ≡ Verdict.Accepted code instruction → S.can_obey reads state.old instruction }
+    requires safe { (n : ℕ) × (n < 16) × S.is_safe reads n state.old left.old }
+    requires room { length out.old.items + (1 + S.most) ≤ out.old.room }
+    ensures stands { (turn : S.Turn) (heard : List (Verdict S.Instruction)) → S.belongs turn reads now → S.stands turn (orders_in heard) state.old left.old → S.stands turn (orders_in (heard ++ verdict.now ∷ [])) state.new left.new }
+    ensures items { (turn : S.Turn) (orders : List S.Instruction) → S.belongs turn reads now → S.stands turn orders state.old left.old
+        → out.new ≡ adding out.old (items_for S.answers turn S.Instruction.language.name now counts orders verdict.now) }
+    ensures safe { (n : ℕ) → n < 16 → S.is_safe reads n state.old left.old → S.is_safe reads (n + 1) state.new left.new }
+    ensures counted { AllPass is_item_counted out.old.items → AllPass is_item_counted out.new.items }
+    ensures few { length out.new.items ≤ length out.old.items + (1 + S.most) }
+    ensures room { out.new.room ≡ out.old.room }
+{
+    match verdict {
+        Verdict::Other => {}
+        Verdict::Request => out.push(Out::Made(state.housekeeping(counts, reads, now))),
+        Verdict::Refused(reason) => {
+            out.push(Out::Made(event(S::Instruction::name(), u16::from(*reason), 3, now)));
+        }
+        Verdict::Accepted(code, instruction) => {
+            state.obey(instruction, reads, now, left, out);
+            out.push(Out::Made(event(S::Instruction::name(), 16 + u16::from(*code), 2, now)));
+        }
+    }
+}
+
+/// The name with this text.
+pub fn named(text: &str) -> Name
+    requires { is_name_text text.now ≡ true }
+    ensures { result ≡ name_of text.now }
+{
+    match Name::from_text(text) {
+        Some(name) => name,
+        None => unreachable!(),
+    }
+}
