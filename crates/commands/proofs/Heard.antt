@@ -1,8 +1,9 @@
 -- The verdicts of a wakeup at one more packet, and what answers it.
-use Rattle.std.proofs.Common.{◌≡◌, ◌≤◌, ◌<◌, ℕ, ◌+◌, ◌*◌, true, List, [], ◌∷◌, ◌++◌, map, refl, sym, ap, subst, ◌∙◌, arith, append-nil, append_assoc}
-use Rattle.std.specs.Prelude.{Option, Some, None}
-use Rattle.std.specs.List.{All, AllPass, fold}
+use Rattle.std.proofs.Common.{◌≡◌, ◌≤◌, ◌<◌, ℕ, ◌+◌, ◌*◌, true, List, [], ◌∷◌, ◌++◌, length, refl, sym, ap, subst, ◌∙◌, arith, append-nil, append_assoc}
+use Rattle.std.specs.Prelude.{Some, None, ◌==◌}
+use Rattle.std.specs.List.{AllPass}
 use Rattle.std.proofs.Math.Nat.{mul-le-mul_left}
+use Rattle.std.proofs.lemmas.Bool.{eqb-true}
 use Rattle.std.proofs.lemmas.List.Sums.{fold_push}
 use Rattle.std.proofs.lemmas.List.Elements.{filter_map-append, All-append}
 use Rattle.histories.proofs.Along.{joined_more, joined_none}
@@ -60,6 +61,20 @@ pub heard_none : {X B I E : Type 0} (protocol : Protocol B I E) (basis : List X 
 unfolding heard_along
 heard_none {X} protocol basis packets = joined_none (λ (earlier : List X) (x : X). verdicts_on protocol (basis earlier x) (packets x))
 
+-- an entry without packets
+pub heard_idle : {X B I E : Type 0} (protocol : Protocol B I E) (basis : List X → X → B) (packets : X → List (List ℕ)) (entries : List X) (entry : X) → packets entry ≡ []
+    → heard_along protocol basis packets (entries ++ entry ∷ []) ≡ heard_along protocol basis packets entries
+heard_idle protocol basis packets entries entry none =
+    heard_more protocol basis packets entries entry
+    ∙ ap (λ (ps : List (List ℕ)). heard_along protocol basis packets entries ++ verdicts_on protocol (basis entries entry) ps) none
+    ∙ ap (λ (more : List (Verdict _)). heard_along protocol basis packets entries ++ more) (verdicts_none protocol (basis entries entry))
+    ∙ append-nil (heard_along protocol basis packets entries)
+
+-- no packets
+pub no_packets : {A : Type 0} (xs : List A) → (length xs == 0) ≡ true → xs ≡ []
+no_packets [] none = refl
+no_packets (x ∷ xs) none = let zero : length (x ∷ xs) ≡ 0 = eqb-true (length (x ∷ xs)) 0 none in absurd (omega (arith, zero))
+
 module _ {T I : Type 0} (answers : Answers T I) (name : List ℕ) (turn : T) where
   -- the answer to a packet, by the counts and the verdict that were kept
   pub packet_answered : (heard : List (Verdict I)) (judged verdict : Verdict I) (time : ℕ) (counts : Counts) (start end : Held Out)
@@ -77,6 +92,11 @@ module _ {T I : Type 0} (answers : Answers T I) (name : List ℕ) (turn : T) whe
   unfolding command_items
   items_none start = sym (ap (adding start) (joined_none (packet_items answers name turn)) ∙ adding_none start)
 
+  -- no answers
+  pub no_answers : command_items answers name turn [] ≡ []
+  unfolding command_items
+  no_answers = joined_none (packet_items answers name turn)
+
   pub items_step : (start middle end : Held Out) (heard : List (Verdict I)) (verdict : Verdict I) → middle ≡ adding start (command_items answers name turn heard)
       → end ≡ adding middle (packet_items answers name turn heard verdict) → end ≡ adding start (command_items answers name turn (heard ++ verdict ∷ []))
   unfolding command_items
@@ -92,10 +112,14 @@ counted_more start end more behind here before =
     subst (λ (items : List Out). AllPass is_item_counted items) (sym (ap (λ (held : Held Out). held.items) behind ∙ items-adding start more))
     (All-append (λ (item : Out). is_item_counted item ≡ true) start.items more before here)
 
+-- one item more
+pub one_more_counted : (start end : Held Out) (item : Out) → end ≡ adding start (item ∷ []) → is_item_counted item ≡ true → AllPass is_item_counted start.items → AllPass is_item_counted end.items
+one_more_counted start end item behind here before = counted_more start end (item ∷ []) behind (one_passes (λ (one : Out). is_item_counted one ≡ true) item here) before
+
 -- and an event
 pub event_behind : (start end : Held Out) (p name : List ℕ) (id kind time : ℕ) → p ≡ event_of name id kind time → end ≡ adding start (Made p ∷ []) → AllPass is_item_counted start.items → AllPass is_item_counted end.items
 event_behind start end p name id kind time made behind before =
-    counted_more start end (Made p ∷ []) behind (one_passes (λ (item : Out). is_item_counted item ≡ true) (Made p) (ap (λ (q : List ℕ). is_item_counted (Made q)) made ∙ event_counted name id kind time)) before
+    one_more_counted start end (Made p) behind (ap (λ (q : List ℕ). is_item_counted (Made q)) made ∙ event_counted name id kind time) before
 
 -- there is room for a packet more of at most 16
 pub room_step : (most i n room : ℕ) → n ≤ (1 + most) * i → i < 16 → (1 + most) * 16 ≤ room → n + (1 + most) ≤ room

@@ -1,3 +1,2 @@
-pub mod Judging
 pub mod Wakeups
-pub mod Admission
+pub mod Landing

@@ -1,6 +1,9 @@
-pub mod Image
+pub mod Messages
+pub mod Reading
 pub mod Instructions
 pub mod Verdicts
-pub mod Output
-pub mod Standing
+pub mod Housekeeping
+pub mod Answers
+pub mod Step
+pub mod State
 pub mod Rows

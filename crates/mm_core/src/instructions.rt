@@ -1,10 +1,12 @@
 //! What a command asks for.
 ghost use Rattle.std.specs.Prelude.{◌≡◌, true};
-ghost use Rattle.commands.specs.Verdicts.{is_allowed, row_of};
-ghost use Rattle.mm_core.specs.Instructions.{mm_codes, instruction_of};
+ghost use Rattle.mm_core.specs.Instructions.{operation_of, is_sized};
 
-use commands::CodeRow;
-use packet_forms::be32;
+use crate::messages::{CODES, COMMAND_ID, REQUEST_ID, name};
+use crate::reading::low_bits;
+use commands::{Command, Terms};
+use memory_window::MemOp;
+use packet_forms::{Name, be32};
 
 /// What an accepted command asks for.
 #[derive(Clone, Copy, Debug, PartialEq, Eq)]
@@ -19,68 +21,65 @@ pub(crate) enum Instruction {
     Protect { region: u8, on: bool },
 }
 
-/// The function codes of MM, and the lengths of their payloads.
-pub(crate) const CODES: [CodeRow; 6] = [
-    CodeRow {
-        code: 0,
-        least: 0,
-        most: 0,
-    },
-    CodeRow {
-        code: 1,
-        least: 0,
-        most: 0,
-    },
-    CodeRow {
-        code: 2,
-        least: 5,
-        most: 5,
-    },
-    CodeRow {
-        code: 3,
-        least: 9,
-        most: 9,
-    },
-    CodeRow {
-        code: 11,
-        least: 1,
-        most: 1,
-    },
-    CodeRow {
-        code: 12,
-        least: 1,
-        most: 1,
-    },
-];
+impl Command for Instruction {
+    ghost use Rattle.mm_core.specs.Instructions.{mm_language};
 
-/// What a command of a code asks for with a payload whose length its row allows.
-#[tactic(auto, unfolding(crate::specs::Instructions::instruction_of, crate::specs::Instructions::mm_codes))]
-pub(crate) fn instruction_of(code: u8, payload: &[u8]) -> Instruction
-    requires { is_allowed (row_of mm_codes code) payload.now ≡ true }
-    ensures { result ≡ instruction_of code payload.now }
+    ghost language = { mm_language };
+
+    fn name() -> Name {
+        name()
+    }
+
+    #[tactic(auto, unfolding(crate::specs::Messages::mm_codes))]
+    fn terms() -> Terms {
+        Terms {
+            command_id: COMMAND_ID,
+            request_id: REQUEST_ID,
+            codes: &CODES,
+        }
+    }
+
+    #[tactic(auto, unfolding(crate::specs::Instructions::instruction_of, crate::specs::Messages::mm_codes))]
+    fn decode(code: u8, payload: &[u8]) -> Instruction {
+        match code {
+            2 => Instruction::Peek {
+                size: payload[0],
+                at: be32(payload, 1),
+            },
+            3 => Instruction::Poke {
+                size: payload[0],
+                at: be32(payload, 1),
+                value: be32(payload, 5),
+            },
+            11 => Instruction::Protect {
+                region: payload[0],
+                on: false,
+            },
+            12 => Instruction::Protect {
+                region: payload[0],
+                on: true,
+            },
+            _ => Instruction::Plain,
+        }
+    }
+}
+
+/// The operation that a command leaves.
+pub(crate) fn operation_of(instruction: &Instruction) -> Option<MemOp>
+    requires { is_sized instruction.now ≡ true }
+    ensures { result ≡ operation_of instruction.now }
 {
-    if code == 2 {
-        Instruction::Peek {
-            size: payload[0],
-            at: be32(payload, 1),
-        }
-    } else if code == 3 {
-        Instruction::Poke {
-            size: payload[0],
-            at: be32(payload, 1),
-            value: be32(payload, 5),
-        }
-    } else if code == 11 {
-        Instruction::Protect {
-            region: payload[0],
-            on: false,
-        }
-    } else if code == 12 {
-        Instruction::Protect {
-            region: payload[0],
-            on: true,
-        }
-    } else {
-        Instruction::Plain
+    match instruction {
+        Instruction::Plain => None,
+        Instruction::Peek { .. } => None,
+        Instruction::Poke { size, at, value } => Some(MemOp::Poke {
+            size: *size,
+            at: *at,
+            value: low_bits(*size, *value),
+        }),
+        Instruction::Protect { region, on } => Some(MemOp::Protect {
+            region: u32::from(*region),
+            on: *on,
+        }),
     }
 }

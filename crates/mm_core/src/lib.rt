@@ -5,11 +5,13 @@ mod answers;
 mod housekeeping;
 mod instructions;
 pub mod laws;
+mod messages;
 mod reading;
+mod state;
 mod step;
 mod verdicts;
 
-pub use step::Mm;
+pub use state::Mm;
 
 #[cfg(test)]
 mod tests;

@@ -1,16 +1,17 @@
 //! What is read and asked of the window.
 ghost use Rattle.std.specs.Prelude.{◌≡◌, ◌<◌, ◌^◌, ◌%◌, IsTrue, is_none, not, Ok};
 ghost use Rattle.memory_window.specs.Operations.{is_size};
+ghost use Rattle.memory_window.specs.Window.{seen};
 ghost use Rattle.memory_window.specs.declared.operations.MemOp.TheVariants as ops;
-ghost use Rattle.mm_core.specs.Image.{image_of, value_at, admission_of, protection_of, IsAdmitted};
+ghost use Rattle.mm_core.specs.Reading.{value_at, admission_of, protection_of};
 
 use memory_window::{AccessFault, MemOp, Window};
 
 /// Reads 8, 16 or 32 bits.
-#[tactic(auto, unfolding(crate::specs::Image::image_of, crate::specs::Image::value_at))]
+#[tactic(auto, unfolding(crate::specs::Reading::value_at))]
 pub(crate) fn value_at(window: Window<'_>, size: u8, at: u32) -> Result<u32, AccessFault>
     requires { IsTrue (is_size size) }
-    ensures { result ≡ value_at (image_of window.entry) size at }
+    ensures { result ≡ value_at (seen window.entry) size at }
 {
     if size == 8 {
         return window.read8(at).map(u32::from);
@@ -22,15 +23,15 @@ pub(crate) fn value_at(window: Window<'_>, size: u8, at: u32) -> Result<u32, Acc
 }
 
 /// Whether an EEPROM region is protected, None where the number isn't that of one.
-#[tactic(auto, unfolding(crate::specs::Image::image_of, crate::specs::Image::protection_of))]
+#[tactic(auto, unfolding(crate::specs::Reading::protection_of))]
 pub(crate) fn protection_of(window: Window<'_>, region: u8) -> Option<bool>
-    ensures { result ≡ protection_of (image_of window.entry) region }
+    ensures { result ≡ protection_of (seen window.entry) region }
 {
     window.protected(u32::from(region))
 }
 
 /// Whether a poke of the low bits of a value is admitted.
-#[tactic(auto, unfolding(crate::specs::Image::image_of, crate::specs::Image::admission_of))]
+#[tactic(auto, unfolding(crate::specs::Reading::admission_of))]
 pub(crate) fn poke_admission(
     window: Window<'_>,
     size: u8,
@@ -38,7 +39,7 @@ pub(crate) fn poke_admission(
     value: u32,
 ) -> Result<(), AccessFault>
     requires { IsTrue (is_size size) }
-    ensures { result ≡ admission_of (image_of window.entry) (MemOp.Poke size at (value % 2 ^ size)) }
+    ensures { result ≡ admission_of (seen window.entry) (MemOp.Poke size at (value % 2 ^ size)) }
 {
     window.admits(&MemOp::Poke {
         size,

@@ -1,43 +1,72 @@
 //! A wakeup of MM.
-ghost use Rattle.std.specs.Prelude.{◌≡◌, ◌+◌, ◌*◌, ◌<◌, ◌≤◌, List, [], ◌∷◌, ◌++◌, length, All};
+ghost use Rattle.std.specs.Prelude.{◌≡◌, ◌*◌, ◌≤◌, List, [], ◌∷◌, ◌++◌, length, All};
 ghost use Rattle.std.specs.List.{AllPass};
-ghost use Rattle.bus_pipes.specs.Held.{adding};
 ghost use Rattle.bus_pipes.specs.Counted.{is_item_counted};
-ghost use Rattle.commands.specs.declared.verdicts.Verdict.{Verdict};
-ghost use Rattle.mm_core.specs.Image.{image_of};
 ghost use Rattle.memory_window.specs.Access.{Admitted};
 ghost use Rattle.memory_window.specs.Operations.{IsBacked};
 ghost use Rattle.memory_window.specs.Window.{seen};
-ghost use Rattle.mm_core.specs.Verdicts.{verdict_in};
-ghost use Rattle.mm_core.specs.Output.{Input, command_items, command_operations, mm_items, mm_operations};
-ghost use Rattle.mm_core.specs.Standing.{StandsFor, Stands, input_of};
+ghost use Rattle.mm_core.specs.Step.{Input, input_of, mm_items, mm_operations};
+ghost use Rattle.mm_core.specs.State.{Stands};
 
-use crate::answers::{answer_packet, operation_of};
-use crate::verdicts::verdict_in;
+use crate::answers::reply;
+use crate::housekeeping::housekeeping;
+use crate::instructions::{Instruction, operation_of};
+use crate::state::Mm;
+use crate::verdicts::{Refusal, own_refusal};
 use bus_pipes::{Counts, Outbox};
-use commands::note;
+use commands::{Commanded, handle_all};
 use memory_window::{Ops, Window};
 use packet_forms::Packet;
 
-/// The state of MM.
+// Commands change nothing of MM but its counts: all else is left to the end of the frame.
 #[derive(Clone, Copy, Debug, PartialEq, Eq)]
-pub struct Mm {
-    counts: Counts,
+struct Hands {}
+
+impl<'a> Commanded<Window<'a>> for Hands {
+    ghost use Rattle.std.specs.Prelude.{◌≡◌, None};
+    ghost use Rattle.std.proofs.Common.{arith};
+    ghost use Rattle.memory_window.specs.Window.{seen};
+    ghost use Rattle.mm_core.specs.Reading.{Seen, seen_in};
+    ghost use Rattle.mm_core.specs.Verdicts.{own_refusal};
+    ghost use Rattle.mm_core.specs.Step.{Turn, mm_answers, operations_of};
+    ghost use Rattle.mm_core.specs.State.{CanLand};
+
+    type Instruction = Instruction;
+    type Refusal = Refusal;
+    type Left = Ops;
+
+    ghost Basis = { Seen };
+    ghost Turn = { Turn };
+    ghost refuses = { λ seen orders instruction. own_refusal seen.image instruction };
+    ghost answers = { mm_answers };
+    ghost basis = { λ turn. turn.input.seen };
+    ghost belongs = { λ turn window now. (turn.input.seen ≡ seen_in window) × (turn.input.time ≡ now) };
+    ghost stands = { λ turn orders hands ops. ops ≡ operations_of orders };
+    ghost is_safe = { λ window n hands ops. CanLand window n ops };
+    ghost can_obey = { λ window hands instruction. own_refusal (seen window) instruction ≡ None };
+    ghost most = { 1 };
+
+    ghost still_safe = { λ window n hands ops safe. record { few = Prim.omega arith; admitted = safe.admitted; backed = safe.backed } };
+    ghost timed = { λ turn window now belongs. belongs.1 };
+
+    fn refusal(&self, instruction: &Instruction, reads: Window<'a>, now: u32) -> Option<Refusal> {
+        own_refusal(reads, instruction)
+    }
+
+    fn housekeeping(&self, counts: Counts, reads: Window<'a>, now: u32) -> Packet {
+        housekeeping(reads, counts, now)
+    }
+
+    fn obey(&mut self, instruction: &Instruction, reads: Window<'a>, now: u32, left: &mut Ops, out: &mut Outbox) {
+        reply(reads, instruction, now, out);
+        let Some(op) = operation_of(instruction) else {
+            return;
+        };
+        left.push(op);
+    }
 }
 
 impl Mm {
-    /// The state before the first wakeup.
-    pub fn start() -> Mm
-        ensures { Stands [] result }
-    {
-        Mm {
-            counts: Counts {
-                accepted: 0,
-                errors: 0,
-            },
-        }
-    }
-
     /// Handles the packets of the pipe, at most 16. What is sent goes to `out`, which is empty, the operations to `ops`,
     /// which is empty too, and the state after the wakeup to `next`. All reading and all admission is by the window.
     pub fn step(
@@ -63,36 +92,39 @@ impl Mm {
         ensures room { out.new.room ≡ out.old.room }
     {
         *next = *self;
-        for packet in commands {
-            handle(next, packet, window, now, out, ops);
-        }
+        next.advance(commands, window, now, out, ops);
     }
-}
 
-// Handles one packet.
-fn handle(
-    state: &mut Mm,
-    packet: &Packet,
-    window: Window<'_>,
-    now: u32,
-    out: &mut Outbox,
-    ops: &mut Ops,
-)
-    requires room { length out.old.items + 17 ≤ out.old.room }
-    requires few_ops { length ops.old < 16 }
-    ensures stands { (earlier : List Verdict) → StandsFor earlier state.old → StandsFor (earlier ++ verdict_in (image_of window.entry) packet.now ∷ []) state.new }
-    ensures items { out.new ≡ adding out.old (command_items now (image_of window.entry) state.old.counts packet.now) }
-    ensures ops { ops.new ≡ ops.old ++ command_operations (image_of window.entry) packet.now }
-    ensures few { length out.new.items ≤ length out.old.items + 17 }
-    ensures few_ops { length ops.new ≤ length ops.old + 1 }
-    ensures room { out.new.room ≡ out.old.room }
-{
-    let counts = state.counts;
-    let verdict = verdict_in(window, packet);
-    note(&mut state.counts, verdict);
-    answer_packet(window, packet, verdict, counts, now, out);
-    match operation_of(packet, verdict) {
-        Some(op) => ops.push(op),
-        None => {}
+    /// The same in place.
+    pub fn advance(
+        &mut self,
+        commands: &[Packet],
+        window: Window<'_>,
+        now: u32,
+        out: &mut Outbox,
+        ops: &mut Ops,
+    )
+        requires commands { length commands.now ≤ 16 }
+        requires empty { out.old.items ≡ [] }
+        requires room { 272 ≤ out.old.room }
+        requires no_ops { ops.old ≡ [] }
+        ensures stands { (history : List Input) → Stands history self.old → Stands (history ++ input_of now commands.now window.entry ∷ []) self.new }
+        ensures items { (history : List Input) → Stands history self.old → out.new.items ≡ mm_items history (input_of now commands.now window.entry) }
+        ensures ops { ops.new ≡ mm_operations (input_of now commands.now window.entry) }
+        ensures admitted { All (Admitted (seen window.entry)) ops.new }
+        ensures backed { All (IsBacked []) ops.new }
+        ensures counted { AllPass is_item_counted out.new.items }
+        ensures few { length out.new.items ≤ 17 * length commands.now }
+        ensures room { out.new.room ≡ out.old.room }
+    {
+        handle_all(
+            &mut self.counts,
+            &mut Hands {},
+            commands,
+            window,
+            now,
+            ops,
+            out,
+        );
     }
 }

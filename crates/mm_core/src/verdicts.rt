@@ -1,75 +1,64 @@
 //! Which commands are refused.
-ghost use Rattle.std.specs.Prelude.{◌≡◌, ℕ, true, Option, None};
-ghost use Rattle.packet_forms.specs.Packets.{payload_of};
-ghost use Rattle.commands.specs.Verdicts.{is_allowed, row_of};
-ghost use Rattle.mm_core.specs.Image.{image_of};
-ghost use Rattle.mm_core.specs.Instructions.{mm_codes};
-ghost use Rattle.mm_core.specs.Verdicts.{refusal_for, own_refusal, verdict_in, CanBeDone};
+ghost use Rattle.std.specs.Prelude.{◌≡◌};
+ghost use Rattle.memory_window.specs.Window.{seen};
+ghost use Rattle.mm_core.specs.Verdicts.{own_refusal};
 
-use crate::instructions::{CODES, Instruction, instruction_of};
+use crate::instructions::Instruction;
 use crate::reading::{poke_admission, protection_of, value_at};
-use commands::{Verdict, first_verdict};
+use commands::Reason;
 use memory_window::{AccessFault, Window, is_size};
-use packet_forms::Packet;
 
-/// What MM makes of a packet.
-#[tactic(auto, unfolding(crate::specs::Verdicts::verdict_in))]
-pub(crate) fn verdict_in(window: Window<'_>, packet: &Packet) -> Verdict
-    ensures verdict { result ≡ verdict_in (image_of window.entry) packet.now }
-    ensures sound { (code : ℕ) → result ≡ Verdict.Accepted code → CanBeDone code (payload_of packet.now) }
-{
-    match first_verdict(packet, 0x1888, 0x1889, &CODES) {
-        Verdict::Accepted(code) => {
-            match own_refusal(window, instruction_of(code, packet.payload())) {
-                None => Verdict::Accepted(code),
-                Some(reason) => Verdict::Refused(reason),
-            }
+/// Why a command is refused.
+#[derive(Clone, Copy, Debug, PartialEq, Eq)]
+pub(crate) enum Refusal {
+    /// Its access meets a fault.
+    Access(AccessFault),
+    /// Its size isn't 8, 16 or 32.
+    Size,
+    /// Its number isn't that of an EEPROM region.
+    Region,
+}
+
+impl Reason for Refusal {
+    ghost use Rattle.mm_core.specs.Verdicts.{number_of};
+
+    ghost number = { number_of };
+
+    fn number(self) -> u8 {
+        match self {
+            Refusal::Access(AccessFault::Outside) => 4,
+            Refusal::Access(AccessFault::Unaligned) => 5,
+            Refusal::Access(AccessFault::WrongSize) => 6,
+            Refusal::Access(AccessFault::Protected) => 7,
+            Refusal::Size => 8,
+            Refusal::Region => 12,
         }
-        Verdict::Refused(reason) => Verdict::Refused(reason),
-        Verdict::Request => Verdict::Request,
-        Verdict::Other => Verdict::Other,
     }
 }
 
-// A command's own refusal.
-fn own_refusal(window: Window<'_>, instruction: Instruction) -> Option<u8>
-    ensures { result ≡ own_refusal (image_of window.entry) instruction }
+/// A command's own refusal.
+pub(crate) fn own_refusal(window: Window<'_>, instruction: &Instruction) -> Option<Refusal>
+    ensures { result ≡ own_refusal (seen window.entry) instruction.now }
 {
     match instruction {
         Instruction::Plain => None,
         Instruction::Peek { size, at } => {
-            if !is_size(size) {
-                return Some(8);
+            if !is_size(*size) {
+                return Some(Refusal::Size);
             }
-            match value_at(window, size, at) {
-                Ok(_) => None,
-                Err(fault) => Some(refusal_for(fault)),
-            }
+            value_at(window, *size, *at).err().map(Refusal::Access)
         }
         Instruction::Poke { size, at, value } => {
-            if !is_size(size) {
-                return Some(8);
+            if !is_size(*size) {
+                return Some(Refusal::Size);
             }
-            match poke_admission(window, size, at, value) {
-                Ok(()) => None,
-                Err(fault) => Some(refusal_for(fault)),
-            }
+            poke_admission(window, *size, *at, *value)
+                .err()
+                .map(Refusal::Access)
         }
-        Instruction::Protect { region, .. } => match protection_of(window, region) {
-            None => Some(12),
+        Instruction::Protect { region, .. } => match protection_of(window, *region) {
+            None => Some(Refusal::Region),
             Some(_) => None,
         },
-    }
-}
-
-// The refusal for a fault of access.
-fn refusal_for(fault: AccessFault) -> u8
-    ensures { result ≡ refusal_for fault }
-{
-    match fault {
-        AccessFault::Outside => 4,
-        AccessFault::Unaligned => 5,
-        AccessFault::WrongSize => 6,
-        AccessFault::Protected => 7,
     }
 }

@@ -1,5 +1,5 @@
--- What MM reads and asks of the image of memory that its window shows.
-use Rattle.std.specs.Prelude.{ℕ, Bool, Option, Result}
+-- What MM sees beside its packets, and what it reads and asks of the image of memory.
+use Rattle.std.specs.Prelude.{ℕ, Bool, List, [], Option, Result}
 use Rattle.memory_window.specs.Memory.{Memory}
 use Rattle.memory_window.specs.Access.{read_of, admits_of, is_protected, Admitted}
 use Rattle.memory_window.specs.Window.{seen}
@@ -7,9 +7,14 @@ use Rattle.memory_window.specs.declared.window.Window.{Window}
 use Rattle.memory_window.specs.declared.access.AccessFault.{AccessFault}
 use Rattle.memory_window.specs.declared.operations.MemOp.{MemOp}
 
--- The image that a window shows.
-unfoldable pub image_of : Window → Memory
-image_of window = seen window
+-- The frame's image of memory, and the bytes of the load files.
+pub record Seen : Type 0 where
+  pub image : Memory
+  pub files : List (List ℕ)
+
+-- What a window shows, with no load files.
+abbrev pub seen_in : Window → Seen
+seen_in window = record { image = seen window; files = [] }
 
 -- What a read of 8, 16 or 32 bits at an address gives.
 unfoldable pub value_at : Memory → ℕ → ℕ → Result ℕ AccessFault
@@ -22,7 +27,3 @@ admission_of image op = admits_of image op
 -- Whether an EEPROM region is protected, nothing where the number isn't that of an EEPROM region.
 unfoldable pub protection_of : Memory → ℕ → Option Bool
 protection_of image region = is_protected image region
-
--- An operation that can be asked for and is admitted.
-unfoldable pub IsAdmitted : Memory → MemOp → Type 0
-IsAdmitted image op = Admitted image op

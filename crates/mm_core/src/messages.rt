@@ -1,0 +1,30 @@
+//! MM's name, its message ids, and the codes of its commands.
+ghost use Rattle.std.specs.Prelude.{◌≡◌};
+ghost use Rattle.packet_forms.specs.Names.{is_name_text};
+ghost use Rattle.mm_core.specs.Messages.{mm_name};
+
+use commands::{CodeRow, named};
+use packet_forms::Name;
+
+pub(crate) const COMMAND_ID: u16 = 0x1888;
+pub(crate) const REQUEST_ID: u16 = 0x1889;
+pub(crate) const HOUSEKEEPING_ID: u16 = 0x0887;
+pub(crate) const PEEK_ID: u16 = 0x088A;
+
+/// No-op, reset counters, peek, poke, and EEPROM enable and disable.
+pub(crate) const CODES: [CodeRow; 6] = [
+    CodeRow(0, 0, 0),
+    CodeRow(1, 0, 0),
+    CodeRow(2, 5, 5),
+    CodeRow(3, 9, 9),
+    CodeRow(11, 1, 1),
+    CodeRow(12, 1, 1),
+];
+
+/// MM's name.
+#[tactic(auto, unfolding(crate::specs::Messages::mm_name, packet_forms::specs::Names::is_name_text))]
+pub(crate) fn name() -> Name
+    ensures { result ≡ mm_name }
+{
+    named("MM")
+}
