@@ -9,12 +9,12 @@ use Rattle.std.specs.Prelude.{◌==◌}
 use Rattle.memory_window.specs.Memory.{Memory, regions_of}
 use Rattle.memory_window.proofs.Given.{read_given}
 use Rattle.md_dwell.specs.Tables.{DwellTable, is_length}
-use Rattle.memory_window.specs.Window.{seen}
-use Rattle.memory_window.specs.declared.window.Window.{Window}
-use Rattle.md_dwell.specs.Reading.{image_of, bits_of, value_of}
+use Rattle.md_dwell.specs.Reading.{bits_of, value_of}
 use Rattle.md_dwell.specs.Given.{is_given, first_refused, TablesGiven, OrderGiven}
 use Rattle.md_dwell.specs.Verdicts.{is_readable, own_refusal}
 use Rattle.md_dwell.specs.declared.tables.DwellEntry.{DwellEntry}
+use Rattle.md_dwell.specs.declared.verdicts.Refusal.{Refusal}
+use Rattle.md_dwell.specs.declared.verdicts.Refusal.TheVariants.{Table, Entry, Length, Read}
 use Rattle.md_dwell.specs.declared.instructions.Instruction.{Instruction}
 use Rattle.md_dwell.specs.declared.instructions.Instruction.TheVariants.{Plain, Start, Stop, Jam}
 
@@ -23,7 +23,7 @@ pub readable_given : (image : Memory) (e : DwellEntry) → is_readable image e �
 unfolding is_readable value_of is_given
 readable_given image e = ap (λ (b : Bool). (e.len == 0) || b) (read_given image (bits_of e.len) e.at)
 
-last_of : (a b l readable : Bool) → cond {A = Option ℕ} a (Some 4) (cond {A = Option ℕ} b (Some 5) (cond {A = Option ℕ} l (Some 6) (cond {A = Option ℕ} readable None (Some 7)))) ≡ None → readable ≡ true
+last_of : (a b l readable : Bool) → cond {A = Option Refusal} a (Some Table) (cond {A = Option Refusal} b (Some Entry) (cond {A = Option Refusal} l (Some Length) (cond {A = Option Refusal} readable None (Some Read)))) ≡ None → readable ≡ true
 last_of true b l readable none = cc
 last_of false true l readable none = cc
 last_of false false true readable none = cc
@@ -61,8 +61,3 @@ tables_given regions tables a b c d long first second third fourth k e within = 
   where
     at : (j : ℕ) (x : DwellTable) → j < length tables → AllPass (is_given regions) (get_or tables j x).entries → j ≡ k → AllPass (is_given regions) (get_or tables k e).entries
     at j x inside holds is = subst (λ (i : ℕ). AllPass (is_given regions) (get_or tables i e).entries) is (subst (λ (t : DwellTable). AllPass (is_given regions) t.entries) (get_or_default tables j x e inside) holds)
-
--- the image is what the window shows
-pub image_seen : (window : Window) → image_of window ≡ seen window
-unfolding image_of
-image_seen window = refl

@@ -4,3 +4,4 @@ pub mod Courses
 pub mod Counts
 pub mod Gifts
 pub mod Turns
+pub mod Idling

@@ -1,17 +1,11 @@
 -- What MD's commands ask for.
-use Rattle.std.specs.Prelude.{ℕ, ◌==◌, if◌then◌else◌, List, [], ◌∷◌}
+use Rattle.std.specs.Prelude.{ℕ, ◌==◌, ◌<◌, ◌≤◌, if◌then◌else◌, List}
 use Rattle.packet_forms.specs.Numbers.{be16_at, be32_at}
-use Rattle.commands.specs.declared.verdicts.CodeRow.{CodeRow}
+use Rattle.commands.specs.Verdicts.{Language}
+use Rattle.md_dwell.specs.Messages.{md_name, command_id, request_id, md_codes}
 use Rattle.md_dwell.specs.declared.tables.DwellEntry.{DwellEntry}
 use Rattle.md_dwell.specs.declared.instructions.Instruction.{Instruction}
 use Rattle.md_dwell.specs.declared.instructions.Instruction.TheVariants.{Plain, Start, Stop, Jam}
-
--- The codes of MD, each with the shortest and the longest payload: no-op, reset counters, start, stop, jam.
-unfoldable pub md_codes : List CodeRow
-md_codes =
-    (record { code = 0; least = 0; most = 0 }) ∷ (record { code = 1; least = 0; most = 0 })
-    ∷ (record { code = 2; least = 2; most = 2 }) ∷ (record { code = 3; least = 2; most = 2 })
-    ∷ (record { code = 4; least = 12; most = 12 }) ∷ []
 
 -- The entry that a jam writes.
 abbrev pub jammed_entry : List ℕ → DwellEntry
@@ -24,3 +18,14 @@ instruction_of code payload =
     else if code == 3 then Stop (be16_at payload 0)
     else if code == 4 then Jam (be16_at payload 0) (be16_at payload 2) (jammed_entry payload)
     else Plain
+
+-- MD's commands.
+abbrev pub md_language : Language Instruction
+md_language = record { name = md_name; command_id = command_id; request_id = request_id; codes = md_codes; decode = instruction_of }
+
+-- A jam names an entry of the 25.
+abbrev pub NamesEntry : Instruction → Type 0
+NamesEntry Plain = Unit {0}
+NamesEntry (Start mask) = Unit {0}
+NamesEntry (Stop mask) = Unit {0}
+NamesEntry (Jam table number e) = (0 < number) × (number ≤ 25)

@@ -1,3 +1,4 @@
+pub mod Messages
 pub mod Tables
 pub mod Lists
 pub mod Reading
@@ -7,7 +8,8 @@ pub mod Readings
 pub mod Instructions
 pub mod Verdicts
 pub mod Orders
-pub mod Output
+pub mod Housekeeping
+pub mod Step
 pub mod Streams
-pub mod Standing
+pub mod State
 pub mod Rows

@@ -1,46 +1,36 @@
--- What was heard of the packets of MD's pipe, and what the accepted commands among them make of a table.
-use Rattle.std.specs.Prelude.{ℕ, ◌-◌, ◌/◌, ◌%◌, ◌^◌, ◌==◌, Bool, true, false, if◌then◌else◌, List, map, flat_map, filter_map, slice_set, Option, Some, None}
+-- What the accepted commands make of a table.
+use Rattle.std.specs.Prelude.{ℕ, ◌-◌, ◌/◌, ◌%◌, ◌^◌, ◌==◌, Bool, true, false, if◌then◌else◌, List, flat_map, filter_map, slice_set, Option, Some, None}
 use Rattle.std.specs.List.{fold, list_any}
-use Rattle.packet_forms.specs.Packets.{payload_of}
 use Rattle.histories.specs.Words.{last_or, last_place}
+use Rattle.commands.specs.Verdicts.{orders_in, verdicts_on}
+use Rattle.commands.specs.Inputs.{Input as CommandInput}
 use Rattle.commands.specs.declared.verdicts.Verdict.{Verdict}
-use Rattle.commands.specs.declared.verdicts.Verdict.TheVariants as verdicts
 use Rattle.memory_window.specs.Memory.{Memory}
-use Rattle.md_dwell.specs.Instructions.{instruction_of}
-use Rattle.md_dwell.specs.Verdicts.{verdict_in}
+use Rattle.memory_window.specs.Window.{seen}
+use Rattle.memory_window.specs.declared.window.Window.{Window}
+use Rattle.md_dwell.specs.Verdicts.{md_protocol}
 use Rattle.md_dwell.specs.declared.tables.DwellEntry.{DwellEntry}
 use Rattle.md_dwell.specs.declared.instructions.Instruction.{Instruction}
 use Rattle.md_dwell.specs.declared.instructions.Instruction.TheVariants.{Plain, Start, Stop, Jam}
 
--- What MD reads in a wakeup: the time, the packets of its pipe, and the frame's image of memory.
-pub record Input : Type 0 where
-  pub time : ℕ
-  pub commands : List (List ℕ)
-  pub image : Memory
+-- What MD reads in a wakeup: beside its packets it sees the frame's image of memory.
+abbrev pub Input : Type 0
+Input = CommandInput Memory
 
--- What was made of a packet: the verdict, and what the command asks for where it was accepted.
-pub record Heard : Type 0 where
-  pub verdict : Verdict
-  pub order : Instruction
+-- The input of a wakeup at this time with these packets and this window.
+abbrev pub input_of : ℕ → List (List ℕ) → Window → Input
+input_of now commands window = record { time = now; commands = commands; seen = seen window }
 
--- What is done for a packet with this payload, by its verdict: only an accepted command asks for something.
-abbrev pub order_for : List ℕ → Verdict → Instruction
-order_for payload verdicts.Other = Plain
-order_for payload verdicts.Request = Plain
-order_for payload (verdicts.Refused reason) = Plain
-order_for payload (verdicts.Accepted code) = instruction_of code payload
+-- The verdicts on the packets of a wakeup, and what was ordered in it.
+abbrev pub heard_at : Input → List (Verdict Instruction)
+heard_at input = verdicts_on md_protocol input.seen input.commands
 
--- What is heard of a packet, by the image of its wakeup.
-unfoldable pub heard_in : Memory → List ℕ → Heard
-heard_in image p = record { verdict = verdict_in image p; order = order_for (payload_of p) (verdict_in image p) }
+abbrev pub orders_at : Input → List Instruction
+orders_at input = orders_in (heard_at input)
 
--- What is heard of the packets of a wakeup.
-abbrev pub heard_at : Input → List Heard
-heard_at input = map (heard_in input.image) input.commands
-
--- What is heard of all packets of a history.
-unfoldable pub heard_of : List Input → List Heard
-heard_of history = flat_map heard_at history
+-- What was ordered in all wakeups of a history.
+unfoldable pub orders_of : List Input → List Instruction
+orders_of history = flat_map orders_at history
 
 -- Whether a mask names a table: bit n - 1 is table n.
 abbrev pub names : ℕ → ℕ → Bool
@@ -77,17 +67,17 @@ starts table (Stop mask) = false
 starts table (Jam t number e) = t == table
 
 -- The entries of a table that had these, with all jams written in.
-unfoldable pub entries_after : ℕ → List DwellEntry → List Heard → List DwellEntry
-entries_after table entries heard = fold (λ so_far h. jammed table so_far h.order) entries heard
+unfoldable pub entries_after : ℕ → List DwellEntry → List Instruction → List DwellEntry
+entries_after table entries orders = fold (jammed table) entries orders
 
 -- Whether a table is enabled: by the last order that enables or disables it, or else by its file.
-unfoldable pub is_on_after : ℕ → Bool → List Heard → Bool
-is_on_after table enabled heard = last_or enabled (filter_map (λ h. switch_of table h.order) heard)
+unfoldable pub is_on_after : ℕ → Bool → List Instruction → Bool
+is_on_after table enabled orders = last_or enabled (filter_map (switch_of table) orders)
 
 -- Whether one of these orders starts the stream of a table.
-unfoldable pub starts_in : ℕ → List Heard → Bool
-starts_in table heard = list_any (λ h. starts table h.order) heard
+unfoldable pub starts_in : ℕ → List Instruction → Bool
+starts_in table orders = list_any (starts table) orders
 
 -- The wakeup in which the stream of a table last started: the last one with an order that starts it, or else the first.
 unfoldable pub started_at : ℕ → List Input → ℕ
-started_at table history = last_place (λ input. starts_in table (heard_at input)) history
+started_at table history = last_place (λ input. starts_in table (orders_at input)) history

@@ -3,14 +3,8 @@ use Rattle.std.specs.Prelude.{ℕ, ◌==◌, if◌then◌else◌, List, [], ◌�
 use Rattle.packet_forms.specs.Numbers.{be16_bytes, be32_bytes}
 use Rattle.memory_window.specs.Memory.{Memory}
 use Rattle.memory_window.specs.Access.{read_of}
-use Rattle.memory_window.specs.Window.{seen}
-use Rattle.memory_window.specs.declared.window.Window.{Window}
 use Rattle.memory_window.specs.declared.access.AccessFault.{AccessFault}
 use Rattle.md_dwell.specs.declared.tables.DwellEntry.{DwellEntry}
-
--- The image that a window shows.
-unfoldable pub image_of : Window → Memory
-image_of window = seen window
 
 -- How many bits an entry of length 1, 2 or 4 reads.
 abbrev pub bits_of : ℕ → ℕ

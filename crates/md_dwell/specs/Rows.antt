@@ -11,7 +11,7 @@ bytes_in_wakeup k = record { areas = (record { region = record { kind = Ram; sta
 
 -- A wakeup without packets. From wakeup 2 on the bytes stay as they are.
 abbrev pub quiet : ℕ → Input
-quiet k = record { time = 1000 + k; commands = []; image = bytes_in_wakeup (min k 2) }
+quiet k = record { time = 1000 + k; commands = []; seen = bytes_in_wakeup (min k 2) }
 
 -- An enabled table that reads these three bytes with a delay behind the second, and three tables without entries.
 abbrev pub three_bytes : ℕ → List DwellTable

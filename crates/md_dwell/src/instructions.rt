@@ -1,11 +1,10 @@
 //! What a command asks for.
-ghost use Rattle.std.specs.Prelude.{◌≡◌, true};
-ghost use Rattle.commands.specs.Verdicts.{is_allowed, row_of};
-ghost use Rattle.md_dwell.specs.Instructions.{md_codes, jammed_entry, instruction_of};
+ghost use Rattle.std.specs.Prelude.{◌≡◌};
 
+use crate::messages::{CODES, COMMAND_ID, REQUEST_ID, name};
 use crate::tables::DwellEntry;
-use commands::CodeRow;
-use packet_forms::{be16, be32};
+use commands::{Command, Terms};
+use packet_forms::{Name, be16, be32};
 
 /// What an accepted command asks for. Bit n - 1 of a mask is table n.
 #[derive(Clone, Copy, Debug, PartialEq, Eq)]
@@ -28,60 +27,43 @@ pub(crate) enum Instruction {
     },
 }
 
-/// The function codes of MD, and the lengths of their payloads.
-pub(crate) const CODES: [CodeRow; 5] = [
-    CodeRow {
-        code: 0,
-        least: 0,
-        most: 0,
-    },
-    CodeRow {
-        code: 1,
-        least: 0,
-        most: 0,
-    },
-    CodeRow {
-        code: 2,
-        least: 2,
-        most: 2,
-    },
-    CodeRow {
-        code: 3,
-        least: 2,
-        most: 2,
-    },
-    CodeRow {
-        code: 4,
-        least: 12,
-        most: 12,
-    },
-];
+impl Command for Instruction {
+    ghost use Rattle.md_dwell.specs.Instructions.{md_language};
 
-/// What a command of a code asks for with a payload whose length its row allows.
-#[tactic(auto, unfolding(crate::specs::Instructions::instruction_of, crate::specs::Instructions::md_codes))]
-pub(crate) fn instruction_of(code: u8, payload: &[u8]) -> Instruction
-    requires { is_allowed (row_of md_codes code) payload.now ≡ true }
-    ensures { result ≡ instruction_of code payload.now }
-{
-    if code == 2 {
-        Instruction::Start {
-            mask: be16(payload, 0),
+    ghost language = { md_language };
+
+    fn name() -> Name {
+        name()
+    }
+
+    #[tactic(auto, unfolding(crate::specs::Messages::md_codes))]
+    fn terms() -> Terms {
+        Terms {
+            command_id: COMMAND_ID,
+            request_id: REQUEST_ID,
+            codes: &CODES,
         }
-    } else if code == 3 {
-        Instruction::Stop {
-            mask: be16(payload, 0),
-        }
-    } else if code == 4 {
-        Instruction::Jam {
-            table: be16(payload, 0),
-            number: be16(payload, 2),
-            entry: DwellEntry {
-                len: be16(payload, 4),
-                delay: be16(payload, 6),
-                at: be32(payload, 8),
+    }
+
+    #[tactic(auto, unfolding(crate::specs::Instructions::instruction_of, crate::specs::Messages::md_codes))]
+    fn decode(code: u8, payload: &[u8]) -> Instruction {
+        match code {
+            2 => Instruction::Start {
+                mask: be16(payload, 0),
             },
+            3 => Instruction::Stop {
+                mask: be16(payload, 0),
+            },
+            4 => Instruction::Jam {
+                table: be16(payload, 0),
+                number: be16(payload, 2),
+                entry: DwellEntry {
+                    len: be16(payload, 4),
+                    delay: be16(payload, 6),
+                    at: be32(payload, 8),
+                },
+            },
+            _ => Instruction::Plain,
         }
-    } else {
-        Instruction::Plain
     }
 }

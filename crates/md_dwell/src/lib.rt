@@ -3,18 +3,21 @@
 
 mod answers;
 mod giving;
+mod housekeeping;
 mod instructions;
 pub mod laws;
 mod loading;
+mod messages;
 mod payload;
 mod reading;
+mod state;
 mod step;
 mod streams;
 mod tables;
 mod verdicts;
 
 pub use loading::load_dwell;
-pub use step::Md;
+pub use state::Md;
 pub use tables::{Dwell, DwellEntry};
 
 #[cfg(test)]

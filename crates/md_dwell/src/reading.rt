@@ -1,6 +1,7 @@
 //! What is read of the window.
 ghost use Rattle.std.specs.Prelude.{◌≡◌, ◌+◌, ◌≤◌, ◌++◌, length};
-ghost use Rattle.md_dwell.specs.Reading.{image_of, value_of, entry_bytes, bytes_of_value};
+ghost use Rattle.memory_window.specs.Window.{seen};
+ghost use Rattle.md_dwell.specs.Reading.{value_of, entry_bytes, bytes_of_value};
 ghost use Rattle.md_dwell.specs.Verdicts.{is_readable};
 
 use crate::payload::Payload;
@@ -8,9 +9,9 @@ use crate::tables::DwellEntry;
 use memory_window::Window;
 
 /// Whether an entry has length 0, or its read meets no fault.
-#[tactic(auto, unfolding(crate::specs::Reading::image_of, crate::specs::Reading::value_of, crate::specs::Verdicts::is_readable))]
+#[tactic(auto, unfolding(crate::specs::Reading::value_of, crate::specs::Verdicts::is_readable))]
 pub(crate) fn is_readable(window: Window<'_>, entry: DwellEntry) -> bool
-    ensures { result ≡ is_readable (image_of window.entry) entry }
+    ensures { result ≡ is_readable (seen window.entry) entry }
 {
     if entry.len == 0 {
         return true;
@@ -25,10 +26,10 @@ pub(crate) fn is_readable(window: Window<'_>, entry: DwellEntry) -> bool
 }
 
 /// Puts the bytes of an entry behind the others.
-#[tactic(auto, unfolding(crate::specs::Reading::image_of, crate::specs::Reading::value_of, crate::specs::Reading::entry_bytes, crate::specs::Reading::bytes_of_value, packet_forms::specs::Numbers::be16_bytes, packet_forms::specs::Numbers::be32_bytes))]
+#[tactic(auto, unfolding(crate::specs::Reading::value_of, crate::specs::Reading::entry_bytes, crate::specs::Reading::bytes_of_value, packet_forms::specs::Numbers::be16_bytes, packet_forms::specs::Numbers::be32_bytes))]
 pub(crate) fn read(window: Window<'_>, entry: DwellEntry, bytes: &mut Payload)
     requires { length bytes.old + 4 ≤ 104 }
-    ensures bytes { bytes.new ≡ bytes.old ++ entry_bytes (image_of window.entry) entry }
+    ensures bytes { bytes.new ≡ bytes.old ++ entry_bytes (seen window.entry) entry }
     ensures few { length bytes.new ≤ length bytes.old + 4 }
 {
     if entry.len == 1 {

@@ -1,92 +1,84 @@
 //! Which commands are refused.
-ghost use Rattle.std.specs.Prelude.{◌≡◌, ℕ, true, Option, None};
-ghost use Rattle.packet_forms.specs.Packets.{payload_of};
-ghost use Rattle.commands.specs.Verdicts.{is_allowed, row_of};
-ghost use Rattle.md_dwell.specs.Reading.{image_of};
-ghost use Rattle.md_dwell.specs.Instructions.{md_codes, instruction_of};
-ghost use Rattle.md_dwell.specs.Verdicts.{mask_refusal, jam_refusal, own_refusal, verdict_in, CanBeDone, NamesEntry};
-ghost use Rattle.md_dwell.specs.Orders.{order_for};
+ghost use Rattle.std.specs.Prelude.{◌≡◌};
+ghost use Rattle.memory_window.specs.Window.{seen};
+ghost use Rattle.md_dwell.specs.Verdicts.{mask_refusal, jam_refusal, own_refusal};
 
-use crate::instructions::{CODES, Instruction, instruction_of};
+use crate::instructions::Instruction;
 use crate::reading::is_readable;
 use crate::tables::DwellEntry;
-use commands::{Verdict, first_verdict};
+use commands::Reason;
 use memory_window::Window;
-use packet_forms::Packet;
 
-/// What MD makes of a packet.
-#[tactic(auto, unfolding(crate::specs::Verdicts::verdict_in))]
-pub(crate) fn verdict_in(window: Window<'_>, packet: &Packet) -> Verdict
-    ensures verdict { result ≡ verdict_in (image_of window.entry) packet.now }
-    ensures sound { (code : ℕ) → result ≡ Verdict.Accepted code → CanBeDone (image_of window.entry) code (payload_of packet.now) }
-{
-    match first_verdict(packet, 0x1890, 0x1891, &CODES) {
-        Verdict::Accepted(code) => {
-            match own_refusal(window, instruction_of(code, packet.payload())) {
-                None => Verdict::Accepted(code),
-                Some(reason) => Verdict::Refused(reason),
-            }
+/// Why a command is refused.
+#[derive(Clone, Copy, Debug, PartialEq, Eq)]
+pub(crate) enum Refusal {
+    /// There is no such table, or the mask names none.
+    Table,
+    /// There is no such entry.
+    Entry,
+    /// The entry's length isn't 0, 1, 2 or 4.
+    Length,
+    /// The entry's read is refused.
+    Read,
+}
+
+impl Reason for Refusal {
+    ghost use Rattle.md_dwell.specs.Verdicts.{number_of};
+
+    ghost number = { number_of };
+
+    fn number(self) -> u8 {
+        match self {
+            Refusal::Table => 4,
+            Refusal::Entry => 5,
+            Refusal::Length => 6,
+            Refusal::Read => 7,
         }
-        Verdict::Refused(reason) => Verdict::Refused(reason),
-        Verdict::Request => Verdict::Request,
-        Verdict::Other => Verdict::Other,
     }
 }
 
-/// What is done for a packet.
-pub(crate) fn order_for(window: Window<'_>, packet: &Packet, verdict: Verdict) -> Instruction
-    requires { (code : ℕ) → verdict ≡ Verdict.Accepted code → CanBeDone (image_of window) code (payload_of packet.now) }
-    ensures order { result ≡ order_for (payload_of packet.now) verdict }
-    ensures passes { own_refusal (image_of window.entry) result ≡ None }
-{
-    let Verdict::Accepted(code) = verdict else {
-        return Instruction::Plain;
-    };
-    instruction_of(code, packet.payload())
-}
-
-// A command's own refusal.
-fn own_refusal(window: Window<'_>, instruction: Instruction) -> Option<u8>
-    ensures { result ≡ own_refusal (image_of window.entry) instruction }
+/// A command's own refusal.
+pub(crate) fn own_refusal(window: Window<'_>, instruction: &Instruction) -> Option<Refusal>
+    ensures { result ≡ own_refusal (seen window.entry) instruction.now }
 {
     match instruction {
         Instruction::Plain => None,
-        Instruction::Start { mask } => mask_refusal(mask),
-        Instruction::Stop { mask } => mask_refusal(mask),
+        Instruction::Start { mask } => mask_refusal(*mask),
+        Instruction::Stop { mask } => mask_refusal(*mask),
         Instruction::Jam {
             table,
             number,
             entry,
-        } => jam_refusal(window, table, number, entry),
+        } => jam_refusal(window, *table, *number, *entry),
     }
 }
 
 // The refusal of a mask that names no table or one over 4.
-fn mask_refusal(mask: u16) -> Option<u8>
+fn mask_refusal(mask: u16) -> Option<Refusal>
     ensures { result ≡ mask_refusal mask }
 {
     if mask == 0 || mask > 15 {
-        Some(4)
+        Some(Refusal::Table)
     } else {
         None
     }
 }
 
-fn jam_refusal(window: Window<'_>, table: u16, number: u16, entry: DwellEntry) -> Option<u8>
-    ensures { result ≡ jam_refusal (image_of window.entry) table number entry }
+fn jam_refusal(window: Window<'_>, table: u16, number: u16, entry: DwellEntry) -> Option<Refusal>
+    ensures { result ≡ jam_refusal (seen window.entry) table number entry }
 {
     if table == 0 || table > 4 {
-        return Some(4);
+        return Some(Refusal::Table);
     }
     if number == 0 || number > 25 {
-        return Some(5);
+        return Some(Refusal::Entry);
     }
     if !entry.has_length() {
-        return Some(6);
+        return Some(Refusal::Length);
     }
     if is_readable(window, entry) {
         None
     } else {
-        Some(7)
+        Some(Refusal::Read)
     }
 }

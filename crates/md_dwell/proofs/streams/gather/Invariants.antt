@@ -1,6 +1,6 @@
 use Rattle.std.proofs.Common.{◌*◌, ◌≤◌, ◌++◌, ◌∷◌, [], ℕ, List, length}
 use Rattle.memory_window.specs.Memory.{Memory}
-use Rattle.md_dwell.specs.Reading.{image_of}
+use Rattle.memory_window.specs.Window.{seen}
 use Rattle.md_dwell.specs.Readings.{IsReadTo}
 use Rattle.md_dwell.proofs.streams.gather.Given as goal
 
@@ -8,5 +8,5 @@ use Rattle.md_dwell.proofs.streams.gather.Given as goal
 abbrev pub invariant-loop-i : goal.invariant-loop-i
 invariant-loop-i l = record {
   held : length l.bytes ≤ 4 * l.i;
-  read : (from : ℕ) (past : List Memory) → IsReadTo l.list from (past ++ image_of l.window ∷ []) l.fn.next 0 l.fn.bytes → IsReadTo l.list from (past ++ image_of l.window ∷ []) l.i 0 l.bytes;
+  read : (from : ℕ) (past : List Memory) → IsReadTo l.list from (past ++ seen l.window ∷ []) l.fn.next 0 l.fn.bytes → IsReadTo l.list from (past ++ seen l.window ∷ []) l.i 0 l.bytes;
 }

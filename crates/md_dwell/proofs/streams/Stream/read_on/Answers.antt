@@ -2,12 +2,13 @@ use Rattle.std.proofs.Common.{◌≡◌, ◌<◌, ◌≤◌, ◌+◌, ◌*◌, �
 use Rattle.bus_pipes.specs.Held.{adding}
 use Rattle.bus_pipes.proofs.Deliveries.{adding_none}
 use Rattle.md_dwell.specs.Lists.{list_of, delays}
-use Rattle.md_dwell.specs.Reading.{image_of}
+use Rattle.memory_window.specs.Window.{seen}
 use Rattle.bus_pipes.specs.declared.names.Out.TheVariants.{Made}
-use Rattle.md_dwell.specs.Output.{dwell_items, dwell_packet}
+use Rattle.md_dwell.specs.Step.{dwell_items, dwell_packet}
 use Rattle.md_dwell.specs.Rounds.{round_at}
 use Rattle.md_dwell.specs.Readings.{IsReadTo}
-use Rattle.md_dwell.proofs.Counts.{counted_more, dwell_counted}
+use Rattle.md_dwell.proofs.Counts.{dwell_counted}
+use Rattle.commands.proofs.Heard.{counted_more}
 use Rattle.md_dwell.proofs.Courses.{paused, again, round_over}
 use Rattle.md_dwell.proofs.streams.Stream.read_on.Goals as goal
 use Rattle.md_dwell.proofs.streams.Stream.read_on.Goals.{Then-self-list}
@@ -15,7 +16,7 @@ use Rattle.md_dwell.proofs.streams.Stream.read_on.Goals.{Then-self-list}
 pub returns-then-self-list-clause-items : goal.returns-then-self-list-clause-items
 returns-then-self-list-clause-items c = λ since r past some_delay held.
     let list = list_of c.args.self.now.plan in
-    let image = image_of c.args.window in
+    let image = seen c.args.window in
     let new = c.gather.new.self in
     let same : c.list.result.now ≡ list = c.list.ensures.list ∙ ap list_of c.gather.ensures.plan in
     let within : new.next < length list = rw (← same) c.if-self-list.true in
@@ -26,7 +27,7 @@ returns-then-self-list-clause-items c = λ since r past some_delay held.
 pub returns-then-self-eq0-clause-stands : goal.returns-then-self-eq0-clause-stands
 returns-then-self-eq0-clause-stands c = λ since r past some_delay held.
     let list = list_of c.args.self.now.plan in
-    let image = image_of c.args.window in
+    let image = seen c.args.window in
     let read = c.gather.ensures.read list (since + r * delays list) past refl held.read in
     let last = c.gather.ensures.last list (since + r * delays list) past refl held.within held.read in
     let round = round_over since r past image c.args.self.now c.gather.new.self c.list.result.now some_delay held c.list.ensures.list c.gather.ensures.plan c.if-self-list.false read last in
@@ -47,7 +48,7 @@ returns-then-self-eq0-clause-stands c = λ since r past some_delay held.
 pub returns-then-self-eq0-clause-items : goal.returns-then-self-eq0-clause-items
 returns-then-self-eq0-clause-items c = λ since r past some_delay held.
     let list = list_of c.args.self.now.plan in
-    let image = image_of c.args.window in
+    let image = seen c.args.window in
     let read = c.gather.ensures.read list (since + r * delays list) past refl held.read in
     let last = c.gather.ensures.last list (since + r * delays list) past refl held.within held.read in
     let round = round_over since r past image c.args.self.now c.gather.new.self c.list.result.now some_delay held c.list.ensures.list c.gather.ensures.plan c.if-self-list.false read last in
@@ -58,7 +59,7 @@ returns-then-self-eq0-clause-items c = λ since r past some_delay held.
 pub returns-else-self-eq0-clause-stands : goal.returns-else-self-eq0-clause-stands
 returns-else-self-eq0-clause-stands c = λ since r past some_delay held.
     let list = list_of c.args.self.now.plan in
-    let image = image_of c.args.window in
+    let image = seen c.args.window in
     let read = c.gather.ensures.read list (since + r * delays list) past refl held.read in
     let last = c.gather.ensures.last list (since + r * delays list) past refl held.within held.read in
     let round = round_over since r past image c.args.self.now c.gather.new.self c.list.result.now some_delay held c.list.ensures.list c.gather.ensures.plan c.if-self-list.false read last in
@@ -69,7 +70,7 @@ returns-else-self-eq0-clause-stands c = λ since r past some_delay held.
 pub returns-else-self-eq0-clause-items : goal.returns-else-self-eq0-clause-items
 returns-else-self-eq0-clause-items c = λ since r past some_delay held.
     let list = list_of c.args.self.now.plan in
-    let image = image_of c.args.window in
+    let image = seen c.args.window in
     let read = c.gather.ensures.read list (since + r * delays list) past refl held.read in
     let last = c.gather.ensures.last list (since + r * delays list) past refl held.within held.read in
     let round = round_over since r past image c.args.self.now c.gather.new.self c.list.result.now some_delay held c.list.ensures.list c.gather.ensures.plan c.if-self-list.false read last in

@@ -1,0 +1,30 @@
+//! MD's name, its message ids, and the codes of its commands.
+ghost use Rattle.std.specs.Prelude.{◌≡◌};
+ghost use Rattle.packet_forms.specs.Names.{is_name_text};
+ghost use Rattle.md_dwell.specs.Messages.{md_name};
+
+use commands::{CodeRow, named};
+use packet_forms::Name;
+
+pub(crate) const COMMAND_ID: u16 = 0x1890;
+pub(crate) const REQUEST_ID: u16 = 0x1891;
+pub(crate) const HOUSEKEEPING_ID: u16 = 0x0890;
+/// The dwell packets of table n have the n-th id behind this one.
+pub(crate) const DWELL_ID: u16 = 0x0890;
+
+/// No-op, reset counters, start, stop, jam.
+pub(crate) const CODES: [CodeRow; 5] = [
+    CodeRow(0, 0, 0),
+    CodeRow(1, 0, 0),
+    CodeRow(2, 2, 2),
+    CodeRow(3, 2, 2),
+    CodeRow(4, 12, 12),
+];
+
+/// MD's name.
+#[tactic(auto, unfolding(crate::specs::Messages::md_name, packet_forms::specs::Names::is_name_text))]
+pub(crate) fn name() -> Name
+    ensures { result ≡ md_name }
+{
+    named("MD")
+}
