@@ -6,6 +6,6 @@ pub mod Tallying
 pub mod Wakeups
 pub mod Slicing
 pub mod Handling
-pub mod Counted
 pub mod Refusing
 pub mod Following
+pub mod Taking

@@ -10,10 +10,11 @@ use Rattle.histories.proofs.Lasts.{last_or_more, last_cases, any_push, from_last
 use Rattle.histories.proofs.Fronts.{flat_map_more}
 use Rattle.packet_forms.specs.Crc.{crc_of}
 use Rattle.packet_forms.proofs.Checks.{crc_both, crc_none}
-use Rattle.cs_slices.specs.Orders.{Heard, turns_off}
+use Rattle.cs_slices.specs.declared.instructions.Instruction.{Instruction}
+use Rattle.cs_slices.specs.Orders.{turns_off}
 use Rattle.cs_slices.specs.Slices.{Slice, place_behind, current_place, goes_on, has_begun, offset_at}
 use Rattle.cs_slices.specs.Passes.{pass_bytes, begun_bytes}
-use Rattle.cs_slices.specs.Standing.{PassingStands}
+use Rattle.cs_slices.specs.State.{PassingStands}
 use Rattle.cs_slices.specs.declared.passing.Passing.{Passing}
 
 -- by one more slice
@@ -21,22 +22,22 @@ pub current_more : (slices : List Slice) (s : Slice) → current_place (slices +
 unfolding current_place
 current_more slices s = ap (last_or 0) (map_push place_behind slices s) ∙ last_or_more 0 (map place_behind slices) (place_behind s)
 
-pub begun_more : (place : ℕ) (slices : List Slice) (s : Slice) (since : List Heard) → has_begun place (slices ++ s ∷ []) since ≡ goes_on place since s
+pub begun_more : (place : ℕ) (slices : List Slice) (s : Slice) (since : List Instruction) → has_begun place (slices ++ s ∷ []) since ≡ goes_on place since s
 unfolding has_begun
 begun_more place slices s since = ap (last_or false) (map_push (goes_on place since) slices s) ∙ last_or_more false (map (goes_on place since) slices) (goes_on place since s)
 
-pub offset_more : (place : ℕ) (slices : List Slice) (s : Slice) (since : List Heard) → offset_at place (slices ++ s ∷ []) since ≡ cond (goes_on place since s) s.till 0
+pub offset_more : (place : ℕ) (slices : List Slice) (s : Slice) (since : List Instruction) → offset_at place (slices ++ s ∷ []) since ≡ cond (goes_on place since s) s.till 0
 unfolding offset_at
 offset_more place slices s since =
     let at : Slice → ℕ = λ x. cond (goes_on place since x) x.till 0 in
     ap (last_or 0) (map_push at slices s) ∙ last_or_more 0 (map at slices) (at s)
 
 -- before any slice
-begun_none : (place : ℕ) (since : List Heard) → has_begun place [] since ≡ false
+begun_none : (place : ℕ) (since : List Instruction) → has_begun place [] since ≡ false
 unfolding has_begun last_or
 begun_none place since = refl
 
-pub offset_none : (place : ℕ) (since : List Heard) → offset_at place [] since ≡ 0
+pub offset_none : (place : ℕ) (since : List Instruction) → offset_at place [] since ≡ 0
 unfolding offset_at last_or
 offset_none place since = refl
 
@@ -45,64 +46,64 @@ unfolding current_place last_or
 current_none = refl
 
 -- no pass, no bytes
-none_begun : (slices : List Slice) (since : List Heard) → has_begun (current_place slices) slices since ≡ false → 0 ≡ crc_of 0 (begun_bytes slices since)
+none_begun : (slices : List Slice) (since : List Instruction) → has_begun (current_place slices) slices since ≡ false → 0 ≡ crc_of 0 (begun_bytes slices since)
 unfolding begun_bytes
 none_begun slices since none = rw none (sym (crc_none 0))
 
 -- whether a pass goes on behind a slice of another place, or one that ended, or where something was switched off
-ended : (place : ℕ) (since : List Heard) (s : Slice) → s.ends ≡ true → goes_on place since s ≡ false
-ended place since s ends = rw ends (by_case (s.place == place) (not (list_any (λ (h : Heard). turns_off place h.order) since)))
+ended : (place : ℕ) (since : List Instruction) (s : Slice) → s.ends ≡ true → goes_on place since s ≡ false
+ended place since s ends = rw ends (by_case (s.place == place) (not (list_any (turns_off place) since)))
   where
     by_case : (a b : Bool) → (a && false && b) ≡ false
     by_case true b = refl
     by_case false b = refl
 
-elsewhere : (place : ℕ) (since : List Heard) (s : Slice) → (s.place == place) ≡ false → goes_on place since s ≡ false
+elsewhere : (place : ℕ) (since : List Instruction) (s : Slice) → (s.place == place) ≡ false → goes_on place since s ≡ false
 elsewhere place since s other = rw other refl
 
 still : (place : ℕ) (s : Slice) → s.place ≡ place → s.ends ≡ false → goes_on place [] s ≡ true
 still place s same ends = rw (ends, eq-eqb s.place place same) refl
 
-turned : (place : ℕ) (since : List Heard) (h : Heard) (s : Slice) → turns_off place h.order ≡ true → goes_on place (since ++ h ∷ []) s ≡ false
+turned : (place : ℕ) (since : List Instruction) (h : Instruction) (s : Slice) → turns_off place h ≡ true → goes_on place (since ++ h ∷ []) s ≡ false
 turned place since h s off =
-    rw (any_push (λ (x : Heard). turns_off place x.order) since h, off)
-    (by_case ((s.place == place) && not s.ends) (list_any (λ (x : Heard). turns_off place x.order) since))
+    rw (any_push (turns_off place) since h, off)
+    (by_case ((s.place == place) && not s.ends) (list_any (turns_off place) since))
   where
     by_case : (a b : Bool) → (a && not (b || true)) ≡ false
     by_case true true = refl
     by_case true false = refl
     by_case false b = refl
 
-kept : (place : ℕ) (since : List Heard) (h : Heard) (s : Slice) → turns_off place h.order ≡ false → goes_on place (since ++ h ∷ []) s ≡ goes_on place since s
+kept : (place : ℕ) (since : List Instruction) (h : Instruction) (s : Slice) → turns_off place h ≡ false → goes_on place (since ++ h ∷ []) s ≡ goes_on place since s
 kept place since h s on =
-    rw (any_push (λ (x : Heard). turns_off place x.order) since h, on)
-    (by_case ((s.place == place) && not s.ends) (list_any (λ (x : Heard). turns_off place x.order) since))
+    rw (any_push (turns_off place) since h, on)
+    (by_case ((s.place == place) && not s.ends) (list_any (turns_off place) since))
   where
     by_case : (a b : Bool) → (a && not (b || false)) ≡ (a && not b)
     by_case a true = refl
     by_case a false = refl
 
 -- what was begun at one more packet
-pub stands_turned : (slices : List Slice) (since : List Heard) (h : Heard) (p q : Passing) → PassingStands slices since p → turns_off p.place h.order ≡ true → q.place ≡ p.place → q.offset ≡ 0 → q.check ≡ 0 → PassingStands slices (since ++ h ∷ []) q
+pub stands_turned : (slices : List Slice) (since : List Instruction) (h : Instruction) (p q : Passing) → PassingStands slices since p → turns_off p.place h ≡ true → q.place ≡ p.place → q.offset ≡ 0 → q.check ≡ 0 → PassingStands slices (since ++ h ∷ []) q
 stands_turned slices since h p q stood off place offset check =
-    let cut : turns_off (current_place slices) h.order ≡ true = subst (λ (n : ℕ). turns_off n h.order ≡ true) stood.place off in
+    let cut : turns_off (current_place slices) h ≡ true = subst (λ (n : ℕ). turns_off n h ≡ true) stood.place off in
     let none = all_turned (current_place slices) slices cut in
     record { place = place ∙ stood.place; offset = offset ∙ sym none.1; check = check ∙ none_begun slices (since ++ h ∷ []) none.0 }
   where
-    all_turned : (place : ℕ) (slices : List Slice) → turns_off place h.order ≡ true → (has_begun place slices (since ++ h ∷ []) ≡ false) × (offset_at place slices (since ++ h ∷ []) ≡ 0)
+    all_turned : (place : ℕ) (slices : List Slice) → turns_off place h ≡ true → (has_begun place slices (since ++ h ∷ []) ≡ false) × (offset_at place slices (since ++ h ∷ []) ≡ 0)
     all_turned place slices off = elim (last_cases slices) [
       | inl none ↦ rw none (begun_none place (since ++ h ∷ []), offset_none place (since ++ h ∷ []))
       | inr found ↦ rw found.2 (begun_more place found.0 found.1 (since ++ h ∷ []) ∙ turned place since h found.1 off, offset_more place found.0 found.1 (since ++ h ∷ []) ∙ ap (λ (b : Bool). cond b found.1.till 0) (turned place since h found.1 off))
     ]
 
-pub stands_kept : (slices : List Slice) (since : List Heard) (h : Heard) (p : Passing) → PassingStands slices since p → turns_off p.place h.order ≡ false → PassingStands slices (since ++ h ∷ []) p
+pub stands_kept : (slices : List Slice) (since : List Instruction) (h : Instruction) (p : Passing) → PassingStands slices since p → turns_off p.place h ≡ false → PassingStands slices (since ++ h ∷ []) p
 unfolding begun_bytes
 stands_kept slices since h p stood on =
-    let uncut : turns_off (current_place slices) h.order ≡ false = subst (λ (n : ℕ). turns_off n h.order ≡ false) stood.place on in
+    let uncut : turns_off (current_place slices) h ≡ false = subst (λ (n : ℕ). turns_off n h ≡ false) stood.place on in
     let same = all_kept (current_place slices) slices uncut in
     record { place = stood.place; offset = stood.offset ∙ sym same.1; check = stood.check ∙ ap (λ (b : Bool). crc_of 0 (cond b (pass_bytes (current_place slices) slices) [])) (sym same.0) }
   where
-    all_kept : (place : ℕ) (slices : List Slice) → turns_off place h.order ≡ false → (has_begun place slices (since ++ h ∷ []) ≡ has_begun place slices since) × (offset_at place slices (since ++ h ∷ []) ≡ offset_at place slices since)
+    all_kept : (place : ℕ) (slices : List Slice) → turns_off place h ≡ false → (has_begun place slices (since ++ h ∷ []) ≡ has_begun place slices since) × (offset_at place slices (since ++ h ∷ []) ≡ offset_at place slices since)
     all_kept place slices on = elim (last_cases slices) [
       | inl none ↦ rw none (begun_none place (since ++ h ∷ []) ∙ sym (begun_none place since), offset_none place (since ++ h ∷ []) ∙ sym (offset_none place since))
       | inr found ↦ rw found.2 (
@@ -140,7 +141,7 @@ stands_begun slices s place till check p same to ends is at offset of =
     }
 
 -- another place than the current one begins at its first byte
-pub offset_elsewhere : (place : ℕ) (slices : List Slice) (since : List Heard) → place ≢ current_place slices → offset_at place slices since ≡ 0
+pub offset_elsewhere : (place : ℕ) (slices : List Slice) (since : List Instruction) → place ≢ current_place slices → offset_at place slices since ≡ 0
 offset_elsewhere place slices since other = elim (last_cases slices) [
   | inl none ↦ rw none (offset_none place since)
   | inr found ↦ rw found.2 (offset_more place found.0 found.1 since ∙ by_end found.1 (subst (λ (n : ℕ). place ≢ n) (ap current_place found.2 ∙ current_more found.0 found.1) other) found.1.ends refl)
@@ -153,7 +154,7 @@ offset_elsewhere place slices since other = elim (last_cases slices) [
         ap (λ (b : Bool). cond b s.till 0) (elsewhere place since s (ne_eqb s.place place not_here))
 
 -- where a place doesn't begin at its first byte, it is the current one, and its pass has begun
-pub offset_begun : (place : ℕ) (slices : List Slice) (since : List Heard) → offset_at place slices since ≢ 0 → (current_place slices ≡ place) × (has_begun place slices since ≡ true)
+pub offset_begun : (place : ℕ) (slices : List Slice) (since : List Instruction) → offset_at place slices since ≢ 0 → (current_place slices ≡ place) × (has_begun place slices since ≡ true)
 offset_begun place slices since some = elim (last_cases slices) [
   | inl none ↦ absurd (some (ap (λ (xs : List Slice). offset_at place xs since) none ∙ offset_none place since))
   | inr found ↦ rw found.2 (by_going found.0 found.1 (λ zero. some (ap (λ (xs : List Slice). offset_at place xs since) found.2 ∙ offset_more place found.0 found.1 since ∙ zero)) (goes_on place since found.1) refl)
@@ -171,8 +172,8 @@ offset_begun place slices since some = elim (last_cases slices) [
     by_going : (slices : List Slice) (s : Slice) → cond (goes_on place since s) s.till 0 ≢ 0 → (b : Bool) → goes_on place since s ≡ b → (current_place (slices ++ s ∷ []) ≡ place) × (has_begun place (slices ++ s ∷ []) since ≡ true)
     by_going slices s some false going = absurd (some (rw going refl))
     by_going slices s some true going =
-        let here : s.place ≡ place = eqb-true s.place place (first_of_three (s.place == place) (not s.ends) (not (list_any (λ (h : Heard). turns_off place h.order) since)) going) in
-        let goes : s.ends ≡ false = second_of_three (s.place == place) s.ends (not (list_any (λ (h : Heard). turns_off place h.order) since)) going in
+        let here : s.place ≡ place = eqb-true s.place place (first_of_three (s.place == place) (not s.ends) (not (list_any (turns_off place) since)) going) in
+        let goes : s.ends ≡ false = second_of_three (s.place == place) s.ends (not (list_any (turns_off place) since)) going in
         (current_more slices s ∙ rw goes here, begun_more place slices s since ∙ going)
 
 -- the bytes of a pass at one more slice of its place
@@ -206,7 +207,7 @@ bytes_more place slices s same later =
 pub check_first : (place check : ℕ) (slices : List Slice) (s : Slice) (bytes : List ℕ) → s.place ≡ place → s.from ≡ 0 → s.bytes ≡ bytes → check ≡ crc_of 0 bytes → check ≡ crc_of 0 (pass_bytes place (slices ++ s ∷ []))
 check_first place check slices s bytes same first are is = is ∙ ap (crc_of 0) (sym are ∙ sym (bytes_first place slices s same first))
 
-pub check_more : (place check : ℕ) (slices : List Slice) (since : List Heard) (s : Slice) (bytes : List ℕ) (p : Passing) → PassingStands slices since p → s.place ≡ place → s.from ≢ 0 → s.from ≡ offset_at place slices since → s.bytes ≡ bytes
+pub check_more : (place check : ℕ) (slices : List Slice) (since : List Instruction) (s : Slice) (bytes : List ℕ) (p : Passing) → PassingStands slices since p → s.place ≡ place → s.from ≢ 0 → s.from ≡ offset_at place slices since → s.bytes ≡ bytes
     → check ≡ crc_of p.check bytes → check ≡ crc_of 0 (pass_bytes place (slices ++ s ∷ []))
 unfolding begun_bytes
 check_more place check slices since s bytes p stood same later from are is =

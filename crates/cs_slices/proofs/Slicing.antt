@@ -8,14 +8,16 @@ use Rattle.bus_pipes.proofs.Deliveries.{adding_none}
 use Rattle.packet_forms.specs.Built.{event_of}
 use Rattle.packet_forms.specs.Crc.{crc_of}
 use Rattle.memory_window.specs.Memory.{Memory}
+use Rattle.cs_slices.specs.declared.instructions.Instruction.{Instruction}
 use Rattle.cs_slices.specs.Tables.{entry_in}
-use Rattle.cs_slices.specs.Orders.{Heard, takes_part}
+use Rattle.cs_slices.specs.Orders.{takes_part}
 use Rattle.cs_slices.specs.Slices.{Slice, current_place, offset_at, entry_bytes, slice_from, ring_from, next_slice, since_behind}
 use Rattle.cs_slices.specs.Passes.{pass_bytes, baseline, differs, miscompares}
-use Rattle.cs_slices.specs.Output.{cs_name, slice_items}
-use Rattle.cs_slices.specs.Standing.{StandsAt}
+use Rattle.cs_slices.specs.Step.{slice_items}
+use Rattle.cs_slices.specs.Messages.{cs_name}
+use Rattle.cs_slices.specs.State.{StandsAt}
 use Rattle.cs_slices.specs.declared.segments.Segment.{Segment}
-use Rattle.cs_slices.specs.declared.step.Cs.{Cs}
+use Rattle.cs_slices.specs.declared.state.Course.{Course}
 
 -- a slice is what was read
 pub record IsRead (s : Slice) (at begin size len : ℕ) (those : List ℕ) : Type 0 where
@@ -56,18 +58,18 @@ unfolding miscompares
 quiet_before_end slices s goes = ap (λ (b : Bool). b && differs (baseline s.place slices) (crc_of 0 (pass_bytes s.place (slices ++ s ∷ [])))) goes
 
 -- the next slice by the place that was found
-pub next_none : (entries : List Segment) (heard : List Heard) (slices : List Slice) (since : List Heard) (image : Memory) → None ≡ find (takes_part entries heard) (ring_from (current_place slices)) → next_slice entries heard slices since image ≡ None
+pub next_none : (entries : List Segment) (orders : List Instruction) (slices : List Slice) (since : List Instruction) (image : Memory) → None ≡ find (takes_part entries orders) (ring_from (current_place slices)) → next_slice entries orders slices since image ≡ None
 unfolding next_slice
-next_none entries heard slices since image none = rw (← none) refl
+next_none entries orders slices since image none = rw (← none) refl
 
-pub next_some : (entries : List Segment) (heard : List Heard) (slices : List Slice) (since : List Heard) (image : Memory) (place : ℕ) → Some place ≡ find (takes_part entries heard) (ring_from (current_place slices))
-    → next_slice entries heard slices since image ≡ Some (slice_from image (entry_in entries place) place (offset_at place slices since))
+pub next_some : (entries : List Segment) (orders : List Instruction) (slices : List Slice) (since : List Instruction) (image : Memory) (place : ℕ) → Some place ≡ find (takes_part entries orders) (ring_from (current_place slices))
+    → next_slice entries orders slices since image ≡ Some (slice_from image (entry_in entries place) place (offset_at place slices since))
 unfolding next_slice
-next_some entries heard slices since image place found = rw (← found) refl
+next_some entries orders slices since image place found = rw (← found) refl
 
 -- the state after the next slice
-pub stands_unread : (entries : List Segment) (heard : List Heard) (slices : List Slice) (since : List Heard) (next : Option Slice) (cs : Cs) → StandsAt entries heard slices since cs → next ≡ None → StandsAt entries heard (slices ++ option_to_list next) (since_behind next since) cs
-stands_unread entries heard slices since next cs stood none = rw (none, append-nil slices) stood
+pub stands_unread : (entries : List Segment) (orders : List Instruction) (slices : List Slice) (since : List Instruction) (next : Option Slice) (course : Course) → StandsAt entries orders slices since course → next ≡ None → StandsAt entries orders (slices ++ option_to_list next) (since_behind next since) course
+stands_unread entries orders slices since next course stood none = rw (none, append-nil slices) stood
 
-pub stands_read : (entries : List Segment) (heard : List Heard) (slices : List Slice) (since : List Heard) (next : Option Slice) (s : Slice) (cs : Cs) → StandsAt entries heard (slices ++ s ∷ []) [] cs → next ≡ Some s → StandsAt entries heard (slices ++ option_to_list next) (since_behind next since) cs
-stands_read entries heard slices since next s cs stood found = rw found stood
+pub stands_read : (entries : List Segment) (orders : List Instruction) (slices : List Slice) (since : List Instruction) (next : Option Slice) (s : Slice) (course : Course) → StandsAt entries orders (slices ++ s ∷ []) [] course → next ≡ Some s → StandsAt entries orders (slices ++ option_to_list next) (since_behind next since) course
+stands_read entries orders slices since next s course stood found = rw found stood

@@ -6,9 +6,10 @@ use Rattle.std.proofs.lemmas.Bool.{eqb-true, eqb-false}
 use Rattle.std.proofs.lemmas.List.Elements.{filter_map-append}
 use Rattle.histories.specs.Words.{last_or}
 use Rattle.histories.proofs.Lasts.{last_or_more}
+use Rattle.cs_slices.specs.declared.instructions.Instruction.{Instruction}
 use Rattle.cs_slices.specs.Tables.{entry_in}
-use Rattle.cs_slices.specs.Orders.{Heard, cs_switch, table_switch, entry_switch, is_cs_on, is_table_on, is_entry_on, table_of, takes_part}
-use Rattle.cs_slices.specs.Standing.{SwitchesStand}
+use Rattle.cs_slices.specs.Orders.{cs_switch, table_switch, entry_switch, is_cs_on, is_table_on, is_entry_on, table_of, takes_part}
+use Rattle.cs_slices.specs.State.{SwitchesStand}
 use Rattle.cs_slices.specs.declared.segments.Segment.{Segment}
 use Rattle.cs_slices.specs.declared.switches.Switches.{Switches}
 
@@ -18,12 +19,12 @@ switched None on = on
 switched (Some to) on = to
 
 -- the last switching at one more packet
-last_switch : (f : Heard → Option Bool) (d : Bool) (heard : List Heard) (h : Heard) → last_or d (filter_map f (heard ++ h ∷ [])) ≡ switched (f h) (last_or d (filter_map f heard))
-last_switch f d heard h = ap (last_or d) (filter_map-append f heard (h ∷ [])) ∙ by_option (f h)
+last_switch : (f : Instruction → Option Bool) (d : Bool) (orders : List Instruction) (h : Instruction) → last_or d (filter_map f (orders ++ h ∷ [])) ≡ switched (f h) (last_or d (filter_map f orders))
+last_switch f d orders h = ap (last_or d) (filter_map-append f orders (h ∷ [])) ∙ by_option (f h)
   where
-    by_option : (o : Option Bool) → last_or d (filter_map f heard ++ cons_option o []) ≡ switched o (last_or d (filter_map f heard))
-    by_option None = ap (last_or d) (append-nil (filter_map f heard))
-    by_option (Some to) = last_or_more d (filter_map f heard) to
+    by_option : (o : Option Bool) → last_or d (filter_map f orders ++ cons_option o []) ≡ switched o (last_or d (filter_map f orders))
+    by_option None = ap (last_or d) (append-nil (filter_map f orders))
+    by_option (Some to) = last_or_more d (filter_map f orders) to
 
 -- one switch of many, after one of them was set
 pub set_switch : (xs : List Bool) (i k : ℕ) (on : Bool) → i < length xs → get_or (set xs i on) k false ≡ switched (cond (i == k) (Some on) None) (get_or xs k false)
@@ -34,17 +35,17 @@ set_switch xs i k on within = by_case (i == k) refl
     by_case false other = let e : i ≢ k = eqb-false i k other in get_or-set_other xs i k on false (λ back. e (sym back))
 
 -- all switches after an order
-pub switches_after : (entries : List Segment) (heard : List Heard) (h : Heard) (s t : Switches) → SwitchesStand entries heard s
-    → t.cs ≡ switched (cs_switch h.order) s.cs → t.eeprom ≡ switched (table_switch 1 h.order) s.eeprom → t.memory ≡ switched (table_switch 2 h.order) s.memory
-    → length t.entries ≡ length s.entries → ((k : ℕ) → k < 32 → get_or t.entries k false ≡ switched (entry_switch k h.order) (get_or s.entries k false))
-    → SwitchesStand entries (heard ++ h ∷ []) t
+pub switches_after : (entries : List Segment) (orders : List Instruction) (h : Instruction) (s t : Switches) → SwitchesStand entries orders s
+    → t.cs ≡ switched (cs_switch h) s.cs → t.eeprom ≡ switched (table_switch 1 h) s.eeprom → t.memory ≡ switched (table_switch 2 h) s.memory
+    → length t.entries ≡ length s.entries → ((k : ℕ) → k < 32 → get_or t.entries k false ≡ switched (entry_switch k h) (get_or s.entries k false))
+    → SwitchesStand entries (orders ++ h ∷ []) t
 unfolding is_cs_on is_table_on is_entry_on
-switches_after entries heard h s t stood cs eeprom memory long each = record {
+switches_after entries orders h s t stood cs eeprom memory long each = record {
   whole = long ∙ stood.whole;
-  cs = cs ∙ ap (switched (cs_switch h.order)) stood.cs ∙ sym (last_switch (λ (x : Heard). cs_switch x.order) true heard h);
-  eeprom = eeprom ∙ ap (switched (table_switch 1 h.order)) stood.eeprom ∙ sym (last_switch (λ (x : Heard). table_switch 1 x.order) true heard h);
-  memory = memory ∙ ap (switched (table_switch 2 h.order)) stood.memory ∙ sym (last_switch (λ (x : Heard). table_switch 2 x.order) true heard h);
-  each = λ k below. each k below ∙ ap (switched (entry_switch k h.order)) (stood.each k below) ∙ sym (last_switch (λ (x : Heard). entry_switch k x.order) ((entry_in entries k).state == 1) heard h);
+  cs = cs ∙ ap (switched (cs_switch h)) stood.cs ∙ sym (last_switch (cs_switch) true orders h);
+  eeprom = eeprom ∙ ap (switched (table_switch 1 h)) stood.eeprom ∙ sym (last_switch (table_switch 1) true orders h);
+  memory = memory ∙ ap (switched (table_switch 2 h)) stood.memory ∙ sym (last_switch (table_switch 2) true orders h);
+  each = λ k below. each k below ∙ ap (switched (entry_switch k h)) (stood.each k below) ∙ sym (last_switch (entry_switch k) ((entry_in entries k).state == 1) orders h);
 }
 
 -- at the start
@@ -60,18 +61,18 @@ pub table_second : (place : ℕ) → 16 ≤ place → place < 32 → place / 16 
 table_second place large small = omega arith
 
 -- a place takes part where all three are on
-pub part_of_on : (entries : List Segment) (heard : List Heard) (place : ℕ) (s : Switches) → SwitchesStand entries heard s → place < 32 → s.cs ≡ true → is_table_on (table_of place) heard ≡ true → get_or s.entries place false ≡ takes_part entries heard place
+pub part_of_on : (entries : List Segment) (orders : List Instruction) (place : ℕ) (s : Switches) → SwitchesStand entries orders s → place < 32 → s.cs ≡ true → is_table_on (table_of place) orders ≡ true → get_or s.entries place false ≡ takes_part entries orders place
 unfolding takes_part
-part_of_on entries heard place s stood within cs table = stood.each place within ∙ sym (rw (← stood.cs, cs, table) refl)
+part_of_on entries orders place s stood within cs table = stood.each place within ∙ sym (rw (← stood.cs, cs, table) refl)
 
-pub no_part_cs : (entries : List Segment) (heard : List Heard) (place : ℕ) (s : Switches) → SwitchesStand entries heard s → s.cs ≡ false → false ≡ takes_part entries heard place
+pub no_part_cs : (entries : List Segment) (orders : List Instruction) (place : ℕ) (s : Switches) → SwitchesStand entries orders s → s.cs ≡ false → false ≡ takes_part entries orders place
 unfolding takes_part
-no_part_cs entries heard place s stood cs = sym (rw (← stood.cs, cs) refl)
+no_part_cs entries orders place s stood cs = sym (rw (← stood.cs, cs) refl)
 
-pub no_part_table : (entries : List Segment) (heard : List Heard) (place : ℕ) → is_table_on (table_of place) heard ≡ false → false ≡ takes_part entries heard place
+pub no_part_table : (entries : List Segment) (orders : List Instruction) (place : ℕ) → is_table_on (table_of place) orders ≡ false → false ≡ takes_part entries orders place
 unfolding takes_part
-no_part_table entries heard place table = sym (rw table (by_case (is_cs_on heard)))
+no_part_table entries orders place table = sym (rw table (by_case (is_cs_on orders)))
   where
-    by_case : (b : Bool) → (b && false && is_entry_on entries place heard) ≡ false
+    by_case : (b : Bool) → (b && false && is_entry_on entries place orders) ≡ false
     by_case true = refl
     by_case false = refl

@@ -13,7 +13,7 @@ use Rattle.packet_forms.specs.Crc.{crc_of}
 use Rattle.cs_slices.specs.Orders.{table_of}
 use Rattle.cs_slices.specs.Slices.{Slice}
 use Rattle.cs_slices.specs.Passes.{pass_bytes, check_at, checks, first_of, baseline, differs, miscompares, miscompare_count, pass_count}
-use Rattle.cs_slices.specs.Standing.{TallyStands}
+use Rattle.cs_slices.specs.State.{TallyStands}
 use Rattle.cs_slices.proofs.Switching.{table_first, table_second}
 use Rattle.cs_slices.specs.declared.tally.Tally.{Tally}
 

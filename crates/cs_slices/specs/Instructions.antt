@@ -1,18 +1,10 @@
 -- What CS's commands ask for.
-use Rattle.std.specs.Prelude.{ℕ, ◌==◌, true, false, if◌then◌else◌, List, [], ◌∷◌}
+use Rattle.std.specs.Prelude.{ℕ, ◌+◌, ◌-◌, ◌*◌, ◌≤◌, ◌==◌, true, false, if◌then◌else◌, List}
 use Rattle.packet_forms.specs.Numbers.{be16_at}
-use Rattle.commands.specs.declared.verdicts.CodeRow.{CodeRow}
+use Rattle.commands.specs.Verdicts.{Language}
+use Rattle.cs_slices.specs.Messages.{cs_name, command_id, request_id, cs_codes}
 use Rattle.cs_slices.specs.declared.instructions.Instruction.{Instruction}
 use Rattle.cs_slices.specs.declared.instructions.Instruction.TheVariants.{Plain, Whole, Table, Entry, Report}
-
--- The codes of CS, each with the length of its payload: no-op, reset counters, CS on and off, table on and off, entry on and off, report the baseline.
-unfoldable pub cs_codes : List CodeRow
-cs_codes =
-    (record { code = 0; least = 0; most = 0 }) ∷ (record { code = 1; least = 0; most = 0 })
-    ∷ (record { code = 2; least = 0; most = 0 }) ∷ (record { code = 3; least = 0; most = 0 })
-    ∷ (record { code = 4; least = 2; most = 2 }) ∷ (record { code = 5; least = 2; most = 2 })
-    ∷ (record { code = 6; least = 4; most = 4 }) ∷ (record { code = 7; least = 4; most = 4 })
-    ∷ (record { code = 8; least = 4; most = 4 }) ∷ []
 
 -- What a command of this code asks for with this payload: a table, 1 EEPROM or 2 memory, and behind it an entry's number.
 unfoldable pub instruction_of : ℕ → List ℕ → Instruction
@@ -25,3 +17,27 @@ instruction_of code payload =
     else if code == 7 then Entry (be16_at payload 0) (be16_at payload 2) false
     else if code == 8 then Report (be16_at payload 0) (be16_at payload 2)
     else Plain
+
+-- CS's commands.
+abbrev pub cs_language : Language Instruction
+cs_language = record { name = cs_name; command_id = command_id; request_id = request_id; codes = cs_codes; decode = instruction_of }
+
+-- The place, from 0, of an entry from 1 to 16 of table 1, EEPROM, or 2, memory.
+abbrev pub place_of : ℕ → ℕ → ℕ
+place_of table number = 16 * (table - 1) + (number - 1)
+
+-- A table that there is.
+abbrev pub IsTable : ℕ → Type 0
+IsTable table = (1 ≤ table) × (table ≤ 2)
+
+-- An entry that there is.
+abbrev pub IsEntry : ℕ → ℕ → Type 0
+IsEntry table number = (1 ≤ table) × (table ≤ 2) × (1 ≤ number) × (number ≤ 16)
+
+-- An instruction names a table and an entry that there are.
+abbrev pub IsNamed : Instruction → Type 0
+IsNamed Plain = Unit {0}
+IsNamed (Whole on) = Unit {0}
+IsNamed (Table table on) = IsTable table
+IsNamed (Entry table number on) = IsEntry table number
+IsNamed (Report table number) = IsEntry table number

@@ -1,3 +1,4 @@
+pub mod Messages
 pub mod Tables
 pub mod Given
 pub mod Instructions
@@ -5,6 +6,9 @@ pub mod Verdicts
 pub mod Orders
 pub mod Slices
 pub mod Passes
-pub mod Output
-pub mod Standing
+pub mod Wakeups
+pub mod Housekeeping
+pub mod Answers
+pub mod Step
+pub mod State
 pub mod Rows

@@ -1,31 +1,12 @@
--- What was heard of the packets of CS's pipe, and what the accepted commands among them switch.
+-- What the accepted commands of CS switch.
 use Rattle.std.specs.Prelude.{ℕ, ◌+◌, ◌/◌, ◌==◌, Bool, true, false, not, ◌&&◌, if◌then◌else◌, List, filter_map, Option, Some, None}
-use Rattle.packet_forms.specs.Packets.{payload_of}
+use Rattle.std.specs.List.{list_any, range_with_len}
 use Rattle.histories.specs.Words.{last_or}
-use Rattle.commands.specs.declared.verdicts.Verdict.{Verdict}
-use Rattle.commands.specs.declared.verdicts.Verdict.TheVariants as verdicts
 use Rattle.cs_slices.specs.Tables.{entry_in}
-use Rattle.cs_slices.specs.Instructions.{instruction_of}
-use Rattle.cs_slices.specs.Verdicts.{verdict_in, place_of}
+use Rattle.cs_slices.specs.Instructions.{place_of}
 use Rattle.cs_slices.specs.declared.segments.Segment.{Segment}
 use Rattle.cs_slices.specs.declared.instructions.Instruction.{Instruction}
 use Rattle.cs_slices.specs.declared.instructions.Instruction.TheVariants.{Plain, Whole, Table, Entry, Report}
-
--- What was made of a packet: the verdict, and what the command asks for where it was accepted.
-pub record Heard : Type 0 where
-  pub verdict : Verdict
-  pub order : Instruction
-
--- What is done for a packet with this payload, by its verdict: only an accepted command asks for something.
-abbrev pub order_for : List ℕ → Verdict → Instruction
-order_for payload verdicts.Other = Plain
-order_for payload verdicts.Request = Plain
-order_for payload (verdicts.Refused reason) = Plain
-order_for payload (verdicts.Accepted code) = instruction_of code payload
-
--- What is heard of a packet, by both tables' entries.
-unfoldable pub heard_in : List Segment → List ℕ → Heard
-heard_in entries p = record { verdict = verdict_in entries p; order = order_for (payload_of p) (verdict_in entries p) }
 
 -- The table of a place: 1 EEPROM, 2 memory.
 abbrev pub table_of : ℕ → ℕ
@@ -56,20 +37,24 @@ entry_switch place (Entry table number on) = if place_of table number == place t
 entry_switch place (Report table number) = None
 
 -- CS is on by the last order on it, or by the start.
-unfoldable pub is_cs_on : List Heard → Bool
-is_cs_on heard = last_or true (filter_map (λ h. cs_switch h.order) heard)
+unfoldable pub is_cs_on : List Instruction → Bool
+is_cs_on orders = last_or true (filter_map cs_switch orders)
 
 -- A table is on by the last order on it, or by the start.
-unfoldable pub is_table_on : ℕ → List Heard → Bool
-is_table_on n heard = last_or true (filter_map (λ h. table_switch n h.order) heard)
+unfoldable pub is_table_on : ℕ → List Instruction → Bool
+is_table_on n orders = last_or true (filter_map (table_switch n) orders)
 
 -- An entry is on by the last order on it, or by its state in the table.
-unfoldable pub is_entry_on : List Segment → ℕ → List Heard → Bool
-is_entry_on entries place heard = last_or ((entry_in entries place).state == 1) (filter_map (λ h. entry_switch place h.order) heard)
+unfoldable pub is_entry_on : List Segment → ℕ → List Instruction → Bool
+is_entry_on entries place orders = last_or ((entry_in entries place).state == 1) (filter_map (entry_switch place) orders)
 
 -- A place takes part where CS, its table and its entry are on.
-unfoldable pub takes_part : List Segment → List Heard → ℕ → Bool
-takes_part entries heard place = is_cs_on heard && is_table_on (table_of place) heard && is_entry_on entries place heard
+unfoldable pub takes_part : List Segment → List Instruction → ℕ → Bool
+takes_part entries orders place = is_cs_on orders && is_table_on (table_of place) orders && is_entry_on entries place orders
+
+-- Whether any of the 32 places takes part.
+unfoldable pub some_take_part : List Segment → List Instruction → Bool
+some_take_part entries orders = list_any (takes_part entries orders) (range_with_len 0 32)
 
 -- Whether an order switches CS, a place's table or its entry off.
 abbrev pub turns_off : ℕ → Instruction → Bool

@@ -2,8 +2,9 @@
 use Rattle.std.specs.Prelude.{ℕ, ◌%◌, ◌^◌, ◌==◌, Bool, false, not, ◌&&◌, if◌then◌else◌, List, [], ◌∷◌, ◌++◌, filter, filter_map, flat_map, count_by, Option, Some, None}
 use Rattle.histories.specs.Words.{along, from_last}
 use Rattle.packet_forms.specs.Crc.{crc_of}
-use Rattle.cs_slices.specs.Orders.{Heard, table_of}
+use Rattle.cs_slices.specs.Orders.{table_of}
 use Rattle.cs_slices.specs.Slices.{Slice, current_place, has_begun}
+use Rattle.cs_slices.specs.declared.instructions.Instruction.{Instruction}
 
 -- The bytes of the pass to which a place's last slice belongs: those of the place's slices from the last on that begins at the entry's first byte.
 unfoldable pub pass_bytes : ℕ → List Slice → List ℕ
@@ -44,5 +45,5 @@ unfoldable pub pass_count : List Slice → ℕ
 pass_count slices = count_by (λ s. s.ends) slices % 2 ^ 32
 
 -- The bytes of the pass that has begun at the current place, none where none has.
-unfoldable pub begun_bytes : List Slice → List Heard → List ℕ
+unfoldable pub begun_bytes : List Slice → List Instruction → List ℕ
 begun_bytes slices since = if has_begun (current_place slices) slices since then pass_bytes (current_place slices) slices else []

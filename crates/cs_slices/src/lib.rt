@@ -3,12 +3,15 @@
 
 mod answers;
 mod giving;
+mod housekeeping;
 mod instructions;
 pub mod laws;
 mod loading;
+mod messages;
 mod passing;
 mod reading;
 mod segments;
+mod state;
 mod step;
 mod switches;
 mod tally;
@@ -16,7 +19,7 @@ mod verdicts;
 
 pub use loading::load_segments;
 pub use segments::{Segment, Segments};
-pub use step::Cs;
+pub use state::Cs;
 
 #[cfg(test)]
 mod tests;

@@ -1,13 +1,13 @@
 //! The pass that has begun.
 ghost use Rattle.std.specs.Prelude.{◌≡◌, ◌<◌, ◌++◌, ◌+◌, List, [], ◌∷◌, find, IfSome, true, false};
 ghost use Rattle.packet_forms.specs.Crc.{crc_of};
-ghost use Rattle.commands.specs.declared.verdicts.Verdict.{Verdict};
 ghost use Rattle.cs_slices.specs.declared.segments.Segment.{Segment};
-ghost use Rattle.cs_slices.specs.Verdicts.{IsNamed};
-ghost use Rattle.cs_slices.specs.Orders.{Heard, takes_part};
+ghost use Rattle.cs_slices.specs.Instructions.{IsNamed};
+ghost use Rattle.cs_slices.specs.Orders.{takes_part};
+ghost use Rattle.cs_slices.specs.declared.instructions.Instruction.{Instruction};
 ghost use Rattle.cs_slices.specs.Slices.{Slice, current_place, offset_at, ring_from};
 ghost use Rattle.cs_slices.specs.Passes.{pass_bytes};
-ghost use Rattle.cs_slices.specs.Standing.{SwitchesStand, PassingStands};
+ghost use Rattle.cs_slices.specs.State.{SwitchesStand, PassingStands};
 
 use crate::instructions::Instruction;
 use crate::switches::{Switches, turns_off};
@@ -34,10 +34,9 @@ impl Passing {
     }
 
     /// Abandons the pass where an order switches its place off.
-    pub(crate) fn obey(&mut self, order: Instruction)
-        requires { IsNamed order }
-        ensures { (slices : List Slice) (since : List Heard) (verdict : Verdict) → PassingStands slices since self.old
-            → PassingStands slices (since ++ (record { verdict = verdict; order = order }) ∷ []) self.new }
+    pub(crate) fn obey(&mut self, order: &Instruction)
+        requires { IsNamed order.now }
+        ensures { (slices : List Slice) (since : List Instruction) → PassingStands slices since self.old → PassingStands slices (since ++ order.now ∷ []) self.new }
     {
         if turns_off(self.place, order) {
             self.offset = 0;
@@ -47,8 +46,8 @@ impl Passing {
 
     /// The first place that takes part, from the current place on and round again.
     pub(crate) fn next_place(&self, switches: &Switches) -> Option<u8>
-        ensures place { (entries : List Segment) (heard : List Heard) (slices : List Slice) (since : List Heard) → SwitchesStand entries heard switches.now → PassingStands slices since self.now
-            → result ≡ find (takes_part entries heard) (ring_from (current_place slices)) }
+        ensures place { (entries : List Segment) (orders : List Instruction) (slices : List Slice) (since : List Instruction) → SwitchesStand entries orders switches.now → PassingStands slices since self.now
+            → result ≡ find (takes_part entries orders) (ring_from (current_place slices)) }
         ensures within { IfSome result (λ place. place < 32) }
     {
         for k in 0..32u32 {
@@ -62,14 +61,14 @@ impl Passing {
 
     /// The offset at which the next slice of a place begins.
     pub(crate) fn offset_at(&self, place: u8) -> u32
-        ensures { (slices : List Slice) (since : List Heard) → PassingStands slices since self.now → result ≡ offset_at place slices since }
+        ensures { (slices : List Slice) (since : List Instruction) → PassingStands slices since self.now → result ≡ offset_at place slices since }
     {
         if place == self.place { self.offset } else { 0 }
     }
 
     /// The check of the bytes of a place's pass after a slice that begins at this offset.
     pub(crate) fn check_after(&self, place: u8, from: u32, bytes: &[u8]) -> u16
-        ensures { (slices : List Slice) (since : List Heard) (s : Slice) → PassingStands slices since self.now → s.place ≡ place → s.from ≡ from → from ≡ offset_at place slices since → s.bytes ≡ bytes.now
+        ensures { (slices : List Slice) (since : List Instruction) (s : Slice) → PassingStands slices since self.now → s.place ≡ place → s.from ≡ from → from ≡ offset_at place slices since → s.bytes ≡ bytes.now
             → result ≡ crc_of 0 (pass_bytes place (slices ++ s ∷ [])) }
     {
         if from == 0 {

@@ -1,5 +1,5 @@
 //! A wakeup of CS.
-ghost use Rattle.std.specs.Prelude.{◌≡◌, ◌+◌, ◌<◌, ◌≤◌, List, [], ◌∷◌, ◌++◌, length, Some, option_to_list};
+ghost use Rattle.std.specs.Prelude.{◌≡◌, ◌+◌, ◌<◌, ◌≤◌, List, [], ◌∷◌, ◌++◌, length, Some, option_to_list, true};
 ghost use Rattle.std.specs.List.{AllPass};
 ghost use Rattle.bus_pipes.specs.Held.{adding};
 ghost use Rattle.bus_pipes.specs.Counted.{is_item_counted};
@@ -7,51 +7,79 @@ ghost use Rattle.memory_window.specs.Memory.{regions_of};
 ghost use Rattle.memory_window.specs.Window.{seen};
 ghost use Rattle.cs_slices.specs.Tables.{entry_in};
 ghost use Rattle.cs_slices.specs.Given.{SegmentsGiven};
-ghost use Rattle.cs_slices.specs.Verdicts.{IsNamed};
+ghost use Rattle.cs_slices.specs.Instructions.{IsNamed};
 ghost use Rattle.cs_slices.specs.declared.segments.Segment.{Segment};
-ghost use Rattle.cs_slices.specs.Orders.{Heard, heard_in};
+ghost use Rattle.cs_slices.specs.declared.instructions.Instruction.{Instruction};
 ghost use Rattle.cs_slices.specs.Slices.{Slice, offset_at, slice_from, next_slice, since_behind};
-ghost use Rattle.cs_slices.specs.Output.{Input, order_items, verdict_items, command_items, slice_items, cs_items};
-ghost use Rattle.cs_slices.specs.Standing.{TallyStands, StandsAt, Stands, input_of};
+ghost use Rattle.cs_slices.specs.Wakeups.{Input, input_of};
+ghost use Rattle.cs_slices.specs.Answers.{replies_to};
+ghost use Rattle.cs_slices.specs.Step.{slice_items, cs_items};
+ghost use Rattle.cs_slices.specs.State.{TallyStands, StandsAt, Stands};
 
-use crate::answers::{baseline_packet, housekeeping, name};
+use crate::answers::baseline_packet;
+use crate::housekeeping::housekeeping;
 use crate::instructions::{Instruction, place_of};
+use crate::messages::{MISCOMPARE, name};
 use crate::passing::Passing;
 use crate::reading::{entry_bytes, part, slice_size};
 use crate::segments::{Segments, entry_in};
-use crate::switches::Switches;
+use crate::state::{Course, Cs};
 use crate::tally::Tally;
-use crate::verdicts::{order_for, verdict_in};
+use crate::verdicts::{Refusal, own_refusal};
 use bus_pipes::{Counts, Out, Outbox};
-use commands::{Verdict, answer, note};
+use commands::{Commanded, handle_all};
 use memory_window::Window;
 use packet_forms::{Packet, event};
 
-/// The state of CS.
-#[derive(Clone, Copy, Debug, PartialEq, Eq)]
-pub struct Cs {
-    counts: Counts,
-    switches: Switches,
-    passing: Passing,
-    tally: Tally,
+// The tables that CS reads.
+#[derive(Clone, Copy)]
+struct Tables<'a> {
+    eeprom: &'a Segments,
+    memory: &'a Segments,
+}
+
+impl<'a> Commanded<Tables<'a>> for Course {
+    ghost use Rattle.std.specs.Prelude.{◌≡◌, ◌++◌, List};
+    ghost use Rattle.cs_slices.specs.declared.segments.Segment.{Segment};
+    ghost use Rattle.cs_slices.specs.Instructions.{IsNamed};
+    ghost use Rattle.cs_slices.specs.Verdicts.{own_refusal};
+    ghost use Rattle.cs_slices.specs.Wakeups.{orders_of, slices_of, since_of};
+    ghost use Rattle.cs_slices.specs.Step.{Turn, cs_answers};
+    ghost use Rattle.cs_slices.specs.State.{StandsAt};
+
+    type Instruction = Instruction;
+    type Refusal = Refusal;
+    type Left = ();
+
+    ghost Basis = { List Segment };
+    ghost Turn = { Turn };
+    ghost refuses = { λ entries orders instruction. own_refusal entries instruction };
+    ghost answers = { cs_answers };
+    ghost basis = { λ turn. turn.setup };
+    ghost belongs = { λ turn tables now. (turn.setup ≡ tables.eeprom.now ++ tables.memory.now) × (turn.input.time ≡ now) };
+    ghost stands = { λ turn orders course left. StandsAt turn.setup (orders_of turn.setup turn.history ++ orders) (slices_of turn.setup turn.history) (since_of turn.setup turn.history ++ orders) course };
+    ghost can_obey = { λ tables course instruction. IsNamed instruction };
+    ghost most = { 1 };
+
+    ghost still_safe = { λ tables n course left safe. safe };
+    ghost timed = { λ turn tables now belongs. belongs.1 };
+
+    fn refusal(&self, instruction: &Instruction, reads: Tables<'a>, now: u32) -> Option<Refusal> {
+        own_refusal(reads.eeprom, reads.memory, instruction)
+    }
+
+    fn housekeeping(&self, counts: Counts, reads: Tables<'a>, now: u32) -> Packet {
+        housekeeping(counts, &self.switches, &self.tally, now)
+    }
+
+    fn obey(&mut self, instruction: &Instruction, reads: Tables<'a>, now: u32, left: &mut (), out: &mut Outbox) {
+        reply(&self.tally, instruction, now, out);
+        self.switches.obey(instruction);
+        self.passing.obey(instruction);
+    }
 }
 
 impl Cs {
-    /// The state before the first wakeup.
-    pub fn start(eeprom: &Segments, memory: &Segments) -> Cs
-        ensures { Stands eeprom.now memory.now [] result }
-    {
-        Cs {
-            counts: Counts {
-                accepted: 0,
-                errors: 0,
-            },
-            switches: Switches::start(eeprom, memory),
-            passing: Passing::start(),
-            tally: Tally::start(),
-        }
-    }
-
     /// Handles the packets of the pipe, at most 16, and then reads one slice, at most 1,024 bytes, of the next entry that takes part.
     /// What is sent goes to `out`, which is empty, and the state after the wakeup to `next`. The tables are those on which `self` was
     /// started, and the window gives the bytes of every entry that isn't empty.
@@ -79,87 +107,67 @@ impl Cs {
         ensures room { out.new.room ≡ out.old.room }
     {
         *next = *self;
-        for packet in commands {
-            handle(next, eeprom, memory, packet, now, out);
-        }
-        read_next(next, eeprom, memory, window, now, out);
+        next.advance(eeprom, memory, commands, window, now, out);
     }
-}
 
-// Handles one packet.
-fn handle(
-    state: &mut Cs,
-    eeprom: &Segments,
-    memory: &Segments,
-    packet: &Packet,
-    now: u32,
-    out: &mut Outbox,
-)
-    requires room { length out.old.items + 2 ≤ out.old.room }
-    ensures stands { (heard : List Heard) (slices : List Slice) (since : List Heard) → StandsAt (eeprom.now ++ memory.now) heard slices since state.old
-        → StandsAt (eeprom.now ++ memory.now) (heard ++ heard_in (eeprom.now ++ memory.now) packet.now ∷ []) slices (since ++ heard_in (eeprom.now ++ memory.now) packet.now ∷ []) state.new }
-    ensures items { (heard : List Heard) (slices : List Slice) (since : List Heard) → StandsAt (eeprom.now ++ memory.now) heard slices since state.old
-        → out.new ≡ adding out.old (command_items now heard slices (heard_in (eeprom.now ++ memory.now) packet.now)) }
-    ensures few { length out.new.items ≤ length out.old.items + 2 }
-    ensures room { out.new.room ≡ out.old.room }
-{
-    let verdict = verdict_in(eeprom, memory, packet);
-    let order = order_for(eeprom, memory, packet, verdict);
-    answer_before_event(state, verdict, order, now, out);
-    answer(name(), verdict, now, out);
-    note(&mut state.counts, verdict);
-    state.switches.obey(order);
-    state.passing.obey(order);
-}
-
-// Puts the packets that stand before the event behind the items.
-#[tactic(auto, using(bus_pipes::proofs::Deliveries::adding_none), unfolding(bus_pipes::specs::Held::adding))]
-fn answer_before_event(state: &Cs, verdict: Verdict, order: Instruction, now: u32, out: &mut Outbox)
-    requires named { IsNamed order }
-    requires room { length out.old.items < out.old.room }
-    ensures items { (entries : List Segment) (heard : List Heard) (slices : List Slice) (since : List Heard) → StandsAt entries heard slices since state.now
-        → out.new ≡ adding out.old (verdict_items now heard slices order verdict) }
-    ensures few { length out.new.items ≤ length out.old.items + 1 }
-    ensures room { out.new.room ≡ out.old.room }
-{
-    match verdict {
-        Verdict::Other => {}
-        Verdict::Request => out.push(Out::Made(housekeeping(
-            state.counts,
-            &state.switches,
-            &state.tally,
+    /// The same in place.
+    pub fn advance(
+        &mut self,
+        eeprom: &Segments,
+        memory: &Segments,
+        commands: &[Packet],
+        window: Window<'_>,
+        now: u32,
+        out: &mut Outbox,
+    )
+        requires commands { length commands.now ≤ 16 }
+        requires empty { out.old.items ≡ [] }
+        requires room { 33 ≤ out.old.room }
+        requires started { (history : List Input) × Stands eeprom.now memory.now history self.old }
+        requires gives { SegmentsGiven (regions_of (seen window).areas) eeprom.now × SegmentsGiven (regions_of (seen window).areas) memory.now }
+        ensures stands { (history : List Input) → Stands eeprom.now memory.now history self.old
+            → Stands eeprom.now memory.now (history ++ input_of now commands.now window.entry ∷ []) self.new }
+        ensures items { (history : List Input) → Stands eeprom.now memory.now history self.old
+            → out.new.items ≡ cs_items eeprom.now memory.now history (input_of now commands.now window.entry) }
+        ensures counted { AllPass is_item_counted out.new.items }
+        ensures few { length out.new.items ≤ 33 }
+        ensures room { out.new.room ≡ out.old.room }
+    {
+        let tables = Tables { eeprom, memory };
+        handle_all(
+            &mut self.counts,
+            &mut self.course,
+            commands,
+            tables,
             now,
-        ))),
-        Verdict::Refused(_) => {}
-        Verdict::Accepted(_) => answer_order(&state.tally, order, now, out),
+            &mut (),
+            out,
+        );
+        read_next(&mut self.course, eeprom, memory, window, now, out);
     }
 }
 
 // Puts the packet of a report behind the items.
-#[tactic(auto, using(bus_pipes::proofs::Deliveries::adding_none), unfolding(bus_pipes::specs::Held::adding))]
-fn answer_order(tally: &Tally, order: Instruction, now: u32, out: &mut Outbox)
-    requires named { IsNamed order }
+#[tactic(auto, using(bus_pipes::proofs::Deliveries::adding_none, commands::proofs::Heard::one_more_counted), unfolding(bus_pipes::specs::Held::adding))]
+fn reply(tally: &Tally, order: &Instruction, now: u32, out: &mut Outbox)
+    requires named { IsNamed order.now }
     requires room { length out.old.items < out.old.room }
-    ensures items { (slices : List Slice) → TallyStands slices tally.now → out.new ≡ adding out.old (order_items now slices order) }
+    ensures items { (slices : List Slice) → TallyStands slices tally.now → out.new ≡ adding out.old (replies_to now slices order.now) }
+    ensures counted { AllPass is_item_counted out.old.items → AllPass is_item_counted out.new.items }
     ensures few { length out.new.items ≤ length out.old.items + 1 }
     ensures room { out.new.room ≡ out.old.room }
 {
-    match order {
-        Instruction::Plain => {}
-        Instruction::Whole { .. } => {}
-        Instruction::Table { .. } => {}
-        Instruction::Entry { .. } => {}
-        Instruction::Report { table, number } => {
-            let base = tally.baseline(place_of(table, number));
-            out.push(Out::Made(baseline_packet(table, number, base, now)));
-        }
-    }
+    let Instruction::Report { table, number } = order else {
+        return;
+    };
+    let base = tally.baseline(place_of(*table, *number));
+    out.push(Out::Made(baseline_packet(*table, *number, base, now)));
 }
 
 // Reads the next slice, where a place takes part.
 #[tactic(auto, using(bus_pipes::proofs::Deliveries::adding_none))]
 fn read_next(
-    state: &mut Cs,
+    course: &mut Course,
     eeprom: &Segments,
     memory: &Segments,
     window: Window<'_>,
@@ -167,24 +175,25 @@ fn read_next(
     out: &mut Outbox,
 )
     requires room { length out.old.items < out.old.room }
-    ensures stands { (heard : List Heard) (slices : List Slice) (since : List Heard) → StandsAt (eeprom.now ++ memory.now) heard slices since state.old
-        → StandsAt (eeprom.now ++ memory.now) heard (slices ++ option_to_list (next_slice (eeprom.now ++ memory.now) heard slices since (seen window.entry)))
-        (since_behind (next_slice (eeprom.now ++ memory.now) heard slices since (seen window.entry)) since) state.new }
-    ensures items { (heard : List Heard) (slices : List Slice) (since : List Heard) → StandsAt (eeprom.now ++ memory.now) heard slices since state.old
-        → out.new ≡ adding out.old (slice_items now slices (next_slice (eeprom.now ++ memory.now) heard slices since (seen window.entry))) }
+    ensures stands { (orders : List Instruction) (slices : List Slice) (since : List Instruction) → StandsAt (eeprom.now ++ memory.now) orders slices since course.old
+        → StandsAt (eeprom.now ++ memory.now) orders (slices ++ option_to_list (next_slice (eeprom.now ++ memory.now) orders slices since (seen window.entry)))
+        (since_behind (next_slice (eeprom.now ++ memory.now) orders slices since (seen window.entry)) since) course.new }
+    ensures items { (orders : List Instruction) (slices : List Slice) (since : List Instruction) → StandsAt (eeprom.now ++ memory.now) orders slices since course.old
+        → out.new ≡ adding out.old (slice_items now slices (next_slice (eeprom.now ++ memory.now) orders slices since (seen window.entry))) }
+    ensures counted { AllPass is_item_counted out.old.items → AllPass is_item_counted out.new.items }
     ensures few { length out.new.items ≤ length out.old.items + 1 }
     ensures room { out.new.room ≡ out.old.room }
 {
-    match state.passing.next_place(&state.switches) {
+    match course.passing.next_place(&course.switches) {
         None => {}
-        Some(place) => read_slice(state, eeprom, memory, place, window, now, out),
+        Some(place) => read_slice(course, eeprom, memory, place, window, now, out),
     }
 }
 
 // Reads the next slice of a place.
-#[tactic(auto, using(bus_pipes::proofs::Deliveries::adding_none))]
+#[tactic(auto, using(bus_pipes::proofs::Deliveries::adding_none, commands::proofs::Heard::event_behind))]
 fn read_slice(
-    state: &mut Cs,
+    course: &mut Course,
     eeprom: &Segments,
     memory: &Segments,
     place: u8,
@@ -194,25 +203,26 @@ fn read_slice(
 )
     requires within { place < 32 }
     requires room { length out.old.items < out.old.room }
-    ensures stands { (heard : List Heard) (slices : List Slice) (since : List Heard) → StandsAt (eeprom.now ++ memory.now) heard slices since state.old
-        → StandsAt (eeprom.now ++ memory.now) heard (slices ++ slice_from (seen window.entry) (entry_in (eeprom.now ++ memory.now) place) place (offset_at place slices since) ∷ []) [] state.new }
-    ensures items { (heard : List Heard) (slices : List Slice) (since : List Heard) → StandsAt (eeprom.now ++ memory.now) heard slices since state.old
+    ensures stands { (orders : List Instruction) (slices : List Slice) (since : List Instruction) → StandsAt (eeprom.now ++ memory.now) orders slices since course.old
+        → StandsAt (eeprom.now ++ memory.now) orders (slices ++ slice_from (seen window.entry) (entry_in (eeprom.now ++ memory.now) place) place (offset_at place slices since) ∷ []) [] course.new }
+    ensures items { (orders : List Instruction) (slices : List Slice) (since : List Instruction) → StandsAt (eeprom.now ++ memory.now) orders slices since course.old
         → out.new ≡ adding out.old (slice_items now slices (Some (slice_from (seen window.entry) (entry_in (eeprom.now ++ memory.now) place) place (offset_at place slices since)))) }
+    ensures counted { AllPass is_item_counted out.old.items → AllPass is_item_counted out.new.items }
     ensures few { length out.new.items ≤ length out.old.items + 1 }
     ensures room { out.new.room ≡ out.old.room }
 {
     let segment = entry_in(eeprom, memory, place);
-    let from = state.passing.offset_at(place);
+    let from = course.passing.offset_at(place);
     let size = slice_size(segment, from);
     let bytes = part(entry_bytes(window, segment), from, size);
-    let check = state.passing.check_after(place, from, bytes);
+    let check = course.passing.check_after(place, from, bytes);
     if from + size != segment.len {
-        state.passing = Passing::begun(place, from + size, check);
+        course.passing = Passing::begun(place, from + size, check);
         return;
     }
-    state.passing = Passing::behind(place);
-    if !state.tally.judge(place, check) {
+    course.passing = Passing::behind(place);
+    if !course.tally.judge(place, check) {
         return;
     }
-    out.push(Out::Made(event(name(), 101, 3, now)));
+    out.push(Out::Made(event(name(), MISCOMPARE, 3, now)));
 }

@@ -3,7 +3,7 @@ ghost use Rattle.std.specs.Prelude.{◌≡◌, ◌<◌, ◌++◌, ℕ, List, [],
 ghost use Rattle.packet_forms.specs.Crc.{crc_of};
 ghost use Rattle.cs_slices.specs.Slices.{Slice};
 ghost use Rattle.cs_slices.specs.Passes.{pass_bytes, miscompares};
-ghost use Rattle.cs_slices.specs.Standing.{TallyStands};
+ghost use Rattle.cs_slices.specs.State.{TallyStands};
 
 use crate::switches::PLACES;
 

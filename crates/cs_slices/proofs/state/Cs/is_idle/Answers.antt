@@ -1,0 +1,23 @@
+use Rattle.std.proofs.Common.{◌++◌, refl, sym, ap, ◌∙◌, true, false, not}
+use Rattle.cs_slices.specs.State.{Stands, is_idle_on}
+use Rattle.cs_slices.proofs.Taking.{idle_is, stands_asleep, items_asleep}
+use Rattle.cs_slices.proofs.state.Cs.is_idle.Goals as goal
+
+pub returns-then-is_empty-clause-exact : goal.returns-then-is_empty-clause-exact
+unfolding Stands
+returns-then-is_empty-clause-exact c = λ eeprom memory history stood.
+    idle_is eeprom memory history c.args.commands.now true _ (sym c.if-is_empty.true ∙ c.is_empty.ensures) (c.any_takes_part.ensures (eeprom ++ memory) _ stood.course.switches)
+
+pub returns-then-is_empty-clause-stands : goal.returns-then-is_empty-clause-stands
+unfolding Stands
+returns-then-is_empty-clause-stands c = λ eeprom memory history input idle is stood.
+    stands_asleep eeprom memory history input c.args.commands.now true c.any_takes_part.result c.args.self.now idle (sym c.if-is_empty.true ∙ c.is_empty.ensures) (c.any_takes_part.ensures (eeprom ++ memory) _ stood.course.switches) is stood
+
+pub returns-then-is_empty-clause-items : goal.returns-then-is_empty-clause-items
+unfolding Stands
+returns-then-is_empty-clause-items c = λ eeprom memory history input idle is stood.
+    items_asleep eeprom memory history input c.args.commands.now true c.any_takes_part.result idle (sym c.if-is_empty.true ∙ c.is_empty.ensures) (c.any_takes_part.ensures (eeprom ++ memory) _ stood.course.switches) is
+
+pub returns-else-is_empty-clause-exact : goal.returns-else-is_empty-clause-exact
+returns-else-is_empty-clause-exact c = λ eeprom memory history stood.
+    c.if-is_empty.false ∙ idle_is eeprom memory history c.args.commands.now false _ (sym c.if-is_empty.false ∙ c.is_empty.ensures) refl

@@ -1,0 +1,29 @@
+-- The packets with which CS answers its commands before their events.
+use Rattle.std.specs.Prelude.{ℕ, List, [], ◌∷◌, ◌++◌, Option, Some, None}
+use Rattle.packet_forms.specs.Numbers.{be16_bytes}
+use Rattle.packet_forms.specs.Built.{telemetry_of}
+use Rattle.bus_pipes.specs.declared.names.Out.{Out}
+use Rattle.bus_pipes.specs.declared.names.Out.TheVariants.{Made}
+use Rattle.cs_slices.specs.Messages.{baseline_id}
+use Rattle.cs_slices.specs.Instructions.{place_of}
+use Rattle.cs_slices.specs.Slices.{Slice}
+use Rattle.cs_slices.specs.Passes.{baseline}
+use Rattle.cs_slices.specs.declared.instructions.Instruction.{Instruction}
+use Rattle.cs_slices.specs.declared.instructions.Instruction.TheVariants.{Plain, Whole, Table, Entry, Report}
+
+-- A baseline: 1 and the check, or 0 and 0 where there is none.
+abbrev pub baseline_bytes : Option ℕ → List ℕ
+baseline_bytes None = be16_bytes 0 ++ be16_bytes 0
+baseline_bytes (Some check) = be16_bytes 1 ++ be16_bytes check
+
+-- The baseline packet of an entry.
+unfoldable pub baseline_packet : ℕ → ℕ → ℕ → Option ℕ → List ℕ
+baseline_packet time table number base = telemetry_of baseline_id time (be16_bytes table ++ be16_bytes number ++ baseline_bytes base)
+
+-- What an order is answered with before its event, by the slices so far.
+abbrev pub replies_to : ℕ → List Slice → Instruction → List Out
+replies_to time slices Plain = []
+replies_to time slices (Whole on) = []
+replies_to time slices (Table table on) = []
+replies_to time slices (Entry table number on) = []
+replies_to time slices (Report table number) = Made (baseline_packet time table number (baseline (place_of table number) slices)) ∷ []

@@ -1,0 +1,31 @@
+-- CS's name, its message ids, and the codes of its commands.
+use Rattle.std.specs.Prelude.{ℕ, List, [], ◌∷◌, codes}
+use Rattle.packet_forms.specs.Names.{name_of}
+use Rattle.commands.specs.Rows.{row}
+use Rattle.commands.specs.declared.verdicts.CodeRow.{CodeRow}
+
+-- CS's name.
+unfoldable pub cs_name : List ℕ
+cs_name = name_of (codes "CS")
+
+-- Its commands, and the request for its housekeeping.
+abbrev pub command_id : ℕ
+command_id = 0x189F
+
+abbrev pub request_id : ℕ
+request_id = 0x18A0
+
+-- Its housekeeping, and the report of a baseline.
+abbrev pub housekeeping_id : ℕ
+housekeeping_id = 0x08A4
+
+abbrev pub baseline_id : ℕ
+baseline_id = 0x08A5
+
+-- The event of a miscompare.
+abbrev pub miscompare_event : ℕ
+miscompare_event = 101
+
+-- The codes, each with the length of its payload: no-op, reset counters, CS on and off, table on and off, entry on and off, report the baseline.
+unfoldable pub cs_codes : List CodeRow
+cs_codes = row 0 0 0 ∷ row 1 0 0 ∷ row 2 0 0 ∷ row 3 0 0 ∷ row 4 2 2 ∷ row 5 2 2 ∷ row 6 4 4 ∷ row 7 4 4 ∷ row 8 4 4 ∷ []
