@@ -1,5 +1,6 @@
 -- A table and images for worked rows.
-use Rattle.std.specs.Prelude.{ℕ, ◌+◌, min, true, false, List, [], ◌∷◌, replicate}
+use Rattle.std.specs.Prelude.{ℕ, ◌+◌, ◌==◌, min, true, false, List, [], ◌∷◌, map, replicate}
+use Rattle.std.specs.List.{range_with_len}
 use Rattle.memory_window.specs.Memory.{Memory}
 use Rattle.memory_window.specs.declared.regions.Kind.TheVariants.{Ram}
 use Rattle.md_dwell.specs.Tables.{DwellTable, blank_entry, blank_table}
@@ -20,3 +21,15 @@ three_bytes delay =
       enabled = true;
       entries = (record { len = 1; delay = 0; at = 0x1000 }) ∷ (record { len = 1; delay = delay; at = 0x1001 }) ∷ (record { len = 1; delay = 0; at = 0x1002 }) ∷ replicate 22 blank_entry;
     }) ∷ blank_table ∷ blank_table ∷ blank_table ∷ []
+
+-- The same where the round begins anew a wakeup after its last entry was read.
+abbrev pub three_bytes_once : List DwellTable
+three_bytes_once =
+    (record {
+      enabled = true;
+      entries = (record { len = 1; delay = 0; at = 0x1000 }) ∷ (record { len = 1; delay = 0; at = 0x1001 }) ∷ (record { len = 1; delay = 1; at = 0x1002 }) ∷ replicate 22 blank_entry;
+    }) ∷ blank_table ∷ blank_table ∷ blank_table ∷ []
+
+-- Four tables without entries, of which table n alone is enabled.
+abbrev pub enabled_alone : ℕ → List DwellTable
+enabled_alone n = map (λ k. record { enabled = k == n; entries = replicate 25 blank_entry }) (range_with_len 1 4)

@@ -1,1 +1,106 @@
-//! laws
+//! What the definitions give in small cases, and the sentence that they make of rounds. The functions do nothing: their contracts are
+//! the laws.
+ghost use Rattle.std.specs.Prelude.{◌≡◌, ◌≢◌, ◌+◌, ◌*◌, ◌-◌, ◌<◌, ◌++◌, ℕ, List, [], ◌∷◌, length, replicate, true, false, None, Some};
+ghost use Rattle.bus_pipes.specs.declared.names.Out.TheVariants as outs;
+ghost use Rattle.commands.specs.Verdicts.{verdict_at};
+ghost use Rattle.commands.specs.declared.verdicts.Verdict.TheVariants.{Other, Request, Refused, Accepted};
+ghost use Rattle.memory_window.specs.Memory.{Memory};
+ghost use Rattle.md_dwell.specs.declared.tables.DwellEntry.{DwellEntry};
+ghost use Rattle.md_dwell.specs.declared.instructions.Instruction.TheVariants.{Plain, Start, Stop, Jam};
+ghost use Rattle.md_dwell.specs.Tables.{dwell_of, dwell_fault_of, blank_entry, blank_table};
+ghost use Rattle.md_dwell.specs.Lists.{delays, delays_to_last};
+ghost use Rattle.md_dwell.specs.Rounds.{round_bytes, round_at};
+ghost use Rattle.md_dwell.specs.Verdicts.{md_protocol};
+ghost use Rattle.md_dwell.specs.Orders.{names};
+ghost use Rattle.md_dwell.specs.Housekeeping.{enabled_bits, housekeeping_of};
+ghost use Rattle.md_dwell.specs.Step.{dwell_packet, md_items};
+ghost use Rattle.md_dwell.specs.Rows.{bytes_in_wakeup, quiet, three_bytes, three_bytes_once, enabled_alone};
+
+/// A payload of zero bytes has no fault, and spells the table without entries.
+pub fn blank_dwell()
+    ensures fault { dwell_fault_of (replicate 204 0) ≡ None }
+    ensures table { dwell_of (replicate 204 0) ≡ blank_table }
+{}
+
+/// A payload with one entry, its fields all different; the enabled flag; and each fault.
+pub fn table_rows()
+    ensures entry { dwell_of ((0 ∷ 1 ∷ 0 ∷ 0 ∷ 0 ∷ 4 ∷ 0 ∷ 3 ∷ 0 ∷ 1 ∷ 2 ∷ 8 ∷ []) ++ replicate 192 0) ≡ record { enabled = true; entries = (record { len = 4; delay = 3; at = 0x00010208 }) ∷ replicate 24 blank_entry } }
+    ensures last { dwell_of (replicate 196 0 ++ (0 ∷ 2 ∷ 5 ∷ 6 ∷ 7 ∷ 8 ∷ 9 ∷ 0x0A ∷ [])) ≡ record { enabled = false; entries = replicate 24 blank_entry ++ (record { len = 2; delay = 0x0506; at = 0x0708090A }) ∷ [] } }
+    ensures accepted { dwell_fault_of ((0 ∷ 1 ∷ 0 ∷ 0 ∷ 0 ∷ 4 ∷ 0 ∷ 3 ∷ 0 ∷ 1 ∷ 2 ∷ 8 ∷ []) ++ replicate 192 0) ≡ None }
+    ensures length { dwell_fault_of ((0 ∷ 1 ∷ 0 ∷ 0 ∷ 0 ∷ 4 ∷ 0 ∷ 3 ∷ 0 ∷ 1 ∷ 2 ∷ 8 ∷ 0 ∷ 3 ∷ 0 ∷ 0 ∷ 0 ∷ 0 ∷ 0 ∷ 0 ∷ []) ++ replicate 184 0) ≡ Some (record { entry = 2; reason = 1 }) }
+    ensures flag { dwell_fault_of ((0 ∷ 2 ∷ 0 ∷ 0 ∷ 0 ∷ 3 ∷ 0 ∷ 0 ∷ 0 ∷ 0 ∷ 0 ∷ 0 ∷ []) ++ replicate 192 0) ≡ Some (record { entry = 0; reason = 2 }) }
+    ensures alignment { dwell_fault_of ((0 ∷ 0 ∷ 0 ∷ 0 ∷ 0 ∷ 4 ∷ 0 ∷ 0 ∷ 0 ∷ 0 ∷ 0 ∷ 2 ∷ []) ++ replicate 192 0) ≡ Some (record { entry = 1; reason = 3 }) }
+{}
+
+/// A round ends in the last wakeup exactly where it is `since + r * R + D` for some round r, with R all delays of the list and D those
+/// before its last entry, and then it is round r that ends.
+pub fn rounds_end_by_number()
+    ensures ends { (list : List DwellEntry) (since r : ℕ) (images : List Memory) → 0 < delays list → length images - 1 ≡ since + r * delays list + delays_to_last list
+        → round_at list since images ≡ Some (round_bytes list since images r) }
+    ensures none { (list : List DwellEntry) (since : ℕ) (images : List Memory) → 0 < delays list → ((r : ℕ) → length images - 1 ≢ since + r * delays list + delays_to_last list)
+        → round_at list since images ≡ None }
+{}
+
+/// Three entries of a byte with the delays 0, 2 and 0: packets come in wakeups 2 and 4, the second with two bytes that were read in
+/// wakeup 2. With all delays 0 there is none.
+pub fn dwell_rounds()
+    ensures first { md_items (three_bytes 2) [] (quiet 0) ≡ [] }
+    ensures second { md_items (three_bytes 2) (quiet 0 ∷ []) (quiet 1) ≡ [] }
+    ensures third { md_items (three_bytes 2) (quiet 0 ∷ quiet 1 ∷ []) (quiet 2)
+        ≡ outs.Made (0x08 ∷ 0x91 ∷ 0xC0 ∷ 0 ∷ 0 ∷ 0x0C ∷ 0 ∷ 0 ∷ 3 ∷ 0xEA ∷ 0 ∷ 0 ∷ 0 ∷ 1 ∷ 0 ∷ 3 ∷ 0xA0 ∷ 0xB0 ∷ 0xC2 ∷ []) ∷ [] }
+    ensures fourth { md_items (three_bytes 2) (quiet 0 ∷ quiet 1 ∷ quiet 2 ∷ []) (quiet 3) ≡ [] }
+    ensures fifth { md_items (three_bytes 2) (quiet 0 ∷ quiet 1 ∷ quiet 2 ∷ quiet 3 ∷ []) (quiet 4)
+        ≡ outs.Made (0x08 ∷ 0x91 ∷ 0xC0 ∷ 0 ∷ 0 ∷ 0x0C ∷ 0 ∷ 0 ∷ 3 ∷ 0xEC ∷ 0 ∷ 0 ∷ 0 ∷ 1 ∷ 0 ∷ 3 ∷ 0xA2 ∷ 0xB2 ∷ 0xC2 ∷ []) ∷ [] }
+    ensures no_delay { md_items (three_bytes 0) (quiet 0 ∷ quiet 1 ∷ quiet 2 ∷ []) (quiet 3) ≡ [] }
+{}
+
+/// A command of each code, a request, and a packet of another id.
+pub fn command_rows()
+    ensures noop { verdict_at md_protocol (bytes_in_wakeup 0) [] (0x18 ∷ 0x90 ∷ 0xC0 ∷ 0 ∷ 0 ∷ 1 ∷ 0 ∷ 0xB6 ∷ []) ≡ Accepted 0 Plain }
+    ensures reset { verdict_at md_protocol (bytes_in_wakeup 0) [] (0x18 ∷ 0x90 ∷ 0xC0 ∷ 0 ∷ 0 ∷ 1 ∷ 1 ∷ 0xB7 ∷ []) ≡ Accepted 1 Plain }
+    ensures start { verdict_at md_protocol (bytes_in_wakeup 0) [] (0x18 ∷ 0x90 ∷ 0xC0 ∷ 0 ∷ 0 ∷ 3 ∷ 2 ∷ 0xBC ∷ 0 ∷ 0x0A ∷ []) ≡ Accepted 2 (Start 10) }
+    ensures stop { verdict_at md_protocol (bytes_in_wakeup 0) [] (0x18 ∷ 0x90 ∷ 0xC0 ∷ 0 ∷ 0 ∷ 3 ∷ 3 ∷ 0xB2 ∷ 0 ∷ 5 ∷ []) ≡ Accepted 3 (Stop 5) }
+    ensures jam { verdict_at md_protocol (bytes_in_wakeup 0) [] (0x18 ∷ 0x90 ∷ 0xC0 ∷ 0 ∷ 0 ∷ 0x0D ∷ 4 ∷ 0xA3 ∷ 0 ∷ 3 ∷ 0 ∷ 7 ∷ 0 ∷ 2 ∷ 0 ∷ 9 ∷ 0 ∷ 0 ∷ 0x10 ∷ 2 ∷ []) ≡ Accepted 4 (Jam 3 7 (record { len = 2; delay = 9; at = 0x1002 })) }
+    ensures request { verdict_at md_protocol (bytes_in_wakeup 0) [] (0x18 ∷ 0x91 ∷ 0xC0 ∷ 0 ∷ 0 ∷ 1 ∷ 0 ∷ 0xB7 ∷ []) ≡ Request }
+    ensures other { verdict_at md_protocol (bytes_in_wakeup 0) [] (0x18 ∷ 0x88 ∷ 0xC0 ∷ 0 ∷ 0 ∷ 1 ∷ 0 ∷ 0xAE ∷ []) ≡ Other }
+{}
+
+/// Each refusal.
+pub fn refusal_rows()
+    ensures checksum { verdict_at md_protocol (bytes_in_wakeup 0) [] (0x18 ∷ 0x90 ∷ 0xC0 ∷ 0 ∷ 0 ∷ 1 ∷ 0 ∷ 0xB7 ∷ []) ≡ Refused 1 }
+    ensures code { verdict_at md_protocol (bytes_in_wakeup 0) [] (0x18 ∷ 0x90 ∷ 0xC0 ∷ 0 ∷ 0 ∷ 1 ∷ 5 ∷ 0xB3 ∷ []) ≡ Refused 2 }
+    ensures length { verdict_at md_protocol (bytes_in_wakeup 0) [] (0x18 ∷ 0x90 ∷ 0xC0 ∷ 0 ∷ 0 ∷ 1 ∷ 2 ∷ 0xB4 ∷ []) ≡ Refused 3 }
+    ensures no_table { verdict_at md_protocol (bytes_in_wakeup 0) [] (0x18 ∷ 0x90 ∷ 0xC0 ∷ 0 ∷ 0 ∷ 3 ∷ 2 ∷ 0xB6 ∷ 0 ∷ 0 ∷ []) ≡ Refused 4 }
+    ensures fifth_table { verdict_at md_protocol (bytes_in_wakeup 0) [] (0x18 ∷ 0x90 ∷ 0xC0 ∷ 0 ∷ 0 ∷ 3 ∷ 3 ∷ 0xA7 ∷ 0 ∷ 0x10 ∷ []) ≡ Refused 4 }
+    ensures jammed_table { verdict_at md_protocol (bytes_in_wakeup 0) [] (0x18 ∷ 0x90 ∷ 0xC0 ∷ 0 ∷ 0 ∷ 0x0D ∷ 4 ∷ 0xA5 ∷ 0 ∷ 5 ∷ 0 ∷ 7 ∷ 0 ∷ 2 ∷ 0 ∷ 9 ∷ 0 ∷ 0 ∷ 0x10 ∷ 2 ∷ []) ≡ Refused 4 }
+    ensures entry { verdict_at md_protocol (bytes_in_wakeup 0) [] (0x18 ∷ 0x90 ∷ 0xC0 ∷ 0 ∷ 0 ∷ 0x0D ∷ 4 ∷ 0xBE ∷ 0 ∷ 3 ∷ 0 ∷ 0x1A ∷ 0 ∷ 2 ∷ 0 ∷ 9 ∷ 0 ∷ 0 ∷ 0x10 ∷ 2 ∷ []) ≡ Refused 5 }
+    ensures entry_length { verdict_at md_protocol (bytes_in_wakeup 0) [] (0x18 ∷ 0x90 ∷ 0xC0 ∷ 0 ∷ 0 ∷ 0x0D ∷ 4 ∷ 0xA2 ∷ 0 ∷ 3 ∷ 0 ∷ 7 ∷ 0 ∷ 3 ∷ 0 ∷ 9 ∷ 0 ∷ 0 ∷ 0x10 ∷ 2 ∷ []) ≡ Refused 6 }
+    ensures read { verdict_at md_protocol (bytes_in_wakeup 0) [] (0x18 ∷ 0x90 ∷ 0xC0 ∷ 0 ∷ 0 ∷ 0x0D ∷ 4 ∷ 0x91 ∷ 0 ∷ 3 ∷ 0 ∷ 7 ∷ 0 ∷ 2 ∷ 0 ∷ 9 ∷ 0 ∷ 0 ∷ 0x20 ∷ 0 ∷ []) ≡ Refused 7 }
+{}
+
+/// The masks, bit by bit: that of a command and that of housekeeping.
+pub fn mask_rows()
+    ensures names_first { names 1 1 ≡ true }
+    ensures names_not_first { names 14 1 ≡ false }
+    ensures enabled_first { enabled_bits (enabled_alone 1) [] ≡ 1 }
+    ensures names_second { names 2 2 ≡ true }
+    ensures names_not_second { names 13 2 ≡ false }
+    ensures enabled_second { enabled_bits (enabled_alone 2) [] ≡ 2 }
+    ensures names_third { names 4 3 ≡ true }
+    ensures names_not_third { names 11 3 ≡ false }
+    ensures enabled_third { enabled_bits (enabled_alone 3) [] ≡ 4 }
+    ensures names_fourth { names 8 4 ≡ true }
+    ensures names_not_fourth { names 7 4 ≡ false }
+    ensures enabled_fourth { enabled_bits (enabled_alone 4) [] ≡ 8 }
+{}
+
+/// Each packet, its fields all different.
+pub fn packet_rows()
+    ensures housekeeping { housekeeping_of 0x01020304 (record { accepted = 0x11; errors = 0x22 }) 11 ≡ 8 ∷ 0x90 ∷ 0xC0 ∷ 0 ∷ 0 ∷ 9 ∷ 1 ∷ 2 ∷ 3 ∷ 4 ∷ 0 ∷ 0 ∷ 0x11 ∷ 0x22 ∷ 0x0B ∷ 0 ∷ [] }
+    ensures dwell { dwell_packet 0x01020304 3 (0xA1 ∷ 0xB2 ∷ []) ≡ 8 ∷ 0x93 ∷ 0xC0 ∷ 0 ∷ 0 ∷ 0x0B ∷ 1 ∷ 2 ∷ 3 ∷ 4 ∷ 0 ∷ 0 ∷ 0 ∷ 3 ∷ 0 ∷ 2 ∷ 0xA1 ∷ 0xB2 ∷ [] }
+{}
+
+/// A wakeup with a start, a refused stop and a request, and a round of three bytes that are read at once.
+pub fn wakeup_rows()
+    ensures items { md_items three_bytes_once [] (record { time = 1001; commands = (0x18 ∷ 0x90 ∷ 0xC0 ∷ 0 ∷ 0 ∷ 3 ∷ 2 ∷ 0xB4 ∷ 0 ∷ 2 ∷ []) ∷ (0x18 ∷ 0x90 ∷ 0xC0 ∷ 0 ∷ 0 ∷ 3 ∷ 3 ∷ 0xA7 ∷ 0 ∷ 0x10 ∷ []) ∷ (0x18 ∷ 0x91 ∷ 0xC0 ∷ 0 ∷ 0 ∷ 1 ∷ 0 ∷ 0xB7 ∷ []) ∷ []; seen = bytes_in_wakeup 0 }) ≡ outs.Made (8 ∷ 8 ∷ 0xC0 ∷ 0 ∷ 0 ∷ 0x25 ∷ 0 ∷ 0 ∷ 3 ∷ 0xE9 ∷ 0 ∷ 0 ∷ 0x4D ∷ 0x44 ∷ 0 ∷ 0 ∷ 0 ∷ 0 ∷ 0 ∷ 0 ∷ 0 ∷ 0 ∷ 0 ∷ 0 ∷ 0 ∷ 0 ∷ 0 ∷ 0 ∷ 0 ∷ 0 ∷ 0 ∷ 0 ∷ 0 ∷ 0x12 ∷ 0 ∷ 2 ∷ 0 ∷ 0 ∷ 0 ∷ 0x42 ∷ 0 ∷ 0 ∷ 0 ∷ 1 ∷ []) ∷ outs.Made (8 ∷ 8 ∷ 0xC0 ∷ 0 ∷ 0 ∷ 0x25 ∷ 0 ∷ 0 ∷ 3 ∷ 0xE9 ∷ 0 ∷ 0 ∷ 0x4D ∷ 0x44 ∷ 0 ∷ 0 ∷ 0 ∷ 0 ∷ 0 ∷ 0 ∷ 0 ∷ 0 ∷ 0 ∷ 0 ∷ 0 ∷ 0 ∷ 0 ∷ 0 ∷ 0 ∷ 0 ∷ 0 ∷ 0 ∷ 0 ∷ 4 ∷ 0 ∷ 3 ∷ 0 ∷ 0 ∷ 0 ∷ 0x42 ∷ 0 ∷ 0 ∷ 0 ∷ 1 ∷ []) ∷ outs.Made (8 ∷ 0x90 ∷ 0xC0 ∷ 0 ∷ 0 ∷ 9 ∷ 0 ∷ 0 ∷ 3 ∷ 0xE9 ∷ 0 ∷ 0 ∷ 1 ∷ 1 ∷ 3 ∷ 0 ∷ []) ∷ outs.Made (8 ∷ 0x91 ∷ 0xC0 ∷ 0 ∷ 0 ∷ 0x0C ∷ 0 ∷ 0 ∷ 3 ∷ 0xE9 ∷ 0 ∷ 0 ∷ 0 ∷ 1 ∷ 0 ∷ 3 ∷ 0xA0 ∷ 0xB0 ∷ 0xC0 ∷ []) ∷ [] }
+{}

@@ -1,7 +1,6 @@
 -- What MM leaves is admitted and names no load file.
-use Rattle.std.proofs.Common.{◌≡◌, ℕ, ◌+◌, ◌≤◌, ◌<◌, ◌%◌, ◌^◌, Bool, true, false, cond, List, [], ◌∷◌, ◌++◌, length, Option, Some, None, refl, sym, ap, ◌∙◌, subst, arith, append-nil, length-append}
+use Rattle.std.proofs.Common.{◌≡◌, ℕ, ◌+◌, ◌<◌, ◌%◌, ◌^◌, Bool, true, false, cond, List, [], ◌∷◌, ◌++◌, Option, Some, None, refl, ◌∙◌, subst, arith, append-nil, length-append}
 use Rattle.std.specs.Prelude.{is_none, Result, Ok, Err, is_some}
-use Rattle.std.specs.List.{All}
 use Rattle.std.proofs.lemmas.List.Elements.{filter_map-append, All-append}
 use Rattle.std.proofs.lemmas.Nat.{pow_pos}
 use Rattle.commands.proofs.Answering.{none_fail, one_passes}

@@ -1,5 +1,5 @@
 -- A history of MM with one wakeup more.
-use Rattle.std.proofs.Common.{◌≡◌, List, [], ◌∷◌, ◌++◌, length, refl, sym, ap, ◌∙◌}
+use Rattle.std.proofs.Common.{◌≡◌, List, [], ◌∷◌, ◌++◌, ap, ◌∙◌}
 use Rattle.commands.specs.declared.verdicts.Verdict.{Verdict}
 use Rattle.commands.specs.Verdicts.{orders_in, verdicts_on}
 use Rattle.commands.specs.Answering.{command_items}

@@ -1,7 +1,7 @@
 -- What MM sees beside its packets, and what it reads and asks of the image of memory.
 use Rattle.std.specs.Prelude.{ℕ, Bool, List, [], Option, Result}
 use Rattle.memory_window.specs.Memory.{Memory}
-use Rattle.memory_window.specs.Access.{read_of, admits_of, is_protected, Admitted}
+use Rattle.memory_window.specs.Access.{read_of, admits_of, is_protected}
 use Rattle.memory_window.specs.Window.{seen}
 use Rattle.memory_window.specs.declared.window.Window.{Window}
 use Rattle.memory_window.specs.declared.access.AccessFault.{AccessFault}

@@ -5,7 +5,6 @@ use Rattle.commands.specs.Verdicts.{orders_in, verdicts_on}
 use Rattle.commands.specs.Inputs.{Input as CommandInput, Wakeup, heard_of}
 use Rattle.commands.specs.Answering.{Answers, command_items}
 use Rattle.commands.specs.declared.verdicts.Verdict.{Verdict}
-use Rattle.memory_window.specs.Window.{seen}
 use Rattle.memory_window.specs.declared.window.Window.{Window}
 use Rattle.memory_window.specs.declared.operations.MemOp.{MemOp}
 use Rattle.mm_core.specs.Messages.{mm_name}

@@ -1,5 +1,5 @@
 -- Which of MM's commands are refused, by the image and the protection with which the frame began.
-use Rattle.std.specs.Prelude.{ℕ, ◌%◌, ◌^◌, Bool, true, is_none, if◌then◌else◌, Option, Some, None, Result, Ok, Err}
+use Rattle.std.specs.Prelude.{ℕ, ◌%◌, ◌^◌, is_none, if◌then◌else◌, Option, Some, None, Result, Ok, Err}
 use Rattle.commands.specs.Verdicts.{Protocol, protocol_of}
 use Rattle.memory_window.specs.Memory.{Memory}
 use Rattle.memory_window.specs.Operations.{is_size}

@@ -1,1 +1,63 @@
-//! laws
+//! What the definitions give in small cases. The functions do nothing: their contracts are the rows.
+ghost use Rattle.std.specs.Prelude.{◌≡◌, [], ◌∷◌, false, true};
+ghost use Rattle.memory_window.specs.declared.operations.MemOp.TheVariants as ops;
+ghost use Rattle.bus_pipes.specs.declared.names.Out.TheVariants as outs;
+ghost use Rattle.commands.specs.Verdicts.{verdict_at};
+ghost use Rattle.commands.specs.declared.verdicts.Verdict.TheVariants.{Other, Request, Refused, Accepted};
+ghost use Rattle.mm_core.specs.declared.instructions.Instruction.TheVariants.{Plain, Peek, Poke, Protect};
+ghost use Rattle.mm_core.specs.Verdicts.{mm_protocol};
+ghost use Rattle.mm_core.specs.Housekeeping.{open_regions, housekeeping_of};
+ghost use Rattle.mm_core.specs.Answers.{peek_packet};
+ghost use Rattle.mm_core.specs.Step.{mm_items, mm_operations};
+ghost use Rattle.mm_core.specs.Rows.{three_areas, seen_three, eight_regions};
+
+/// A command of each code, a request, and a packet of another id.
+pub fn command_rows()
+    ensures noop { verdict_at mm_protocol seen_three [] (0x18 ∷ 0x88 ∷ 0xC0 ∷ 0 ∷ 0 ∷ 1 ∷ 0 ∷ 0xAE ∷ []) ≡ Accepted 0 Plain }
+    ensures reset { verdict_at mm_protocol seen_three [] (0x18 ∷ 0x88 ∷ 0xC0 ∷ 0 ∷ 0 ∷ 1 ∷ 1 ∷ 0xAF ∷ []) ≡ Accepted 1 Plain }
+    ensures peek { verdict_at mm_protocol seen_three [] (0x18 ∷ 0x88 ∷ 0xC0 ∷ 0 ∷ 0 ∷ 6 ∷ 2 ∷ 0xA9 ∷ 0x10 ∷ 0 ∷ 0 ∷ 0x10 ∷ 2 ∷ []) ≡ Accepted 2 (Peek 16 0x1002) }
+    ensures poke { verdict_at mm_protocol seen_three [] (0x18 ∷ 0x88 ∷ 0xC0 ∷ 0 ∷ 0 ∷ 0x0A ∷ 3 ∷ 0x12 ∷ 0x20 ∷ 0 ∷ 0 ∷ 0x10 ∷ 4 ∷ 0x21 ∷ 0x43 ∷ 0x65 ∷ 0x87 ∷ []) ≡ Accepted 3 (Poke 32 0x1004 0x21436587) }
+    ensures enable { verdict_at mm_protocol seen_three [] (0x18 ∷ 0x88 ∷ 0xC0 ∷ 0 ∷ 0 ∷ 2 ∷ 0x0B ∷ 0xA4 ∷ 2 ∷ []) ≡ Accepted 11 (Protect 2 false) }
+    ensures disable { verdict_at mm_protocol seen_three [] (0x18 ∷ 0x88 ∷ 0xC0 ∷ 0 ∷ 0 ∷ 2 ∷ 0x0C ∷ 0xA3 ∷ 2 ∷ []) ≡ Accepted 12 (Protect 2 true) }
+    ensures request { verdict_at mm_protocol seen_three [] (0x18 ∷ 0x89 ∷ 0xC0 ∷ 0 ∷ 0 ∷ 1 ∷ 0 ∷ 0xAF ∷ []) ≡ Request }
+    ensures other { verdict_at mm_protocol seen_three [] (0x18 ∷ 0x90 ∷ 0xC0 ∷ 0 ∷ 0 ∷ 1 ∷ 0 ∷ 0xB6 ∷ []) ≡ Other }
+{}
+
+/// Each refusal.
+pub fn refusal_rows()
+    ensures checksum { verdict_at mm_protocol seen_three [] (0x18 ∷ 0x88 ∷ 0xC0 ∷ 0 ∷ 0 ∷ 1 ∷ 0 ∷ 0xAF ∷ []) ≡ Refused 1 }
+    ensures code { verdict_at mm_protocol seen_three [] (0x18 ∷ 0x88 ∷ 0xC0 ∷ 0 ∷ 0 ∷ 1 ∷ 6 ∷ 0xA8 ∷ []) ≡ Refused 2 }
+    ensures length { verdict_at mm_protocol seen_three [] (0x18 ∷ 0x88 ∷ 0xC0 ∷ 0 ∷ 0 ∷ 5 ∷ 2 ∷ 0xB0 ∷ 8 ∷ 0 ∷ 0 ∷ 0x10 ∷ []) ≡ Refused 3 }
+    ensures outside { verdict_at mm_protocol seen_three [] (0x18 ∷ 0x88 ∷ 0xC0 ∷ 0 ∷ 0 ∷ 6 ∷ 2 ∷ 0xE3 ∷ 8 ∷ 0 ∷ 0 ∷ 0x40 ∷ 0 ∷ []) ≡ Refused 4 }
+    ensures unaligned { verdict_at mm_protocol seen_three [] (0x18 ∷ 0x88 ∷ 0xC0 ∷ 0 ∷ 0 ∷ 6 ∷ 2 ∷ 0xAA ∷ 0x10 ∷ 0 ∷ 0 ∷ 0x10 ∷ 1 ∷ []) ≡ Refused 5 }
+    ensures wrong_size { verdict_at mm_protocol seen_three [] (0x18 ∷ 0x88 ∷ 0xC0 ∷ 0 ∷ 0 ∷ 6 ∷ 2 ∷ 0xBB ∷ 0x20 ∷ 0 ∷ 0 ∷ 0x30 ∷ 0 ∷ []) ≡ Refused 6 }
+    ensures protected { verdict_at mm_protocol seen_three [] (0x18 ∷ 0x88 ∷ 0xC0 ∷ 0 ∷ 0 ∷ 0x0A ∷ 3 ∷ 0x25 ∷ 8 ∷ 0 ∷ 0 ∷ 0x20 ∷ 0 ∷ 0 ∷ 0 ∷ 0 ∷ 0xAB ∷ []) ≡ Refused 7 }
+    ensures size { verdict_at mm_protocol seen_three [] (0x18 ∷ 0x88 ∷ 0xC0 ∷ 0 ∷ 0 ∷ 6 ∷ 2 ∷ 0xA3 ∷ 0x18 ∷ 0 ∷ 0 ∷ 0x10 ∷ 0 ∷ []) ≡ Refused 8 }
+    ensures region { verdict_at mm_protocol seen_three [] (0x18 ∷ 0x88 ∷ 0xC0 ∷ 0 ∷ 0 ∷ 2 ∷ 0x0B ∷ 0xA7 ∷ 1 ∷ []) ≡ Refused 12 }
+{}
+
+/// The mask of open regions, bit by bit.
+pub fn mask_rows()
+    ensures first { open_regions (eight_regions (false ∷ true ∷ true ∷ true ∷ true ∷ true ∷ true ∷ true ∷ [])) ≡ 0x01 }
+    ensures second { open_regions (eight_regions (true ∷ false ∷ true ∷ true ∷ true ∷ true ∷ true ∷ true ∷ [])) ≡ 0x02 }
+    ensures third { open_regions (eight_regions (true ∷ true ∷ false ∷ true ∷ true ∷ true ∷ true ∷ true ∷ [])) ≡ 0x04 }
+    ensures fourth { open_regions (eight_regions (true ∷ true ∷ true ∷ false ∷ true ∷ true ∷ true ∷ true ∷ [])) ≡ 0x08 }
+    ensures fifth { open_regions (eight_regions (true ∷ true ∷ true ∷ true ∷ false ∷ true ∷ true ∷ true ∷ [])) ≡ 0x10 }
+    ensures sixth { open_regions (eight_regions (true ∷ true ∷ true ∷ true ∷ true ∷ false ∷ true ∷ true ∷ [])) ≡ 0x20 }
+    ensures seventh { open_regions (eight_regions (true ∷ true ∷ true ∷ true ∷ true ∷ true ∷ false ∷ true ∷ [])) ≡ 0x40 }
+    ensures eighth { open_regions (eight_regions (true ∷ true ∷ true ∷ true ∷ true ∷ true ∷ true ∷ false ∷ [])) ≡ 0x80 }
+    ensures no_eeprom { open_regions three_areas ≡ 0 }
+{}
+
+/// Each packet, its fields all different.
+pub fn packet_rows()
+    ensures housekeeping { housekeeping_of 0x01020304 (record { accepted = 0x11; errors = 0x22 }) (eight_regions (false ∷ true ∷ false ∷ false ∷ true ∷ true ∷ true ∷ false ∷ [])) ≡ 8 ∷ 0x87 ∷ 0xC0 ∷ 0 ∷ 0 ∷ 9 ∷ 1 ∷ 2 ∷ 3 ∷ 4 ∷ 0 ∷ 0 ∷ 0x11 ∷ 0x22 ∷ 0x8D ∷ 0 ∷ [] }
+    ensures peek { peek_packet 0x01020304 32 0x05060708 0x090A0B0C ≡ 8 ∷ 0x8A ∷ 0xC0 ∷ 0 ∷ 0 ∷ 0x0E ∷ 1 ∷ 2 ∷ 3 ∷ 4 ∷ 0 ∷ 0 ∷ 0x20 ∷ 5 ∷ 6 ∷ 7 ∷ 8 ∷ 9 ∷ 0x0A ∷ 0x0B ∷ 0x0C ∷ [] }
+{}
+
+/// A wakeup with a poke of four bytes of which one is written, a peek that reads the image of its beginning, a peek that is refused, an
+/// EEPROM enable, and a request.
+pub fn wakeup_rows()
+    ensures items { mm_items [] (record { time = 1001; commands = (0x18 ∷ 0x88 ∷ 0xC0 ∷ 0 ∷ 0 ∷ 0x0A ∷ 3 ∷ 0xB0 ∷ 8 ∷ 0 ∷ 0 ∷ 0x10 ∷ 1 ∷ 0x12 ∷ 0x34 ∷ 0x56 ∷ 0x7F ∷ []) ∷ (0x18 ∷ 0x88 ∷ 0xC0 ∷ 0 ∷ 0 ∷ 6 ∷ 2 ∷ 0xAB ∷ 0x10 ∷ 0 ∷ 0 ∷ 0x10 ∷ 0 ∷ []) ∷ (0x18 ∷ 0x88 ∷ 0xC0 ∷ 0 ∷ 0 ∷ 6 ∷ 2 ∷ 0xA3 ∷ 0x18 ∷ 0 ∷ 0 ∷ 0x10 ∷ 0 ∷ []) ∷ (0x18 ∷ 0x88 ∷ 0xC0 ∷ 0 ∷ 0 ∷ 2 ∷ 0x0B ∷ 0xA4 ∷ 2 ∷ []) ∷ (0x18 ∷ 0x89 ∷ 0xC0 ∷ 0 ∷ 0 ∷ 1 ∷ 0 ∷ 0xAF ∷ []) ∷ []; seen = seen_three }) ≡ outs.Made (8 ∷ 8 ∷ 0xC0 ∷ 0 ∷ 0 ∷ 0x25 ∷ 0 ∷ 0 ∷ 3 ∷ 0xE9 ∷ 0 ∷ 0 ∷ 0x4D ∷ 0x4D ∷ 0 ∷ 0 ∷ 0 ∷ 0 ∷ 0 ∷ 0 ∷ 0 ∷ 0 ∷ 0 ∷ 0 ∷ 0 ∷ 0 ∷ 0 ∷ 0 ∷ 0 ∷ 0 ∷ 0 ∷ 0 ∷ 0 ∷ 0x13 ∷ 0 ∷ 2 ∷ 0 ∷ 0 ∷ 0 ∷ 0x42 ∷ 0 ∷ 0 ∷ 0 ∷ 1 ∷ []) ∷ outs.Made (8 ∷ 0x8A ∷ 0xC0 ∷ 0 ∷ 0 ∷ 0x0E ∷ 0 ∷ 0 ∷ 3 ∷ 0xE9 ∷ 0 ∷ 0 ∷ 0x10 ∷ 0 ∷ 0 ∷ 0x10 ∷ 0 ∷ 0 ∷ 0 ∷ 0xA1 ∷ 0xB2 ∷ []) ∷ outs.Made (8 ∷ 8 ∷ 0xC0 ∷ 0 ∷ 0 ∷ 0x25 ∷ 0 ∷ 0 ∷ 3 ∷ 0xE9 ∷ 0 ∷ 0 ∷ 0x4D ∷ 0x4D ∷ 0 ∷ 0 ∷ 0 ∷ 0 ∷ 0 ∷ 0 ∷ 0 ∷ 0 ∷ 0 ∷ 0 ∷ 0 ∷ 0 ∷ 0 ∷ 0 ∷ 0 ∷ 0 ∷ 0 ∷ 0 ∷ 0 ∷ 0x12 ∷ 0 ∷ 2 ∷ 0 ∷ 0 ∷ 0 ∷ 0x42 ∷ 0 ∷ 0 ∷ 0 ∷ 1 ∷ []) ∷ outs.Made (8 ∷ 8 ∷ 0xC0 ∷ 0 ∷ 0 ∷ 0x25 ∷ 0 ∷ 0 ∷ 3 ∷ 0xE9 ∷ 0 ∷ 0 ∷ 0x4D ∷ 0x4D ∷ 0 ∷ 0 ∷ 0 ∷ 0 ∷ 0 ∷ 0 ∷ 0 ∷ 0 ∷ 0 ∷ 0 ∷ 0 ∷ 0 ∷ 0 ∷ 0 ∷ 0 ∷ 0 ∷ 0 ∷ 0 ∷ 0 ∷ 8 ∷ 0 ∷ 3 ∷ 0 ∷ 0 ∷ 0 ∷ 0x42 ∷ 0 ∷ 0 ∷ 0 ∷ 1 ∷ []) ∷ outs.Made (8 ∷ 8 ∷ 0xC0 ∷ 0 ∷ 0 ∷ 0x25 ∷ 0 ∷ 0 ∷ 3 ∷ 0xE9 ∷ 0 ∷ 0 ∷ 0x4D ∷ 0x4D ∷ 0 ∷ 0 ∷ 0 ∷ 0 ∷ 0 ∷ 0 ∷ 0 ∷ 0 ∷ 0 ∷ 0 ∷ 0 ∷ 0 ∷ 0 ∷ 0 ∷ 0 ∷ 0 ∷ 0 ∷ 0 ∷ 0 ∷ 0x1B ∷ 0 ∷ 2 ∷ 0 ∷ 0 ∷ 0 ∷ 0x42 ∷ 0 ∷ 0 ∷ 0 ∷ 1 ∷ []) ∷ outs.Made (8 ∷ 0x87 ∷ 0xC0 ∷ 0 ∷ 0 ∷ 9 ∷ 0 ∷ 0 ∷ 3 ∷ 0xE9 ∷ 0 ∷ 0 ∷ 3 ∷ 1 ∷ 0 ∷ 0 ∷ []) ∷ [] }
+    ensures operations { mm_operations (record { time = 1001; commands = (0x18 ∷ 0x88 ∷ 0xC0 ∷ 0 ∷ 0 ∷ 0x0A ∷ 3 ∷ 0xB0 ∷ 8 ∷ 0 ∷ 0 ∷ 0x10 ∷ 1 ∷ 0x12 ∷ 0x34 ∷ 0x56 ∷ 0x7F ∷ []) ∷ (0x18 ∷ 0x88 ∷ 0xC0 ∷ 0 ∷ 0 ∷ 6 ∷ 2 ∷ 0xAB ∷ 0x10 ∷ 0 ∷ 0 ∷ 0x10 ∷ 0 ∷ []) ∷ (0x18 ∷ 0x88 ∷ 0xC0 ∷ 0 ∷ 0 ∷ 6 ∷ 2 ∷ 0xA3 ∷ 0x18 ∷ 0 ∷ 0 ∷ 0x10 ∷ 0 ∷ []) ∷ (0x18 ∷ 0x88 ∷ 0xC0 ∷ 0 ∷ 0 ∷ 2 ∷ 0x0B ∷ 0xA4 ∷ 2 ∷ []) ∷ (0x18 ∷ 0x89 ∷ 0xC0 ∷ 0 ∷ 0 ∷ 1 ∷ 0 ∷ 0xAF ∷ []) ∷ []; seen = seen_three }) ≡ ops.Poke 8 0x1001 0x7F ∷ ops.Protect 2 false ∷ [] }
+{}

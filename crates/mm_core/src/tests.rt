@@ -185,5 +185,8 @@ fn command_refusals(rt: HostRuntime) -> Result<(), Fail> {
 #[test]
 fn definitions_give_the_rows() {
     laws::command_rows();
-    laws::poke_rows();
+    laws::refusal_rows();
+    laws::mask_rows();
+    laws::packet_rows();
+    laws::wakeup_rows();
 }

@@ -1,4 +1,4 @@
-use Rattle.std.proofs.Common.{sym, ◌∙◌, ◌≡◌, List, ℕ, []}
+use Rattle.std.proofs.Common.{sym, ◌∙◌}
 use Rattle.commands.proofs.Heard.{no_packets}
 use Rattle.mm_core.specs.State.{Stands}
 use Rattle.mm_core.proofs.Wakeups.{heard_asleep, items_asleep, operations_asleep}

@@ -1,0 +1,21 @@
+use Rattle.std.proofs.Common.{refl}
+use Rattle.packet_forms.specs.Numbers.{be16_at, be32_at}
+use Rattle.packet_forms.specs.Packets.{message_id, function_code, is_checksum_right, checksum_of, payload_of, is_command}
+use Rattle.commands.specs.Verdicts.{verdict_at}
+use Rattle.mm_core.specs.Messages.{mm_codes, mm_name}
+use Rattle.mm_core.specs.Instructions.{instruction_of}
+use Rattle.mm_core.specs.Reading.{value_at, admission_of, protection_of}
+use Rattle.mm_core.proofs.laws.command_rows.Goals as goal
+
+pub returns : goal.returns
+unfolding be16_at be32_at message_id function_code is_checksum_right checksum_of payload_of is_command verdict_at mm_codes mm_name instruction_of value_at admission_of protection_of
+returns c = record {
+  noop = refl;
+  reset = refl;
+  peek = refl;
+  poke = refl;
+  enable = refl;
+  disable = refl;
+  request = refl;
+  other = refl;
+}
