@@ -1,1 +1,102 @@
-//! laws
+//! What the definitions give in small cases, and sentences that they make. The functions do nothing: their contracts are the laws.
+ghost use Rattle.std.specs.Prelude.{◌≡◌, ◌≢◌, ◌≤◌, ◌<◌, ◌++◌, ℕ, List, [], ◌∷◌, length, replicate, None, Some, true, false, codes};
+ghost use Rattle.packet_forms.specs.Built.{event_of};
+ghost use Rattle.packet_forms.specs.Names.{name_of};
+ghost use Rattle.bus_pipes.specs.declared.names.Out.TheVariants as outs;
+ghost use Rattle.commands.specs.Verdicts.{verdict_at};
+ghost use Rattle.commands.specs.declared.verdicts.Verdict.TheVariants.{Other, Request, Refused, Accepted};
+ghost use Rattle.memory_window.specs.Memory.{Memory};
+ghost use Rattle.cs_slices.specs.declared.segments.Segment.{Segment};
+ghost use Rattle.cs_slices.specs.declared.instructions.Instruction.{Instruction};
+ghost use Rattle.cs_slices.specs.declared.instructions.Instruction.TheVariants.{Plain, Whole, Table, Entry, Report};
+ghost use Rattle.cs_slices.specs.Tables.{segments_of, segments_fault_of, blank_segment, blank_segments};
+ghost use Rattle.cs_slices.specs.Verdicts.{cs_protocol};
+ghost use Rattle.cs_slices.specs.Orders.{takes_part};
+ghost use Rattle.cs_slices.specs.Slices.{Slice, next_slice};
+ghost use Rattle.cs_slices.specs.Housekeeping.{flags_of, housekeeping_of};
+ghost use Rattle.cs_slices.specs.Answers.{baseline_packet};
+ghost use Rattle.cs_slices.specs.Step.{cs_items};
+ghost use Rattle.cs_slices.specs.Rows.{three_bytes, second_table, wakeup};
+
+/// A payload of zero bytes has no fault, and spells the table of empty entries.
+pub fn blank_table()
+    ensures fault { segments_fault_of (replicate 192 0) ≡ None }
+    ensures table { segments_of (replicate 192 0) ≡ blank_segments }
+{}
+
+/// A payload with one entry, its fields all different; and each fault.
+pub fn table_rows()
+    ensures first { segments_of ((0 ∷ 2 ∷ 0 ∷ 0 ∷ 0 ∷ 1 ∷ 2 ∷ 3 ∷ 4 ∷ 5 ∷ 6 ∷ 7 ∷ []) ++ replicate 180 0) ≡ (record { state = 2; start = 0x00010203; len = 0x04050607 }) ∷ replicate 15 blank_segment }
+    ensures last { segments_of (replicate 180 0 ++ (0 ∷ 1 ∷ 9 ∷ 9 ∷ 8 ∷ 9 ∷ 0x0A ∷ 0x0B ∷ 0x0C ∷ 0x0D ∷ 0x0E ∷ 0x0F ∷ [])) ≡ replicate 15 blank_segment ++ (record { state = 1; start = 0x08090A0B; len = 0x0C0D0E0F }) ∷ [] }
+    ensures accepted { segments_fault_of ((0 ∷ 2 ∷ 0 ∷ 0 ∷ 0 ∷ 1 ∷ 2 ∷ 3 ∷ 4 ∷ 5 ∷ 6 ∷ 7 ∷ []) ++ replicate 180 0) ≡ None }
+    ensures state { segments_fault_of ((0 ∷ 2 ∷ 0 ∷ 0 ∷ 0 ∷ 1 ∷ 2 ∷ 3 ∷ 4 ∷ 5 ∷ 6 ∷ 7 ∷ 0 ∷ 3 ∷ 0 ∷ 0 ∷ 0 ∷ 0 ∷ 0 ∷ 0 ∷ 0 ∷ 0 ∷ 0 ∷ 0 ∷ []) ++ replicate 168 0) ≡ Some (record { entry = 2; reason = 1 }) }
+    ensures size { segments_fault_of ((0 ∷ 2 ∷ 0 ∷ 0 ∷ 0 ∷ 0 ∷ 0x10 ∷ 0 ∷ 0 ∷ 0 ∷ 0 ∷ 0 ∷ []) ++ replicate 180 0) ≡ Some (record { entry = 1; reason = 2 }) }
+{}
+
+/// The next slice is of a place that takes part, and has 1,024 bytes at most. Where it doesn't begin at its entry's first byte it follows
+/// the last slice, which is of the same place and didn't end at the entry's end.
+pub fn slices_follow()
+    ensures part { (entries : List Segment) (orders : List Instruction) (slices : List Slice) (since : List Instruction) (image : Memory) (s : Slice) → next_slice entries orders slices since image ≡ Some s
+        → (takes_part entries orders s.place ≡ true) × (s.place < 32) }
+    ensures short { (entries : List Segment) (orders : List Instruction) (slices : List Slice) (since : List Instruction) (image : Memory) (s : Slice) → next_slice entries orders slices since image ≡ Some s
+        → length s.bytes ≤ 1024 }
+    ensures follow { (entries : List Segment) (orders : List Instruction) (slices : List Slice) (since : List Instruction) (image : Memory) (s : Slice) → next_slice entries orders slices since image ≡ Some s → s.from ≢ 0
+        → (earlier : List Slice) × (last : Slice) × (slices ≡ earlier ++ last ∷ []) × (last.place ≡ s.place) × (last.till ≡ s.from) × (last.ends ≡ false) }
+{}
+
+/// A pass of three bytes a wakeup: the first is the baseline, and a byte that has changed is a miscompare in each later
+/// pass: the baseline stays.
+pub fn miscompare_rows()
+    ensures first { cs_items blank_segments three_bytes [] (wakeup 0 [] 2) ≡ [] }
+    ensures second { cs_items blank_segments three_bytes (wakeup 0 [] 2 ∷ []) (wakeup 1 [] 2) ≡ [] }
+    ensures third { cs_items blank_segments three_bytes (wakeup 0 [] 2 ∷ wakeup 1 [] 2 ∷ []) (wakeup 2 [] 7) ≡ outs.Made (event_of (name_of (codes "CS")) 101 3 1002) ∷ [] }
+    ensures fourth { cs_items blank_segments three_bytes (wakeup 0 [] 2 ∷ wakeup 1 [] 2 ∷ wakeup 2 [] 7 ∷ []) (wakeup 3 [] 7) ≡ outs.Made (event_of (name_of (codes "CS")) 101 3 1003) ∷ [] }
+    ensures back { cs_items blank_segments three_bytes (wakeup 0 [] 2 ∷ wakeup 1 [] 7 ∷ []) (wakeup 2 [] 2) ≡ [] }
+{}
+
+/// A command of each code, a request, and a packet of another id.
+pub fn command_rows()
+    ensures noop { verdict_at cs_protocol second_table [] (0x18 ∷ 0x9F ∷ 0xC0 ∷ 0 ∷ 0 ∷ 1 ∷ 0 ∷ 0xB9 ∷ []) ≡ Accepted 0 Plain }
+    ensures reset { verdict_at cs_protocol second_table [] (0x18 ∷ 0x9F ∷ 0xC0 ∷ 0 ∷ 0 ∷ 1 ∷ 1 ∷ 0xB8 ∷ []) ≡ Accepted 1 Plain }
+    ensures on { verdict_at cs_protocol second_table [] (0x18 ∷ 0x9F ∷ 0xC0 ∷ 0 ∷ 0 ∷ 1 ∷ 2 ∷ 0xBB ∷ []) ≡ Accepted 2 (Whole true) }
+    ensures off { verdict_at cs_protocol second_table [] (0x18 ∷ 0x9F ∷ 0xC0 ∷ 0 ∷ 0 ∷ 1 ∷ 3 ∷ 0xBA ∷ []) ≡ Accepted 3 (Whole false) }
+    ensures table_on { verdict_at cs_protocol second_table [] (0x18 ∷ 0x9F ∷ 0xC0 ∷ 0 ∷ 0 ∷ 3 ∷ 4 ∷ 0xBD ∷ 0 ∷ 2 ∷ []) ≡ Accepted 4 (Table 2 true) }
+    ensures table_off { verdict_at cs_protocol second_table [] (0x18 ∷ 0x9F ∷ 0xC0 ∷ 0 ∷ 0 ∷ 3 ∷ 5 ∷ 0xBC ∷ 0 ∷ 2 ∷ []) ≡ Accepted 5 (Table 2 false) }
+    ensures entry_on { verdict_at cs_protocol second_table [] (0x18 ∷ 0x9F ∷ 0xC0 ∷ 0 ∷ 0 ∷ 5 ∷ 6 ∷ 0xB8 ∷ 0 ∷ 2 ∷ 0 ∷ 1 ∷ []) ≡ Accepted 6 (Entry 2 1 true) }
+    ensures entry_off { verdict_at cs_protocol second_table [] (0x18 ∷ 0x9F ∷ 0xC0 ∷ 0 ∷ 0 ∷ 5 ∷ 7 ∷ 0xB9 ∷ 0 ∷ 2 ∷ 0 ∷ 1 ∷ []) ≡ Accepted 7 (Entry 2 1 false) }
+    ensures report { verdict_at cs_protocol second_table [] (0x18 ∷ 0x9F ∷ 0xC0 ∷ 0 ∷ 0 ∷ 5 ∷ 8 ∷ 0xB6 ∷ 0 ∷ 2 ∷ 0 ∷ 1 ∷ []) ≡ Accepted 8 (Report 2 1) }
+    ensures request { verdict_at cs_protocol second_table [] (0x18 ∷ 0xA0 ∷ 0xC0 ∷ 0 ∷ 0 ∷ 1 ∷ 0 ∷ 0x86 ∷ []) ≡ Request }
+    ensures other { verdict_at cs_protocol second_table [] (0x18 ∷ 0xA9 ∷ 0xC0 ∷ 0 ∷ 0 ∷ 1 ∷ 0 ∷ 0x8F ∷ []) ≡ Other }
+{}
+
+/// Each refusal.
+pub fn refusal_rows()
+    ensures checksum { verdict_at cs_protocol second_table [] (0x18 ∷ 0x9F ∷ 0xC0 ∷ 0 ∷ 0 ∷ 1 ∷ 0 ∷ 0xB8 ∷ []) ≡ Refused 1 }
+    ensures code { verdict_at cs_protocol second_table [] (0x18 ∷ 0x9F ∷ 0xC0 ∷ 0 ∷ 0 ∷ 1 ∷ 9 ∷ 0xB0 ∷ []) ≡ Refused 2 }
+    ensures length { verdict_at cs_protocol second_table [] (0x18 ∷ 0x9F ∷ 0xC0 ∷ 0 ∷ 0 ∷ 1 ∷ 4 ∷ 0xBD ∷ []) ≡ Refused 3 }
+    ensures table { verdict_at cs_protocol second_table [] (0x18 ∷ 0x9F ∷ 0xC0 ∷ 0 ∷ 0 ∷ 3 ∷ 4 ∷ 0xBC ∷ 0 ∷ 3 ∷ []) ≡ Refused 4 }
+    ensures table_of_entry { verdict_at cs_protocol second_table [] (0x18 ∷ 0x9F ∷ 0xC0 ∷ 0 ∷ 0 ∷ 5 ∷ 6 ∷ 0xBA ∷ 0 ∷ 0 ∷ 0 ∷ 1 ∷ []) ≡ Refused 4 }
+    ensures entry { verdict_at cs_protocol second_table [] (0x18 ∷ 0x9F ∷ 0xC0 ∷ 0 ∷ 0 ∷ 5 ∷ 7 ∷ 0xA9 ∷ 0 ∷ 2 ∷ 0 ∷ 0x11 ∷ []) ≡ Refused 5 }
+    ensures empty { verdict_at cs_protocol second_table [] (0x18 ∷ 0x9F ∷ 0xC0 ∷ 0 ∷ 0 ∷ 5 ∷ 8 ∷ 0xB6 ∷ 0 ∷ 1 ∷ 0 ∷ 2 ∷ []) ≡ Refused 6 }
+{}
+
+/// The flags, bit by bit.
+pub fn flag_rows()
+    ensures none { flags_of false false false ≡ 0 }
+    ensures cs { flags_of true false false ≡ 1 }
+    ensures eeprom { flags_of false true false ≡ 2 }
+    ensures memory { flags_of false false true ≡ 4 }
+{}
+
+/// Each packet, its fields all different.
+pub fn packet_rows()
+    ensures housekeeping { housekeeping_of 0x01020304 (record { accepted = 0x11; errors = 0x22 }) 5 0x0607 0x0809 0x0A0B0C0D ≡ 8 ∷ 0xA4 ∷ 0xC0 ∷ 0 ∷ 0 ∷ 0x11 ∷ 1 ∷ 2 ∷ 3 ∷ 4 ∷ 0 ∷ 0 ∷ 0x11 ∷ 0x22 ∷ 5 ∷ 0 ∷ 6 ∷ 7 ∷ 8 ∷ 9 ∷ 0x0A ∷ 0x0B ∷ 0x0C ∷ 0x0D ∷ [] }
+    ensures baseline { baseline_packet 0x01020304 2 11 (Some 0x1234) ≡ 8 ∷ 0xA5 ∷ 0xC0 ∷ 0 ∷ 0 ∷ 0x0D ∷ 1 ∷ 2 ∷ 3 ∷ 4 ∷ 0 ∷ 0 ∷ 0 ∷ 2 ∷ 0 ∷ 0x0B ∷ 0 ∷ 1 ∷ 0x12 ∷ 0x34 ∷ [] }
+    ensures no_baseline { baseline_packet 0x01020304 2 11 None ≡ 8 ∷ 0xA5 ∷ 0xC0 ∷ 0 ∷ 0 ∷ 0x0D ∷ 1 ∷ 2 ∷ 3 ∷ 4 ∷ 0 ∷ 0 ∷ 0 ∷ 2 ∷ 0 ∷ 0x0B ∷ 0 ∷ 0 ∷ 0 ∷ 0 ∷ [] }
+{}
+
+/// A wakeup that switches the EEPROM table off, a command that is refused, a report and a request; and the event of a miscompare.
+pub fn wakeup_rows()
+    ensures items { cs_items three_bytes blank_segments [] (wakeup 0 ((0x18 ∷ 0x9F ∷ 0xC0 ∷ 0 ∷ 0 ∷ 3 ∷ 5 ∷ 0xBF ∷ 0 ∷ 1 ∷ []) ∷ (0x18 ∷ 0x9F ∷ 0xC0 ∷ 0 ∷ 0 ∷ 5 ∷ 6 ∷ 0xA8 ∷ 0 ∷ 2 ∷ 0 ∷ 0x11 ∷ []) ∷ (0x18 ∷ 0x9F ∷ 0xC0 ∷ 0 ∷ 0 ∷ 5 ∷ 8 ∷ 0xB5 ∷ 0 ∷ 1 ∷ 0 ∷ 1 ∷ []) ∷ (0x18 ∷ 0xA0 ∷ 0xC0 ∷ 0 ∷ 0 ∷ 1 ∷ 0 ∷ 0x86 ∷ []) ∷ []) 2) ≡ outs.Made (8 ∷ 8 ∷ 0xC0 ∷ 0 ∷ 0 ∷ 0x25 ∷ 0 ∷ 0 ∷ 3 ∷ 0xE8 ∷ 0 ∷ 0 ∷ 0x43 ∷ 0x53 ∷ 0 ∷ 0 ∷ 0 ∷ 0 ∷ 0 ∷ 0 ∷ 0 ∷ 0 ∷ 0 ∷ 0 ∷ 0 ∷ 0 ∷ 0 ∷ 0 ∷ 0 ∷ 0 ∷ 0 ∷ 0 ∷ 0 ∷ 0x15 ∷ 0 ∷ 2 ∷ 0 ∷ 0 ∷ 0 ∷ 0x42 ∷ 0 ∷ 0 ∷ 0 ∷ 1 ∷ []) ∷ outs.Made (8 ∷ 8 ∷ 0xC0 ∷ 0 ∷ 0 ∷ 0x25 ∷ 0 ∷ 0 ∷ 3 ∷ 0xE8 ∷ 0 ∷ 0 ∷ 0x43 ∷ 0x53 ∷ 0 ∷ 0 ∷ 0 ∷ 0 ∷ 0 ∷ 0 ∷ 0 ∷ 0 ∷ 0 ∷ 0 ∷ 0 ∷ 0 ∷ 0 ∷ 0 ∷ 0 ∷ 0 ∷ 0 ∷ 0 ∷ 0 ∷ 5 ∷ 0 ∷ 3 ∷ 0 ∷ 0 ∷ 0 ∷ 0x42 ∷ 0 ∷ 0 ∷ 0 ∷ 1 ∷ []) ∷ outs.Made (8 ∷ 0xA5 ∷ 0xC0 ∷ 0 ∷ 0 ∷ 0x0D ∷ 0 ∷ 0 ∷ 3 ∷ 0xE8 ∷ 0 ∷ 0 ∷ 0 ∷ 1 ∷ 0 ∷ 1 ∷ 0 ∷ 0 ∷ 0 ∷ 0 ∷ []) ∷ outs.Made (8 ∷ 8 ∷ 0xC0 ∷ 0 ∷ 0 ∷ 0x25 ∷ 0 ∷ 0 ∷ 3 ∷ 0xE8 ∷ 0 ∷ 0 ∷ 0x43 ∷ 0x53 ∷ 0 ∷ 0 ∷ 0 ∷ 0 ∷ 0 ∷ 0 ∷ 0 ∷ 0 ∷ 0 ∷ 0 ∷ 0 ∷ 0 ∷ 0 ∷ 0 ∷ 0 ∷ 0 ∷ 0 ∷ 0 ∷ 0 ∷ 0x18 ∷ 0 ∷ 2 ∷ 0 ∷ 0 ∷ 0 ∷ 0x42 ∷ 0 ∷ 0 ∷ 0 ∷ 1 ∷ []) ∷ outs.Made (8 ∷ 0xA4 ∷ 0xC0 ∷ 0 ∷ 0 ∷ 0x11 ∷ 0 ∷ 0 ∷ 3 ∷ 0xE8 ∷ 0 ∷ 0 ∷ 2 ∷ 1 ∷ 5 ∷ 0 ∷ 0 ∷ 0 ∷ 0 ∷ 0 ∷ 0 ∷ 0 ∷ 0 ∷ 0 ∷ []) ∷ [] }
+    ensures miscompare { cs_items blank_segments three_bytes (wakeup 0 [] 2 ∷ []) (wakeup 1 [] 7) ≡ outs.Made (8 ∷ 8 ∷ 0xC0 ∷ 0 ∷ 0 ∷ 0x25 ∷ 0 ∷ 0 ∷ 3 ∷ 0xE9 ∷ 0 ∷ 0 ∷ 0x43 ∷ 0x53 ∷ 0 ∷ 0 ∷ 0 ∷ 0 ∷ 0 ∷ 0 ∷ 0 ∷ 0 ∷ 0 ∷ 0 ∷ 0 ∷ 0 ∷ 0 ∷ 0 ∷ 0 ∷ 0 ∷ 0 ∷ 0 ∷ 0 ∷ 0x65 ∷ 0 ∷ 3 ∷ 0 ∷ 0 ∷ 0 ∷ 0x42 ∷ 0 ∷ 0 ∷ 0 ∷ 1 ∷ []) ∷ [] }
+{}

@@ -1,8 +1,8 @@
 ghost use Rattle.std.specs.Prelude.{◌≡◌, ◌≤◌, ◌<◌, ◌++◌, List, [], ◌∷◌, length, true, None};
 ghost use Rattle.memory_window.specs.Memory.{regions_of};
 ghost use Rattle.cs_slices.specs.Given.{SegmentsGiven};
-ghost use Rattle.cs_slices.specs.Output.{Input};
-ghost use Rattle.cs_slices.specs.Standing.{Stands, input_of};
+ghost use Rattle.cs_slices.specs.Wakeups.{Input, input_of};
+ghost use Rattle.cs_slices.specs.State.{Stands};
 
 use crate::{Cs, Segment, Segments, laws, load_segments};
 use bus_pipes::{Out, Outbox};
@@ -375,5 +375,10 @@ fn definitions_give_the_rows() {
     laws::blank_table();
     laws::slices_follow();
     laws::miscompare_rows();
+    laws::table_rows();
     laws::command_rows();
+    laws::refusal_rows();
+    laws::flag_rows();
+    laws::packet_rows();
+    laws::wakeup_rows();
 }

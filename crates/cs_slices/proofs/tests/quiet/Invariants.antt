@@ -1,6 +1,6 @@
 use Rattle.std.proofs.Common.{◌≡◌, List}
-use Rattle.cs_slices.specs.Output.{Input}
-use Rattle.cs_slices.specs.Standing.{Stands}
+use Rattle.cs_slices.specs.Wakeups.{Input}
+use Rattle.cs_slices.specs.State.{Stands}
 use Rattle.cs_slices.proofs.tests.quiet.Given as goal
 
 -- the state stands for some history
