@@ -1,3 +1,4 @@
 pub mod Tallies
 pub mod Answering
 pub mod Heard
+pub mod Plain

@@ -3,3 +3,4 @@ pub mod Verdicts
 pub mod Inputs
 pub mod Counting
 pub mod Answering
+pub mod Machine

@@ -4,6 +4,7 @@
 
 mod commanded;
 mod counting;
+pub mod laws;
 mod step;
 mod verdicts;
 
