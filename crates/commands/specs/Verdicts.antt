@@ -58,9 +58,9 @@ unfoldable pub verdict_at : {B I E : Type 0} → Protocol B I E → B → List I
 verdict_at protocol basis orders p =
     if message_id p == protocol.language.request_id then Request
     else if message_id p == protocol.language.command_id then (
-      if is_checksum_right p
-      then verdict_by_row protocol basis orders (row_of protocol.language.codes (function_code p)) (function_code p) (payload_of p)
-      else Refused 1)
+    if is_checksum_right p
+    then verdict_by_row protocol basis orders (row_of protocol.language.codes (function_code p)) (function_code p) (payload_of p)
+    else Refused 1)
     else Other
 
 -- The verdicts on the packets of a wakeup.

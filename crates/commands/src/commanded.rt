@@ -52,15 +52,20 @@ pub trait Command: Copy + Drop {
 /// An application's state without its counts, as far as commands see and change it. `R` is what is read beside the packets.
 pub trait Commanded<R: Copy> {
     type Instruction: Command;
+
     type Refusal: Reason;
     /// What a wakeup leaves beside its items.
     type Left;
 
     // what refusals are decided by as a wakeup begins, and a wakeup
     ghost Basis: { Type 0 };
+
     ghost Turn: { Type 0 };
+
     ghost refuses: { Basis → List Self.Instruction → Self.Instruction → Option Self.Refusal };
+
     ghost answers: { Answers Turn Self.Instruction };
+
     ghost basis: { Turn → Basis };
     // the wakeup reads this at this time
     ghost belongs: { Turn → R → ℕ → Type 0 };
@@ -68,6 +73,7 @@ pub trait Commanded<R: Copy> {
     ghost stands: { Turn → List Self.Instruction → Self → Self.Left → Type 0 };
     // what safety needs after so many packets of a wakeup, and to obey
     ghost is_safe: { R → ℕ → Self → Self.Left → Type 0 } = { λ reads n state left. Unit {0} };
+
     ghost can_obey: { R → Self → Self.Instruction → Type 0 } = { λ reads state instruction. Unit {0} };
     // how many items stand before the event of an accepted command at most
     ghost most: { ℕ };
@@ -83,7 +89,14 @@ pub trait Commanded<R: Copy> {
         ensures counted { is_item_counted (outs.Made result) ≡ true };
 
     /// Does what an accepted command asks for, and puts what stands before its event behind the items.
-    fn obey(&mut self, instruction: &Self::Instruction, reads: R, now: u32, left: &mut Self::Left, out: &mut Outbox)
+    fn obey(
+        &mut self,
+        instruction: &Self::Instruction,
+        reads: R,
+        now: u32,
+        left: &mut Self::Left,
+        out: &mut Outbox,
+    )
         requires can { can_obey reads self.old instruction.now }
         requires safe { (n : ℕ) × (n < 16) × is_safe reads n self.old left.old }
         requires room { length out.old.items + most ≤ out.old.room }
@@ -95,5 +108,6 @@ pub trait Commanded<R: Copy> {
         ensures room { out.new.room ≡ out.old.room };
 
     ghost still_safe: { (reads : R) (n : ℕ) (state : Self) (left : Self.Left) → is_safe reads n state left → is_safe reads (n + 1) state left };
+
     ghost timed: { (turn : Turn) (reads : R) (now : ℕ) → belongs turn reads now → answers.time turn ≡ now };
 }

@@ -76,7 +76,12 @@ fn handle<R: Copy + Drop, S: Commanded<R>>(
 
 // What an application makes of a packet.
 #[tactic(auto, unfolding(crate::specs::Verdicts::verdict_at))]
-fn decide<R: Copy + Drop, S: Commanded<R>>(state: &S, packet: &Packet, reads: R, now: u32) -> Verdict<S::Instruction>
+fn decide<R: Copy + Drop, S: Commanded<R>>(
+    state: &S,
+    packet: &Packet,
+    reads: R,
+    now: u32,
+) -> Verdict<S::Instruction>
     ensures verdict { (turn : S.Turn) (orders : List S.Instruction) (left : S.Left) → S.belongs turn reads now → S.stands turn orders state.now left
         → result ≡ verdict_at (protocol_of S.Instruction.language S.Refusal.number S.refuses) (S.basis turn) orders packet.now }
     ensures passes { (code : ℕ) (instruction : S.Instruction) → result ≡ Verdict.Accepted code instruction → S.can_obey reads state.now instruction }

@@ -7,8 +7,11 @@ use commands::{CodeRow, named};
 use packet_forms::Name;
 
 pub(crate) const COMMAND_ID: u16 = 0x189F;
+
 pub(crate) const REQUEST_ID: u16 = 0x18A0;
+
 pub(crate) const HOUSEKEEPING_ID: u16 = 0x08A4;
+
 pub(crate) const BASELINE_ID: u16 = 0x08A5;
 /// The event of a miscompare.
 pub(crate) const MISCOMPARE: u16 = 101;

@@ -48,20 +48,31 @@ impl<'a> Commanded<Tables<'a>> for Course {
     ghost use Rattle.cs_slices.specs.State.{StandsAt};
 
     type Instruction = Instruction;
+
     type Refusal = Refusal;
+
     type Left = ();
 
     ghost Basis = { List Segment };
+
     ghost Turn = { Turn };
+
     ghost refuses = { λ entries orders instruction. own_refusal entries instruction };
+
     ghost answers = { cs_answers };
+
     ghost basis = { λ turn. turn.setup };
+
     ghost belongs = { λ turn tables now. (turn.setup ≡ tables.eeprom.now ++ tables.memory.now) × (turn.input.time ≡ now) };
+
     ghost stands = { λ turn orders course left. StandsAt turn.setup (orders_of turn.setup turn.history ++ orders) (slices_of turn.setup turn.history) (since_of turn.setup turn.history ++ orders) course };
+
     ghost can_obey = { λ tables course instruction. IsNamed instruction };
+
     ghost most = { 1 };
 
     ghost still_safe = { λ tables n course left safe. safe };
+
     ghost timed = { λ turn tables now belongs. belongs.1 };
 
     fn refusal(&self, instruction: &Instruction, reads: Tables<'a>, now: u32) -> Option<Refusal> {
@@ -72,7 +83,14 @@ impl<'a> Commanded<Tables<'a>> for Course {
         housekeeping(counts, &self.switches, &self.tally, now)
     }
 
-    fn obey(&mut self, instruction: &Instruction, reads: Tables<'a>, now: u32, left: &mut (), out: &mut Outbox) {
+    fn obey(
+        &mut self,
+        instruction: &Instruction,
+        reads: Tables<'a>,
+        now: u32,
+        left: &mut (),
+        out: &mut Outbox,
+    ) {
         reply(&self.tally, instruction, now, out);
         self.switches.obey(instruction);
         self.passing.obey(instruction);

@@ -32,7 +32,11 @@ impl Reason for Refusal {
 }
 
 /// A command's own refusal.
-pub(crate) fn own_refusal(eeprom: &Segments, memory: &Segments, instruction: &Instruction) -> Option<Refusal>
+pub(crate) fn own_refusal(
+    eeprom: &Segments,
+    memory: &Segments,
+    instruction: &Instruction,
+) -> Option<Refusal>
     ensures { result ≡ own_refusal (eeprom.now ++ memory.now) instruction.now }
 {
     match instruction {

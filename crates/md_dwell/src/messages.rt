@@ -7,7 +7,9 @@ use commands::{CodeRow, named};
 use packet_forms::Name;
 
 pub(crate) const COMMAND_ID: u16 = 0x1890;
+
 pub(crate) const REQUEST_ID: u16 = 0x1891;
+
 pub(crate) const HOUSEKEEPING_ID: u16 = 0x0890;
 /// The dwell packets of table n have the n-th id behind this one.
 pub(crate) const DWELL_ID: u16 = 0x0890;

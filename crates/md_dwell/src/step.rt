@@ -28,21 +28,33 @@ impl<'a> Commanded<Window<'a>> for Streams {
     ghost use Rattle.md_dwell.specs.State.{StandsAt, StreamsGiven};
 
     type Instruction = Instruction;
+
     type Refusal = Refusal;
+
     type Left = ();
 
     ghost Basis = { Memory };
+
     ghost Turn = { Turn };
+
     ghost refuses = { λ image orders instruction. own_refusal image instruction };
+
     ghost answers = { md_answers };
+
     ghost basis = { λ turn. turn.input.seen };
+
     ghost belongs = { λ turn window now. (turn.input.seen ≡ seen window) × (turn.input.time ≡ now) };
+
     ghost stands = { λ turn orders streams left. StandsAt turn.setup turn.history orders streams };
+
     ghost is_safe = { λ window n streams left. StreamsGiven (regions_of (seen window).areas) streams };
+
     ghost can_obey = { λ window streams instruction. own_refusal (seen window) instruction ≡ None };
+
     ghost most = { 0 };
 
     ghost still_safe = { λ window n streams left safe. safe };
+
     ghost timed = { λ turn window now belongs. belongs.1 };
 
     fn refusal(&self, instruction: &Instruction, reads: Window<'a>, now: u32) -> Option<Refusal> {
@@ -59,7 +71,14 @@ impl<'a> Commanded<Window<'a>> for Streams {
         housekeeping(counts, enabled, now)
     }
 
-    fn obey(&mut self, instruction: &Instruction, reads: Window<'a>, now: u32, left: &mut (), out: &mut Outbox) {
+    fn obey(
+        &mut self,
+        instruction: &Instruction,
+        reads: Window<'a>,
+        now: u32,
+        left: &mut (),
+        out: &mut Outbox,
+    ) {
         self.first.obey(1, instruction);
         self.second.obey(2, instruction);
         self.third.obey(3, instruction);

@@ -7,8 +7,11 @@ use commands::{CodeRow, named};
 use packet_forms::Name;
 
 pub(crate) const COMMAND_ID: u16 = 0x1888;
+
 pub(crate) const REQUEST_ID: u16 = 0x1889;
+
 pub(crate) const HOUSEKEEPING_ID: u16 = 0x0887;
+
 pub(crate) const PEEK_ID: u16 = 0x088A;
 
 /// No-op, reset counters, peek, poke, and EEPROM enable and disable.

@@ -32,21 +32,33 @@ impl<'a> Commanded<Window<'a>> for Hands {
     ghost use Rattle.mm_core.specs.State.{CanLand};
 
     type Instruction = Instruction;
+
     type Refusal = Refusal;
+
     type Left = Ops;
 
     ghost Basis = { Seen };
+
     ghost Turn = { Turn };
+
     ghost refuses = { λ seen orders instruction. own_refusal seen.image instruction };
+
     ghost answers = { mm_answers };
+
     ghost basis = { λ turn. turn.input.seen };
+
     ghost belongs = { λ turn window now. (turn.input.seen ≡ seen_in window) × (turn.input.time ≡ now) };
+
     ghost stands = { λ turn orders hands ops. ops ≡ operations_of orders };
+
     ghost is_safe = { λ window n hands ops. CanLand window n ops };
+
     ghost can_obey = { λ window hands instruction. own_refusal (seen window) instruction ≡ None };
+
     ghost most = { 1 };
 
     ghost still_safe = { λ window n hands ops safe. record { few = Prim.omega arith; admitted = safe.admitted; backed = safe.backed } };
+
     ghost timed = { λ turn window now belongs. belongs.1 };
 
     fn refusal(&self, instruction: &Instruction, reads: Window<'a>, now: u32) -> Option<Refusal> {
@@ -57,7 +69,14 @@ impl<'a> Commanded<Window<'a>> for Hands {
         housekeeping(reads, counts, now)
     }
 
-    fn obey(&mut self, instruction: &Instruction, reads: Window<'a>, now: u32, left: &mut Ops, out: &mut Outbox) {
+    fn obey(
+        &mut self,
+        instruction: &Instruction,
+        reads: Window<'a>,
+        now: u32,
+        left: &mut Ops,
+        out: &mut Outbox,
+    ) {
         reply(reads, instruction, now, out);
         let Some(op) = operation_of(instruction) else {
             return;
