@@ -1,7 +1,7 @@
 -- The verdicts of a wakeup at one more packet, and what answers it.
 use Rattle.std.proofs.Common.{◌≡◌, ◌≤◌, ◌<◌, ℕ, ◌+◌, ◌*◌, true, List, [], ◌∷◌, ◌++◌, length, refl, sym, ap, subst, ◌∙◌, arith, append-nil, append_assoc}
 use Rattle.std.specs.Prelude.{Some, None, ◌==◌}
-use Rattle.std.specs.List.{AllPass}
+use Rattle.std.specs.List.{All, AllPass, fold}
 use Rattle.std.proofs.Math.Nat.{mul-le-mul_left}
 use Rattle.std.proofs.lemmas.Bool.{eqb-true}
 use Rattle.std.proofs.lemmas.List.Sums.{fold_push}
@@ -19,7 +19,7 @@ use Rattle.commands.specs.Inputs.{heard_along}
 use Rattle.commands.specs.Counting.{counts_of}
 use Rattle.commands.specs.Answering.{Answers, items_for, packet_items, command_items}
 use Rattle.commands.specs.declared.verdicts.Verdict.{Verdict}
-use Rattle.commands.proofs.Answering.{one_passes, event_counted}
+use Rattle.commands.proofs.Answering.{none_fail, one_passes, event_counted}
 
 module _ {I : Type 0} where
   -- what was ordered, at one more verdict
@@ -50,6 +50,17 @@ verdicts_more {B} {I} {E} protocol basis done p = fold_push (λ (heard : List (V
 pub verdicts_none : {B I E : Type 0} (protocol : Protocol B I E) (basis : B) → verdicts_on protocol basis [] ≡ []
 unfolding verdicts_on
 verdicts_none protocol basis = refl
+
+-- a fact of each verdict
+each_behind : {B I E : Type 0} (protocol : Protocol B I E) (basis : B) (Q : Verdict I → Type 0) → ((orders : List I) (p : List ℕ) → Q (verdict_at protocol basis orders p)) → (heard : List (Verdict I)) (packets : List (List ℕ)) → All Q heard
+    → All Q (fold (λ (done : List (Verdict I)) (q : List ℕ). done ++ verdict_at protocol basis (orders_in done) q ∷ []) heard packets)
+each_behind protocol basis Q each heard [] all = all
+each_behind protocol basis Q each heard (p ∷ packets) all =
+    each_behind protocol basis Q each (heard ++ verdict_at protocol basis (orders_in heard) p ∷ []) packets (All-append Q heard _ all (one_passes Q _ (each (orders_in heard) p)))
+
+pub each_verdict : {B I E : Type 0} (protocol : Protocol B I E) (basis : B) (Q : Verdict I → Type 0) → ((orders : List I) (p : List ℕ) → Q (verdict_at protocol basis orders p)) → (packets : List (List ℕ)) → All Q (verdicts_on protocol basis packets)
+unfolding verdicts_on
+each_verdict protocol basis Q each packets = each_behind protocol basis Q each [] packets (none_fail Q)
 
 -- the verdicts of an entry more
 pub heard_more : {X B I E : Type 0} (protocol : Protocol B I E) (basis : List X → X → B) (packets : X → List (List ℕ)) (entries : List X) (entry : X)

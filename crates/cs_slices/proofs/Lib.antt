@@ -9,3 +9,4 @@ pub mod Handling
 pub mod Refusing
 pub mod Following
 pub mod Taking
+pub mod Telling

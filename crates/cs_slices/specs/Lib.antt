@@ -11,4 +11,5 @@ pub mod Housekeeping
 pub mod Answers
 pub mod Step
 pub mod State
+pub mod Telling
 pub mod Rows

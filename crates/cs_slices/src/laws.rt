@@ -1,6 +1,8 @@
 //! What the definitions give in small cases, and sentences that they make. The functions do nothing: their contracts are the laws.
-ghost use Rattle.std.specs.Prelude.{◌≡◌, ◌≢◌, ◌≤◌, ◌<◌, ◌++◌, ℕ, List, [], ◌∷◌, length, replicate, None, Some, true, false, codes};
+ghost use Rattle.std.specs.Prelude.{◌≡◌, ◌==◌, not, ◌≢◌, ◌≤◌, ◌<◌, ◌++◌, ℕ, List, [], ◌∷◌, length, replicate, None, Some, true, false, codes};
+ghost use Rattle.std.specs.List.{list_any};
 ghost use Rattle.packet_forms.specs.Built.{event_of};
+ghost use Rattle.packet_forms.specs.Crc.{crc_of};
 ghost use Rattle.packet_forms.specs.Names.{name_of};
 ghost use Rattle.bus_pipes.specs.declared.names.Out.TheVariants as outs;
 ghost use Rattle.commands.specs.Verdicts.{verdict_at};
@@ -13,6 +15,9 @@ ghost use Rattle.cs_slices.specs.Tables.{segments_of, segments_fault_of, blank_s
 ghost use Rattle.cs_slices.specs.Verdicts.{cs_protocol};
 ghost use Rattle.cs_slices.specs.Orders.{takes_part};
 ghost use Rattle.cs_slices.specs.Slices.{Slice, next_slice};
+ghost use Rattle.cs_slices.specs.Passes.{pass_bytes, baseline};
+ghost use Rattle.cs_slices.specs.Wakeups.{Input, slice_at, wakeups_of, slices_of};
+ghost use Rattle.cs_slices.specs.Telling.{tells_miscompare};
 ghost use Rattle.cs_slices.specs.Housekeeping.{flags_of, housekeeping_of};
 ghost use Rattle.cs_slices.specs.Answers.{baseline_packet};
 ghost use Rattle.cs_slices.specs.Step.{cs_items};
@@ -99,4 +104,18 @@ pub fn packet_rows()
 pub fn wakeup_rows()
     ensures items { cs_items three_bytes blank_segments [] (wakeup 0 ((0x18 ∷ 0x9F ∷ 0xC0 ∷ 0 ∷ 0 ∷ 3 ∷ 5 ∷ 0xBF ∷ 0 ∷ 1 ∷ []) ∷ (0x18 ∷ 0x9F ∷ 0xC0 ∷ 0 ∷ 0 ∷ 5 ∷ 6 ∷ 0xA8 ∷ 0 ∷ 2 ∷ 0 ∷ 0x11 ∷ []) ∷ (0x18 ∷ 0x9F ∷ 0xC0 ∷ 0 ∷ 0 ∷ 5 ∷ 8 ∷ 0xB5 ∷ 0 ∷ 1 ∷ 0 ∷ 1 ∷ []) ∷ (0x18 ∷ 0xA0 ∷ 0xC0 ∷ 0 ∷ 0 ∷ 1 ∷ 0 ∷ 0x86 ∷ []) ∷ []) 2) ≡ outs.Made (8 ∷ 8 ∷ 0xC0 ∷ 0 ∷ 0 ∷ 0x25 ∷ 0 ∷ 0 ∷ 3 ∷ 0xE8 ∷ 0 ∷ 0 ∷ 0x43 ∷ 0x53 ∷ 0 ∷ 0 ∷ 0 ∷ 0 ∷ 0 ∷ 0 ∷ 0 ∷ 0 ∷ 0 ∷ 0 ∷ 0 ∷ 0 ∷ 0 ∷ 0 ∷ 0 ∷ 0 ∷ 0 ∷ 0 ∷ 0 ∷ 0x15 ∷ 0 ∷ 2 ∷ 0 ∷ 0 ∷ 0 ∷ 0x42 ∷ 0 ∷ 0 ∷ 0 ∷ 1 ∷ []) ∷ outs.Made (8 ∷ 8 ∷ 0xC0 ∷ 0 ∷ 0 ∷ 0x25 ∷ 0 ∷ 0 ∷ 3 ∷ 0xE8 ∷ 0 ∷ 0 ∷ 0x43 ∷ 0x53 ∷ 0 ∷ 0 ∷ 0 ∷ 0 ∷ 0 ∷ 0 ∷ 0 ∷ 0 ∷ 0 ∷ 0 ∷ 0 ∷ 0 ∷ 0 ∷ 0 ∷ 0 ∷ 0 ∷ 0 ∷ 0 ∷ 0 ∷ 5 ∷ 0 ∷ 3 ∷ 0 ∷ 0 ∷ 0 ∷ 0x42 ∷ 0 ∷ 0 ∷ 0 ∷ 1 ∷ []) ∷ outs.Made (8 ∷ 0xA5 ∷ 0xC0 ∷ 0 ∷ 0 ∷ 0x0D ∷ 0 ∷ 0 ∷ 3 ∷ 0xE8 ∷ 0 ∷ 0 ∷ 0 ∷ 1 ∷ 0 ∷ 1 ∷ 0 ∷ 0 ∷ 0 ∷ 0 ∷ []) ∷ outs.Made (8 ∷ 8 ∷ 0xC0 ∷ 0 ∷ 0 ∷ 0x25 ∷ 0 ∷ 0 ∷ 3 ∷ 0xE8 ∷ 0 ∷ 0 ∷ 0x43 ∷ 0x53 ∷ 0 ∷ 0 ∷ 0 ∷ 0 ∷ 0 ∷ 0 ∷ 0 ∷ 0 ∷ 0 ∷ 0 ∷ 0 ∷ 0 ∷ 0 ∷ 0 ∷ 0 ∷ 0 ∷ 0 ∷ 0 ∷ 0 ∷ 0x18 ∷ 0 ∷ 2 ∷ 0 ∷ 0 ∷ 0 ∷ 0x42 ∷ 0 ∷ 0 ∷ 0 ∷ 1 ∷ []) ∷ outs.Made (8 ∷ 0xA4 ∷ 0xC0 ∷ 0 ∷ 0 ∷ 0x11 ∷ 0 ∷ 0 ∷ 3 ∷ 0xE8 ∷ 0 ∷ 0 ∷ 2 ∷ 1 ∷ 5 ∷ 0 ∷ 0 ∷ 0 ∷ 0 ∷ 0 ∷ 0 ∷ 0 ∷ 0 ∷ 0 ∷ []) ∷ [] }
     ensures miscompare { cs_items blank_segments three_bytes (wakeup 0 [] 2 ∷ []) (wakeup 1 [] 7) ≡ outs.Made (8 ∷ 8 ∷ 0xC0 ∷ 0 ∷ 0 ∷ 0x25 ∷ 0 ∷ 0 ∷ 3 ∷ 0xE9 ∷ 0 ∷ 0 ∷ 0x43 ∷ 0x53 ∷ 0 ∷ 0 ∷ 0 ∷ 0 ∷ 0 ∷ 0 ∷ 0 ∷ 0 ∷ 0 ∷ 0 ∷ 0 ∷ 0 ∷ 0 ∷ 0 ∷ 0 ∷ 0 ∷ 0 ∷ 0 ∷ 0 ∷ 0x65 ∷ 0 ∷ 3 ∷ 0 ∷ 0 ∷ 0 ∷ 0x42 ∷ 0 ∷ 0 ∷ 0 ∷ 1 ∷ []) ∷ [] }
+{}
+
+/// The event of a miscompare stands among the items of a wakeup exactly where the wakeup's slice ends at its entry's end, the entry has a
+/// baseline, and the bytes that were read in the slice's pass have another CRC.
+pub fn miscompares_are_told()
+    ensures none { (eeprom : List Segment) (memory : List Segment) (history : List Input) (input : Input) → slice_at (eeprom ++ memory) (wakeups_of (eeprom ++ memory) history) input ≡ None
+        → list_any tells_miscompare (cs_items eeprom memory history input) ≡ false }
+    ensures unfinished { (eeprom : List Segment) (memory : List Segment) (history : List Input) (input : Input) (s : Slice) → slice_at (eeprom ++ memory) (wakeups_of (eeprom ++ memory) history) input ≡ Some s → s.ends ≡ false
+        → list_any tells_miscompare (cs_items eeprom memory history input) ≡ false }
+    ensures first { (eeprom : List Segment) (memory : List Segment) (history : List Input) (input : Input) (s : Slice) → slice_at (eeprom ++ memory) (wakeups_of (eeprom ++ memory) history) input ≡ Some s
+        → baseline s.place (slices_of (eeprom ++ memory) history) ≡ None → list_any tells_miscompare (cs_items eeprom memory history input) ≡ false }
+    ensures later { (eeprom : List Segment) (memory : List Segment) (history : List Input) (input : Input) (s : Slice) (base : ℕ) → slice_at (eeprom ++ memory) (wakeups_of (eeprom ++ memory) history) input ≡ Some s → s.ends ≡ true
+        → baseline s.place (slices_of (eeprom ++ memory) history) ≡ Some base
+        → list_any tells_miscompare (cs_items eeprom memory history input) ≡ not (base == crc_of 0 (pass_bytes s.place (slices_of (eeprom ++ memory) history ++ s ∷ []))) }
 {}

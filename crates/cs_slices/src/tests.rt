@@ -381,4 +381,5 @@ fn definitions_give_the_rows() {
     laws::flag_rows();
     laws::packet_rows();
     laws::wakeup_rows();
+    laws::miscompares_are_told();
 }

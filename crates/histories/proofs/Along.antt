@@ -1,5 +1,5 @@
 -- `along` and `decided` at one more element.
-use Rattle.std.proofs.Common.{◌≡◌, List, [], ◌∷◌, ◌++◌, refl, sym, ◌∙◌, ap, append_assoc, append-nil}
+use Rattle.std.proofs.Common.{◌≡◌, suc, List, [], ◌∷◌, ◌++◌, refl, sym, ◌∙◌, ap, arith, append_assoc, append-nil}
 use Rattle.std.proofs.lemmas.List.Sums.{fold_push}
 use Rattle.std.specs.List.{All, flat_map}
 use Rattle.std.proofs.lemmas.List.Elements.{All-append}
@@ -98,3 +98,15 @@ after_each P f each before (x ∷ xs) = All-append P _ _ (each before x) (after_
 pub joined_each : {A B : Type 0} (P : B → Type 0) (f : List A → A → List B) → ((before : List A) (x : A) → All P (f before x)) → (xs : List A) → All P (joined_along f xs)
 unfolding joined_along along
 joined_each P f each xs = after_each P f each [] xs
+
+-- the same where it needs a fact of each element
+among_after : {A B : Type 0} (Q : A → Type 0) (P : B → Type 0) (f : List A → A → List B) → ((before : List A) (x : A) → Q x → All P (f before x)) → (before xs : List A) → All Q xs
+    → All P (flat_map (λ (given : List B). given) (along_after f before xs))
+unfolding along_after
+among_after Q P f each before [] all = none_fail P
+among_after Q P f each before (x ∷ xs) all =
+    All-append P _ _ (each before x (all 0 x (omega arith))) (among_after Q P f each (before ++ x ∷ []) xs (λ k d within. all (suc k) d (omega arith)))
+
+pub joined_among : {A B : Type 0} (Q : A → Type 0) (P : B → Type 0) (f : List A → A → List B) → ((before : List A) (x : A) → Q x → All P (f before x)) → (xs : List A) → All Q xs → All P (joined_along f xs)
+unfolding joined_along along
+joined_among Q P f each xs all = among_after Q P f each [] xs all
