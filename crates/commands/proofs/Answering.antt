@@ -1,5 +1,5 @@
 -- The answering event as a counted item.
-use Rattle.std.proofs.Common.{◌≡◌, ℕ, true, List, [], ◌∷◌, ◌+◌, refl, ap, ◌∙◌, lit<, arith, ◌<◌, zero, suc}
+use Rattle.std.proofs.Common.{◌≡◌, ℕ, true, List, [], ◌∷◌, refl, ap, ◌∙◌, lit<, arith, ◌<◌, zero, suc}
 use Rattle.std.specs.List.{All}
 use Rattle.packet_forms.specs.Built.{telemetry_of, event_of, event_payload}
 use Rattle.packet_forms.proofs.Forms.{telemetry_message_id}

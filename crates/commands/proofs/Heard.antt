@@ -1,5 +1,5 @@
 -- The verdicts of a wakeup at one more packet, and what answers it.
-use Rattle.std.proofs.Common.{◌≡◌, ◌≤◌, ◌<◌, ℕ, ◌+◌, ◌*◌, true, List, [], ◌∷◌, ◌++◌, length, refl, sym, ap, subst, ◌∙◌, arith, append-nil, append_assoc}
+use Rattle.std.proofs.Common.{◌≡◌, ◌≤◌, ◌<◌, ℕ, ◌+◌, ◌*◌, true, List, [], ◌∷◌, ◌++◌, length, refl, sym, ap, subst, ◌∙◌, arith, append-nil}
 use Rattle.std.specs.Prelude.{Some, None, ◌==◌}
 use Rattle.std.specs.List.{All, AllPass, fold}
 use Rattle.std.proofs.Math.Nat.{mul-le-mul_left}

@@ -4,7 +4,6 @@ use Rattle.std.specs.Prelude.{◌==◌}
 use Rattle.std.specs.List.{fold}
 use Rattle.histories.proofs.Along.{joined_more}
 use Rattle.packet_forms.specs.Packets.{message_id, function_code, is_checksum_right, payload_of}
-use Rattle.bus_pipes.specs.declared.names.Out.{Out}
 use Rattle.commands.specs.Rows.{row_of, is_length_allowed}
 use Rattle.commands.specs.Verdicts.{Protocol, orders_in, judged_by, verdict_by_row, verdict_at, verdicts_on}
 use Rattle.commands.specs.Answering.{Answers, packet_items, command_items}

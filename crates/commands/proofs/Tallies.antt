@@ -7,7 +7,7 @@ use Rattle.histories.proofs.Lasts.{after_last_passes, after_last_other}
 use Rattle.commands.specs.Verdicts.{is_accepted, is_refused, is_reset}
 use Rattle.commands.specs.Counting.{accepted_count, error_count, counts_of}
 use Rattle.commands.specs.declared.verdicts.Verdict.{Verdict}
-use Rattle.commands.specs.declared.verdicts.Verdict.TheVariants.{Other, Request, Refused, Accepted}
+use Rattle.commands.specs.declared.verdicts.Verdict.TheVariants.{Refused, Accepted}
 use Rattle.bus_pipes.specs.declared.names.Counts.{Counts}
 
 -- no verdict yet

@@ -1,10 +1,10 @@
 -- A made-up application for worked rows: a machine that code 2 starts where it doesn't run, and code 3 stops where it runs.
-use Rattle.std.specs.Prelude.{ℕ, Bool, true, false, not, ◌==◌, ◌&&◌, if◌then◌else◌, List, [], ◌∷◌, ◌++◌, filter_map, Option, Some, None, codes}
+use Rattle.std.specs.Prelude.{ℕ, Bool, true, false, not, ◌==◌, ◌&&◌, if◌then◌else◌, List, [], ◌∷◌, filter_map, Option, Some, None, codes}
 use Rattle.histories.specs.Words.{last_or}
 use Rattle.histories.specs.Masks.{bits_of}
 use Rattle.packet_forms.specs.Names.{name_of}
 use Rattle.packet_forms.specs.Built.{telemetry_of}
-use Rattle.commands.specs.Rows.{row}
+use Rattle.commands.specs.Rows.{code_row}
 use Rattle.commands.specs.Verdicts.{Language, Protocol, protocol_of}
 use Rattle.commands.specs.Answering.{Answers}
 use Rattle.commands.specs.declared.verdicts.CodeRow.{CodeRow}
@@ -14,7 +14,7 @@ unfoldable pub machine_name : List ℕ
 machine_name = name_of (codes "MM")
 
 unfoldable pub machine_codes : List CodeRow
-machine_codes = row 0 0 0 ∷ row 1 0 0 ∷ row 2 0 0 ∷ row 3 0 0 ∷ row 4 7 206 ∷ []
+machine_codes = code_row 0 0 0 ∷ code_row 1 0 0 ∷ code_row 2 0 0 ∷ code_row 3 0 0 ∷ code_row 4 7 206 ∷ []
 
 -- What a command asks for is its code.
 abbrev pub machine_language : Language ℕ

@@ -3,8 +3,8 @@ use Rattle.std.specs.Prelude.{ℕ, Bool, false, ◌==◌, ◌&&◌, List, length
 use Rattle.commands.specs.declared.verdicts.CodeRow.{CodeRow}
 
 -- A code with the shortest and the longest payload of its commands.
-abbrev pub row : ℕ → ℕ → ℕ → CodeRow
-row code least most = record { 0 = code; 1 = least; 2 = most }
+abbrev pub code_row : ℕ → ℕ → ℕ → CodeRow
+code_row code least most = record { 0 = code; 1 = least; 2 = most }
 
 -- The row of a function code in an application's table of codes.
 abbrev pub row_of : List CodeRow → ℕ → Option CodeRow

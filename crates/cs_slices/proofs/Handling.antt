@@ -1,5 +1,5 @@
 -- The housekeeping packet of a state.
-use Rattle.std.proofs.Common.{◌≡◌, ℕ, List, refl, sym, ap, ◌∙◌}
+use Rattle.std.proofs.Common.{◌≡◌, ℕ, List, refl, ◌∙◌}
 use Rattle.bus_pipes.specs.declared.names.Counts.{Counts}
 use Rattle.cs_slices.specs.Slices.{Slice}
 use Rattle.cs_slices.specs.Housekeeping.{flags_of, housekeeping_of, housekeeping_at}

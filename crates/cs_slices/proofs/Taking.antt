@@ -1,13 +1,10 @@
 -- Whether any place takes part, place by place; and a wakeup in which none does.
-use Rattle.std.proofs.Common.{◌≡◌, ℕ, zero, suc, ◌+◌, ◌%◌, ◌<◌, ◌≤◌, Bool, true, false, cond, not, ◌&&◌, ◌||◌, List, [], ◌∷◌, ◌++◌, length, map, drop, get_or, refl, sym, ap, ◌∙◌, arith, append-nil}
-use Rattle.std.specs.Prelude.{Some, None, Option, find, option_to_list, ◌==◌}
+use Rattle.std.proofs.Common.{◌≡◌, ℕ, zero, suc, ◌+◌, ◌%◌, ◌<◌, ◌≤◌, Bool, true, false, not, ◌&&◌, ◌||◌, List, [], ◌∷◌, ◌++◌, length, map, drop, get_or, refl, sym, ap, ◌∙◌, arith, append-nil}
+use Rattle.std.specs.Prelude.{None, find, ◌==◌}
 use Rattle.std.specs.List.{list_any, range_with_len}
 use Rattle.std.proofs.lemmas.List.{drop_more, drop_all}
 use Rattle.std.proofs.lemmas.List.FromFn.{length-range_with_len, get_or-range_with_len}
-use Rattle.bus_pipes.specs.declared.names.Out.{Out}
 use Rattle.commands.specs.Verdicts.{orders_in, verdicts_on}
-use Rattle.commands.specs.Answering.{command_items}
-use Rattle.commands.specs.Counting.{counts_of}
 use Rattle.commands.specs.declared.verdicts.Verdict.{Verdict}
 use Rattle.commands.proofs.Heard.{no_packets, no_answers, verdicts_none}
 use Rattle.memory_window.specs.Memory.{Memory}
@@ -15,13 +12,13 @@ use Rattle.cs_slices.specs.Messages.{cs_name}
 use Rattle.cs_slices.specs.Verdicts.{cs_protocol}
 use Rattle.cs_slices.specs.Orders.{takes_part, some_take_part}
 use Rattle.cs_slices.specs.Slices.{Slice, current_place, ring_from, next_slice}
-use Rattle.cs_slices.specs.Wakeups.{Input, heard_at, orders_at, orders_of, slice_at, wakeups_of, slices_of, since_of}
-use Rattle.cs_slices.specs.Step.{cs_heard, cs_answers, turn_of, slice_items, items_by, cs_items}
+use Rattle.cs_slices.specs.Wakeups.{Input, heard_at, orders_at, orders_of, slices_of, since_of}
+use Rattle.cs_slices.specs.Step.{cs_heard, cs_answers, turn_of, cs_items}
 use Rattle.cs_slices.specs.State.{Stands, is_idle_on}
 use Rattle.cs_slices.specs.declared.segments.Segment.{Segment}
 use Rattle.cs_slices.specs.declared.instructions.Instruction.{Instruction}
 use Rattle.cs_slices.specs.declared.state.Cs.{Cs}
-use Rattle.cs_slices.proofs.Wakeups.{slice_now, stands_more, items_are}
+use Rattle.cs_slices.proofs.Wakeups.{stands_more, items_are}
 
 zero_more : (k : ℕ) → 0 + k ≡ k
 zero_more k = omega arith

@@ -1,9 +1,8 @@
 -- Where the event of a miscompare stands among what CS sends.
-use Rattle.std.proofs.Common.{◌≡◌, ◌≢◌, ℕ, suc, ◌+◌, ◌*◌, ◌/◌, ◌%◌, ◌<◌, ◌≤◌, Bool, true, false, cond, not, ◌&&◌, ◌||◌, List, [], ◌∷◌, ◌++◌, length, refl, sym, ap, ◌∙◌, arith, lit<, ne_eqb}
-use Rattle.std.specs.Prelude.{Option, Some, None, ◌==◌, is_ok}
-use Rattle.std.specs.List.{All, list_any, fold}
+use Rattle.std.proofs.Common.{◌≡◌, ◌≢◌, ℕ, suc, ◌+◌, ◌*◌, ◌/◌, ◌%◌, ◌<◌, Bool, true, false, cond, not, ◌&&◌, ◌||◌, List, [], ◌∷◌, ◌++◌, refl, ap, ◌∙◌, arith, lit<, ne_eqb}
+use Rattle.std.specs.Prelude.{Option, Some, None, ◌==◌}
+use Rattle.std.specs.List.{All, list_any}
 use Rattle.std.proofs.lemmas.List.Elements.{All-append}
-use Rattle.histories.specs.Words.{joined_along}
 use Rattle.histories.proofs.Along.{joined_among}
 use Rattle.packet_forms.specs.Numbers.{be16_at, be16_bytes, be32_bytes}
 use Rattle.packet_forms.specs.Packets.{message_id, function_code, is_checksum_right, payload_of}
@@ -13,8 +12,7 @@ use Rattle.packet_forms.proofs.Forms.{telemetry_message_id}
 use Rattle.bus_pipes.specs.declared.names.Out.{Out}
 use Rattle.bus_pipes.specs.declared.names.Out.TheVariants.{Made}
 use Rattle.commands.specs.Rows.{row_of, is_length_allowed}
-use Rattle.commands.specs.Verdicts.{orders_in, judged_by, verdict_by_row, verdict_at, verdicts_on}
-use Rattle.commands.specs.Counting.{counts_of}
+use Rattle.commands.specs.Verdicts.{judged_by, verdict_by_row, verdict_at, verdicts_on}
 use Rattle.commands.specs.Answering.{packet_items, command_items}
 use Rattle.commands.specs.declared.verdicts.CodeRow.{CodeRow}
 use Rattle.commands.specs.declared.verdicts.Verdict.{Verdict}

@@ -1,5 +1,5 @@
 -- A history with one wakeup more.
-use Rattle.std.proofs.Common.{◌≡◌, ℕ, List, [], ◌∷◌, ◌++◌, map, refl, sym, ap, ◌∙◌, append_assoc, append-nil}
+use Rattle.std.proofs.Common.{◌≡◌, List, [], ◌∷◌, ◌++◌, map, refl, sym, ap, ◌∙◌, append_assoc, append-nil}
 use Rattle.std.specs.Prelude.{Option, Some, None, flat_map, is_some, option_to_list}
 use Rattle.std.specs.List.{fold, after_last, cons_option}
 use Rattle.std.proofs.lemmas.List.{map_push}
@@ -19,7 +19,7 @@ use Rattle.cs_slices.specs.Messages.{cs_name}
 use Rattle.cs_slices.specs.Verdicts.{cs_protocol}
 use Rattle.cs_slices.specs.Slices.{Slice, next_slice, since_behind}
 use Rattle.cs_slices.specs.Wakeups.{Input, heard_at, orders_at, orders_of, taken, orders_before, orders_behind, slice_at, wakeups_of, slices_of, since_of}
-use Rattle.cs_slices.specs.Step.{cs_heard, cs_answers, turn_of, slice_items, items_by, cs_items}
+use Rattle.cs_slices.specs.Step.{cs_heard, cs_answers, turn_of, slice_items, items_by}
 use Rattle.cs_slices.specs.State.{StandsAt, StandsFor}
 use Rattle.cs_slices.specs.declared.state.Course.{Course}
 use Rattle.cs_slices.specs.declared.state.Cs.{Cs}

@@ -1,5 +1,5 @@
 -- When a state of CS stands for its tables and a history, and when it has nothing to do.
-use Rattle.std.specs.Prelude.{◌≡◌, ◌<◌, ℕ, ◌==◌, Bool, not, ◌&&◌, List, [], ◌++◌, length, false, slice_index_or, None}
+use Rattle.std.specs.Prelude.{◌≡◌, ◌<◌, ℕ, ◌==◌, Bool, not, ◌&&◌, List, ◌++◌, length, false, slice_index_or, None}
 use Rattle.packet_forms.specs.Crc.{crc_of}
 use Rattle.commands.specs.Counting.{counts_of}
 use Rattle.cs_slices.specs.Orders.{is_cs_on, is_table_on, is_entry_on, some_take_part}

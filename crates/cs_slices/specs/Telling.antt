@@ -1,5 +1,5 @@
 -- The event of a miscompare among what CS sends.
-use Rattle.std.specs.Prelude.{ℕ, ◌==◌, Bool, false, ◌&&◌}
+use Rattle.std.specs.Prelude.{◌==◌, Bool, false, ◌&&◌}
 use Rattle.packet_forms.specs.Numbers.{be16_at}
 use Rattle.packet_forms.specs.Packets.{message_id}
 use Rattle.bus_pipes.specs.declared.names.Out.{Out}

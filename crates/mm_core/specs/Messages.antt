@@ -1,7 +1,7 @@
 -- MM's name, its message ids, and the codes of its commands.
 use Rattle.std.specs.Prelude.{ℕ, List, [], ◌∷◌, codes}
 use Rattle.packet_forms.specs.Names.{name_of}
-use Rattle.commands.specs.Rows.{row}
+use Rattle.commands.specs.Rows.{code_row}
 use Rattle.commands.specs.declared.verdicts.CodeRow.{CodeRow}
 
 -- MM's name.
@@ -24,4 +24,4 @@ peek_id = 0x088A
 
 -- The codes, each with the shortest and the longest payload: no-op, reset counters, peek, poke, and EEPROM enable and disable.
 unfoldable pub mm_codes : List CodeRow
-mm_codes = row 0 0 0 ∷ row 1 0 0 ∷ row 2 5 5 ∷ row 3 9 9 ∷ row 11 1 1 ∷ row 12 1 1 ∷ []
+mm_codes = code_row 0 0 0 ∷ code_row 1 0 0 ∷ code_row 2 5 5 ∷ code_row 3 9 9 ∷ code_row 11 1 1 ∷ code_row 12 1 1 ∷ []

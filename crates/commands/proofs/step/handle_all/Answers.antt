@@ -1,9 +1,7 @@
-use Rattle.std.proofs.Common.{◌≡◌, ◌+◌, ◌++◌, ◌∷◌, [], List, ℕ, take, length, refl, sym, ap, subst, ◌∙◌, append-nil, append_assoc, arith}
-use Rattle.std.proofs.lemmas.List.{take_all}
+use Rattle.std.proofs.Common.{◌≡◌, ◌+◌, ◌++◌, ◌∷◌, [], take, length, refl, ap, ◌∙◌, append-nil, append_assoc, arith}
 use Rattle.histories.proofs.Fronts.{front_more}
-use Rattle.commands.specs.Verdicts.{Protocol, protocol_of, orders_in, verdict_at, verdicts_on}
+use Rattle.commands.specs.Verdicts.{protocol_of, orders_in, verdict_at, verdicts_on}
 use Rattle.commands.specs.Counting.{counts_of}
-use Rattle.commands.specs.declared.verdicts.Verdict.{Verdict}
 use Rattle.commands.proofs.Answering.{none_fail}
 use Rattle.commands.proofs.Heard.{orders_none, verdicts_none, verdicts_more, items_none, items_step}
 use Rattle.commands.proofs.step.handle_all.Goals as goal

@@ -1,4 +1,4 @@
-use Rattle.std.proofs.Common.{◌≡◌, ◌++◌, List, refl, sym, ap, ◌∙◌}
+use Rattle.std.proofs.Common.{◌++◌, refl, ◌∙◌}
 use Rattle.memory_window.specs.Window.{seen}
 use Rattle.commands.specs.Answering.{command_items}
 use Rattle.cs_slices.specs.Messages.{cs_name}

@@ -1,5 +1,5 @@
-use Rattle.std.proofs.Common.{◌++◌, refl, sym, ap, ◌∙◌, true, false, not}
-use Rattle.cs_slices.specs.State.{Stands, is_idle_on}
+use Rattle.std.proofs.Common.{◌++◌, refl, sym, ◌∙◌, true, false}
+use Rattle.cs_slices.specs.State.{Stands}
 use Rattle.cs_slices.proofs.Taking.{idle_is, stands_asleep, items_asleep}
 use Rattle.cs_slices.proofs.state.Cs.is_idle.Goals as goal
 

@@ -1,5 +1,3 @@
-use Rattle.std.proofs.Common.{List, ◌++◌, ◌∷◌, [], append_assoc}
-use Rattle.cs_slices.specs.Wakeups.{orders_of, since_of}
 use Rattle.cs_slices.proofs.Wakeups.{stands_turned}
 use Rattle.cs_slices.proofs.step.CourseCommandedTables.obey.Goals as goal
 
