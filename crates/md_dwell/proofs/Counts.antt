@@ -1,14 +1,10 @@
 -- What MD makes gets sequence counts.
-use Rattle.std.proofs.Common.{◌≡◌, ◌≤◌, ◌+◌, ℕ, true, List, [], ◌∷◌, refl, sym, ap, subst, ◌∙◌, arith, lit<, inl, inr}
+use Rattle.std.proofs.Common.{◌≡◌, ◌≤◌, ◌+◌, ℕ, true, List, [], ◌∷◌, refl, subst, arith, inl, inr}
 use Rattle.std.specs.List.{AllPass}
 use Rattle.std.proofs.lemmas.Bool.{cases_lt}
-use Rattle.std.proofs.lemmas.List.Elements.{All-append}
-use Rattle.bus_pipes.specs.Held.{Held, adding}
 use Rattle.bus_pipes.specs.Counted.{is_counted, is_item_counted}
-use Rattle.bus_pipes.specs.declared.names.Counts.{Counts}
 use Rattle.bus_pipes.specs.declared.names.Out.{Out}
 use Rattle.bus_pipes.specs.declared.names.Out.TheVariants.{Made}
-use Rattle.bus_pipes.proofs.Deliveries.{items-adding}
 use Rattle.commands.proofs.Answering.{one_passes, telemetry_counted}
 use Rattle.md_dwell.specs.Step.{dwell_packet}
 

@@ -1,10 +1,7 @@
 -- A wakeup in which MD does nothing.
-use Rattle.std.proofs.Common.{◌≡◌, ℕ, ◌<◌, Bool, true, false, cond, not, ◌&&◌, ◌||◌, List, [], ◌∷◌, ◌++◌, length, map, None, Option, refl, sym, ap, subst, ◌∙◌, arith, lt-ltb, append-nil}
+use Rattle.std.proofs.Common.{◌≡◌, ℕ, ◌<◌, Bool, true, false, not, ◌&&◌, ◌||◌, List, [], ◌∷◌, ◌++◌, length, map, None, refl, sym, ap, ◌∙◌, lt-ltb, append-nil}
 use Rattle.std.specs.Prelude.{nat_lt, ◌==◌}
-use Rattle.std.specs.List.{list_any, range_with_len}
-use Rattle.bus_pipes.specs.declared.names.Out.{Out}
 use Rattle.commands.specs.Verdicts.{orders_in, verdicts_on}
-use Rattle.commands.specs.Answering.{command_items}
 use Rattle.commands.specs.Counting.{counts_of}
 use Rattle.commands.specs.declared.verdicts.Verdict.{Verdict}
 use Rattle.commands.proofs.Heard.{no_packets, no_answers, verdicts_none, heard_idle}
@@ -17,8 +14,7 @@ use Rattle.md_dwell.specs.Verdicts.{md_protocol}
 use Rattle.md_dwell.specs.Orders.{Input, heard_at, orders_at, orders_of}
 use Rattle.md_dwell.specs.Housekeeping.{entries_now, is_on, dwells}
 use Rattle.md_dwell.specs.Step.{md_heard, md_answers, turn_of, dwell_items, table_items, md_items}
-use Rattle.md_dwell.specs.Streams.{StreamStands}
-use Rattle.md_dwell.specs.State.{started_by, TableStands, StandsAt, StandsFor, Stands, is_idle_on}
+use Rattle.md_dwell.specs.State.{TableStands, StandsAt, Stands, is_idle_on}
 use Rattle.md_dwell.specs.declared.instructions.Instruction.{Instruction}
 use Rattle.md_dwell.specs.declared.streams.Stream.{Stream}
 use Rattle.md_dwell.specs.declared.state.Streams.{Streams}

@@ -1,6 +1,6 @@
 -- What was ordered at one more order, and a history at one more wakeup.
-use Rattle.std.proofs.Common.{◌≡◌, ℕ, ◌+◌, Bool, true, false, cond, ◌||◌, ◌&&◌, List, [], ◌∷◌, ◌++◌, length, map, Option, Some, None, refl, sym, ap, subst, ◌∙◌, append_assoc, append-nil}
-use Rattle.std.specs.Prelude.{filter_map, flat_map, nat_lt}
+use Rattle.std.proofs.Common.{◌≡◌, ℕ, Bool, true, false, cond, ◌||◌, List, [], ◌∷◌, ◌++◌, length, map, Option, Some, None, refl, sym, ap, subst, ◌∙◌, append_assoc, append-nil}
+use Rattle.std.specs.Prelude.{filter_map}
 use Rattle.std.proofs.lemmas.List.{map_push, length-map}
 use Rattle.std.proofs.lemmas.List.Sums.{fold_push}
 use Rattle.std.proofs.lemmas.List.Elements.{filter_map-append}
@@ -12,9 +12,7 @@ use Rattle.bus_pipes.specs.Held.{Held, adding}
 use Rattle.bus_pipes.specs.declared.names.Counts.{Counts}
 use Rattle.bus_pipes.specs.declared.names.Out.{Out}
 use Rattle.bus_pipes.proofs.Deliveries.{adding_more, items-adding}
-use Rattle.commands.specs.Verdicts.{orders_in, verdicts_on}
-use Rattle.commands.specs.declared.verdicts.Verdict.{Verdict}
-use Rattle.commands.proofs.Heard.{heard_more, heard_none, verdicts_none}
+use Rattle.commands.proofs.Heard.{heard_more, heard_none}
 use Rattle.memory_window.specs.Memory.{Memory}
 use Rattle.md_dwell.specs.Verdicts.{md_protocol}
 use Rattle.md_dwell.specs.declared.instructions.Instruction.{Instruction}

@@ -1,4 +1,4 @@
-use Rattle.std.proofs.Common.{◌≡◌, ◌++◌, ◌∷◌, [], List, refl, sym, ap, ◌∙◌}
+use Rattle.std.proofs.Common.{◌++◌, ◌∷◌, [], refl, sym, ap, ◌∙◌}
 use Rattle.bus_pipes.specs.Held.{adding}
 use Rattle.commands.specs.Counting.{counts_of}
 use Rattle.commands.specs.Answering.{command_items}
