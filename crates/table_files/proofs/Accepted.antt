@@ -1,12 +1,12 @@
 -- What follows for a file from its having no fault.
-use Rattle.std.proofs.Common.{◌↔◌, IsTrue, ◌≡◌, ℕ, ◌≤◌, ◌-◌, Bool, true, false, List, [], ◌∷◌, length, drop, refl, sym, ap, ◌∙◌, arith, cond, subst, lit≤, Option, Some, None, length-drop}
+use Rattle.std.proofs.Common.{◌↔◌, IsTrue, ◌≡◌, ℕ, zero, suc, ◌+◌, ◌≤◌, ◌-◌, Bool, true, false, List, [], ◌∷◌, ◌++◌, length, replicate, codes, drop, refl, sym, ap, ◌∙◌, arith, cond, subst, lit≤, Option, Some, None, length-drop}
 use Rattle.std.specs.Prelude.{◌&&◌, not, is_none}
 use Rattle.std.proofs.lemmas.Grind.{common_steps}
 use Rattle.std.proofs.lemmas.Bool.Decides.{nat_tests}
 use Rattle.table_files.specs.declared.fault.FileFault.{FileFault}
 use Rattle.table_files.specs.declared.kinds.TableKind.{TableKind}
-use Rattle.table_files.specs.declared.kinds.TableKind.TheVariants.{Dwell, Eeprom, Memory}
-use Rattle.table_files.specs.Kinds.{IsTable, fits_kind, is_padded, named_kind, kind_among, known_tables, KnownTable}
+use Rattle.table_files.specs.declared.kinds.TableKind.TheVariants.{AppMon, EventMon, ExeCount, MsgActs, Ats, Rts, Dwell, Eeprom, Memory}
+use Rattle.table_files.specs.Kinds.{IsTable, IsKnown, fits_kind, is_padded, named_kind, kind_among, known_tables, KnownTable}
 use Rattle.table_files.specs.Headers.{table_name, table_size, table_fault, file_fault_of, is_load, kind_of_file, payload_of_file, address_of_file, IsTableFile, IsLoadFile, IsTableOf}
 
 -- it has both headers of a table
@@ -59,26 +59,54 @@ among P (table ∷ rest) field kind every is = by_name (is_padded table.name fie
     by_name true here later = let same : table.kind ≡ kind = cc in subst P same every.0
     by_name false behind later = later behind
 
--- the size and the number of a kind, where it fits
-abbrev Ranges : TableKind → Type 0
-Ranges kind = (size : ℕ) → fits_kind kind size ≡ true → IsTable kind size
+-- a kind that a name says is known
+pub named_known : (field : List ℕ) (kind : TableKind) → named_kind field ≡ Some kind → IsKnown kind
+unfolding named_kind
+named_known field kind named =
+    among IsKnown known_tables field kind
+    ((lit≤ tt, lit≤ tt), ((lit≤ tt, lit≤ tt), ((lit≤ tt, lit≤ tt), ((lit≤ tt, lit≤ tt), (tt, (tt, tt))))))
+    named
 
-dwell_ranges : (n : ℕ) → 1 ≤ n → n ≤ 4 → Ranges (Dwell n)
-dwell_ranges n some few size fits = (some, few, grind (arith, nat_tests))
+-- the name field of a dwell table
+abbrev dwell_field : ℕ → List ℕ
+dwell_field n = codes "MD.DWELL_TABLE" ++ (48 + n) ∷ replicate 25 0
 
-eeprom_ranges : Ranges Eeprom
-eeprom_ranges size fits = grind (arith, nat_tests)
+-- a known kind is said by a name
+known_named : (kind : TableKind) → IsKnown kind → (field : List ℕ) × (named_kind field ≡ Some kind)
+unfolding named_kind is_padded
+known_named (Dwell zero) known = absurd (omega arith)
+known_named (Dwell (suc zero)) known = (dwell_field 1, refl)
+known_named (Dwell (suc (suc zero))) known = (dwell_field 2, refl)
+known_named (Dwell (suc (suc (suc zero)))) known = (dwell_field 3, refl)
+known_named (Dwell (suc (suc (suc (suc zero))))) known = (dwell_field 4, refl)
+known_named (Dwell (suc (suc (suc (suc (suc n)))))) known = absurd (omega arith)
+known_named Eeprom known = (codes "CS.DefEepromTbl" ++ replicate 25 0, refl)
+known_named Memory known = (codes "CS.DefMemoryTbl" ++ replicate 25 0, refl)
+known_named AppMon known = absurd known
+known_named EventMon known = absurd known
+known_named ExeCount known = absurd known
+known_named MsgActs known = absurd known
+known_named (Ats n) known = absurd known
+known_named (Rts n) known = absurd known
 
-memory_ranges : Ranges Memory
-memory_ranges size fits = grind (arith, nat_tests)
+pub known_is_named : (kind : TableKind) → ((field : List ℕ) × (named_kind field ≡ Some kind)) ↔ IsKnown kind
+known_is_named kind = (λ named. named_known named.0 kind named.1, known_named kind)
+
+-- a known kind with a size that fits it
+sized_table : (kind : TableKind) (size : ℕ) → IsKnown kind → fits_kind kind size ≡ true → IsTable kind size
+sized_table (Dwell n) size known fits = (known.0, known.1, grind (arith, nat_tests))
+sized_table Eeprom size known fits = grind (arith, nat_tests)
+sized_table Memory size known fits = grind (arith, nat_tests)
+sized_table AppMon size known fits = absurd known
+sized_table EventMon size known fits = absurd known
+sized_table ExeCount size known fits = absurd known
+sized_table MsgActs size known fits = absurd known
+sized_table (Ats n) size known fits = absurd known
+sized_table (Rts n) size known fits = absurd known
 
 -- a kind that a name says is one of the known tables'
 known_range : (field : List ℕ) (kind : TableKind) (size : ℕ) → named_kind field ≡ Some kind → fits_kind kind size ≡ true → IsTable kind size
-unfolding named_kind
-known_range field kind size named fits =
-    among Ranges known_tables field kind
-    (dwell_ranges 1 (lit≤ tt) (lit≤ tt), (dwell_ranges 2 (lit≤ tt) (lit≤ tt), (dwell_ranges 3 (lit≤ tt) (lit≤ tt), (dwell_ranges 4 (lit≤ tt) (lit≤ tt), (eeprom_ranges, (memory_ranges, tt))))))
-    named size fits
+known_range field kind size named fits = sized_table kind size (named_known field kind named) fits
 
 -- what a table file is read as
 pub table_file : (file : List ℕ) (kind : TableKind) (payload : List ℕ) → file_fault_of file ≡ None → kind_of_file file ≡ Some kind → payload ≡ drop 116 file → IsTableFile file kind payload
@@ -156,6 +184,9 @@ kind_has_headers file kind = (
   λ is. let ok = kind_accepted file kind is in headers_of file kind ok (sym (kind_named file ok) ∙ is),
   λ is. kind_named file (no_fault file kind is) ∙ is.name,
 )
+
+pub kind_known : (file : List ℕ) (kind : TableKind) → kind_of_file file ≡ Some kind → IsKnown kind
+kind_known file kind is = named_known (table_name file) kind (sym (kind_named file (kind_accepted file kind is)) ∙ is)
 
 pub size_of_kind : (file : List ℕ) (kind : TableKind) → kind_of_file file ≡ Some kind → IsTable kind (length (payload_of_file file))
 unfolding payload_of_file

@@ -1,5 +1,5 @@
 -- Lists of files: a file of the list, one file more, and tables that are there already.
-use Rattle.std.proofs.Common.{◌↔◌, eq-eqb, All, ◌≡◌, ℕ, ◌<◌, Bool, true, false, List, [], ◌∷◌, ◌++◌, length, map, get_or, refl, sym, ap, subst, ◌∙◌, arith, zero, suc, Option, Some, None, length-append, Vec, Global}
+use Rattle.std.proofs.Common.{◌↔◌, All, ◌≡◌, ℕ, ◌<◌, Bool, true, false, List, [], ◌∷◌, ◌++◌, length, map, get_or, refl, sym, ap, subst, ◌∙◌, arith, zero, suc, Option, Some, None, length-append, Vec, Global}
 use Rattle.std.proofs.lemmas.Bool.Decides.{nat_tests}
 use Rattle.std.specs.Prelude.{◌==◌, ◌||◌, filter, option_map}
 use Rattle.std.specs.List.{list_any}
@@ -92,15 +92,7 @@ load_there held lent files n found view is same = rw (← view, same, is) refl
 -- a kind is the same as itself
 same_self : (kind : TableKind) → is_same_kind kind kind ≡ true
 unfolding is_same_kind
-same_self AppMon = refl
-same_self EventMon = refl
-same_self ExeCount = refl
-same_self MsgActs = refl
-same_self (Ats n) = eq-eqb n n refl
-same_self (Rts n) = eq-eqb n n refl
-same_self (Dwell n) = eq-eqb n n refl
-same_self Eeprom = refl
-same_self Memory = refl
+same_self kind = grind (arith, nat_tests)
 
 same_number : (n m : ℕ) → (n == m) ≡ true → n ≡ m
 same_number n m h = grind (arith, nat_tests)

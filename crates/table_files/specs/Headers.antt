@@ -1,9 +1,10 @@
 -- Files: their headers (made after the cFE's), and the first fault that they have.
-use Rattle.std.specs.Prelude.{◌≡◌, ℕ, ◌-◌, ◌≤◌, IsTrue, ◌==◌, Bool, not, ◌&&◌, nat_lt, if◌then◌else◌, List, ◌++◌, length, replicate, take, drop, Option, Some, None, is_none}
-use Rattle.packet_forms.specs.Numbers.{be32_at, be32_bytes}
+use Rattle.std.specs.Prelude.{◌≡◌, ℕ, ◌-◌, ◌≤◌, IsTrue, ◌==◌, Bool, not, ◌&&◌, nat_lt, if◌then◌else◌, List, length, take, drop, Option, Some, None, is_none}
+use Rattle.packet_forms.specs.Numbers.{be32_at}
 use Rattle.table_files.specs.declared.fault.FileFault.{FileFault}
 use Rattle.table_files.specs.declared.fault.FileFault.TheVariants.{Short, ContentType, Subtype, Partial, Name, Size}
 use Rattle.table_files.specs.declared.kinds.TableKind.{TableKind}
+use Rattle.table_files.specs.declared.headers.TheConstants.{CONTENT_TYPE, TABLE, LOAD, HEADER, TABLE_HEADERS, LOAD_HEADERS}
 use Rattle.table_files.specs.declared.headers.FileImage.{FileImage}
 use Rattle.table_files.specs.declared.headers.FileImage.TheVariants.{Table, Load}
 use Rattle.table_files.specs.Kinds.{named_kind, fits_kind, IsTable}
@@ -25,12 +26,6 @@ table_size file = be32_at file 72
 unfoldable pub table_name : List ℕ → List ℕ
 table_name file = take 40 (drop 76 file)
 
--- both headers of a table with this name and so many bytes behind them, where what isn't looked at is 0
-unfoldable pub table_headers : List ℕ → ℕ → List ℕ
-table_headers name size =
-    be32_bytes 0x63464531 ++ be32_bytes 8 ++ replicate 56 0
-    ++ be32_bytes 0 ++ be32_bytes 0 ++ be32_bytes size ++ name ++ replicate (40 - length name) 0
-
 -- the fault of a table whose name says this kind, if any: how many bytes its header says, and how many there are
 abbrev pub table_fault : Option TableKind → ℕ → ℕ → Option FileFault
 table_fault None said size = Some Name
@@ -39,12 +34,12 @@ table_fault (Some kind) said size = if (said == size) && fits_kind kind size the
 -- the first fault of a file, in the order in which they are asked, or none where it is accepted
 unfoldable pub file_fault_of : List ℕ → Option FileFault
 file_fault_of file =
-    if nat_lt (length file) 64 then Some Short
-    else if not (content_type file == 0x63464531) then Some ContentType
-    else if not (subtype file == 8) then Some Subtype
-    else if nat_lt (length file) 116 then Some Short
+    if nat_lt (length file) HEADER then Some Short
+    else if not (content_type file == CONTENT_TYPE) then Some ContentType
+    else if not (subtype file == TABLE) then Some Subtype
+    else if nat_lt (length file) TABLE_HEADERS then Some Short
     else if not (table_offset file == 0) then Some Partial
-    else table_fault (named_kind (table_name file)) (table_size file) (length file - 116)
+    else table_fault (named_kind (table_name file)) (table_size file) (length file - TABLE_HEADERS)
 
 -- a file has no fault
 abbrev pub IsFile : List ℕ → Type 0
@@ -52,17 +47,17 @@ IsFile file = file_fault_of file ≡ None
 
 -- a file has the headers of a known table, and as many bytes behind them as they and the table say
 pub record IsTableOf (file : List ℕ) (kind : TableKind) : Type 0 where
-  pub long : 116 ≤ length file
-  pub content : content_type file ≡ 0x63464531
-  pub sort : subtype file ≡ 8
+  pub long : TABLE_HEADERS ≤ length file
+  pub content : content_type file ≡ CONTENT_TYPE
+  pub sort : subtype file ≡ TABLE
   pub whole : table_offset file ≡ 0
   pub name : named_kind (table_name file) ≡ Some kind
-  pub said : table_size file ≡ length file - 116
-  pub fits : IsTrue (fits_kind kind (length file - 116))
+  pub said : table_size file ≡ length file - TABLE_HEADERS
+  pub fits : IsTrue (fits_kind kind (length file - TABLE_HEADERS))
 
 -- whether a file's bytes are to be loaded into memory, where it has no fault
 unfoldable pub is_load : List ℕ → Bool
-is_load file = subtype file == 100
+is_load file = subtype file == LOAD
 
 -- the kind of a table file; none where the file has a fault or is no table
 unfoldable pub kind_of_file : List ℕ → Option TableKind
@@ -70,7 +65,7 @@ kind_of_file file = if is_none (file_fault_of file) && not (is_load file) then n
 
 -- the bytes behind the headers
 unfoldable pub payload_of_file : List ℕ → List ℕ
-payload_of_file file = drop (if is_load file then 80 else 116) file
+payload_of_file file = drop (if is_load file then LOAD_HEADERS else TABLE_HEADERS) file
 
 -- the address at which the bytes of a load file go
 unfoldable pub address_of_file : List ℕ → ℕ

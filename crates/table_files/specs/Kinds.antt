@@ -1,22 +1,25 @@
 -- Kinds of tables: their names, and how many bytes their payloads have.
-use Rattle.std.specs.Prelude.{◌≡◌, ℕ, ◌≤◌, ◌==◌, Bool, true, false, ◌&&◌, nat_le, nat_eq, List, [], ◌∷◌, length, drop, Option, None, Some, if◌then◌else◌, codes}
+use Rattle.std.specs.Prelude.{◌≡◌, ℕ, ◌≤◌, ◌==◌, Bool, ◌&&◌, nat_le, nat_eq, List, [], ◌∷◌, length, drop, Option, None, Some, if◌then◌else◌, codes}
 use Rattle.std.specs.List.{list_all, starts_with}
 use Rattle.table_files.specs.declared.kinds.TableKind.{TableKind}
 use Rattle.table_files.specs.declared.kinds.TableRow.{TableRow}
 use Rattle.table_files.specs.declared.kinds.TableKind.TheVariants.{AppMon, EventMon, ExeCount, MsgActs, Ats, Rts, Dwell, Eeprom, Memory}
 
+-- which sort of tables a kind is of, and its number among them
+abbrev pub sort_of : TableKind → ℕ × ℕ
+sort_of AppMon = (0, 0)
+sort_of EventMon = (1, 0)
+sort_of ExeCount = (2, 0)
+sort_of MsgActs = (3, 0)
+sort_of (Ats n) = (4, n)
+sort_of (Rts n) = (5, n)
+sort_of (Dwell n) = (6, n)
+sort_of Eeprom = (7, 0)
+sort_of Memory = (8, 0)
+
 -- whether two kinds are the same table
 unfoldable pub is_same_kind : TableKind → TableKind → Bool
-is_same_kind AppMon AppMon = true
-is_same_kind EventMon EventMon = true
-is_same_kind ExeCount ExeCount = true
-is_same_kind MsgActs MsgActs = true
-is_same_kind (Ats n) (Ats m) = n == m
-is_same_kind (Rts n) (Rts m) = n == m
-is_same_kind (Dwell n) (Dwell m) = n == m
-is_same_kind Eeprom Eeprom = true
-is_same_kind Memory Memory = true
-is_same_kind _ _ = false
+is_same_kind kind other = ((sort_of kind).0 == (sort_of other).0) && ((sort_of kind).1 == (sort_of other).1)
 
 -- whether the payload of a table may have so many bytes
 abbrev pub fits_kind : TableKind → ℕ → Bool
@@ -30,14 +33,26 @@ fits_kind (Dwell n) size = size == 204
 fits_kind Eeprom size = size == 192
 fits_kind Memory size = size == 192
 
+-- the kinds whose tables are known by a name
+abbrev pub IsKnown : TableKind → Type 0
+IsKnown AppMon = ⊥
+IsKnown EventMon = ⊥
+IsKnown ExeCount = ⊥
+IsKnown MsgActs = ⊥
+IsKnown (Ats n) = ⊥
+IsKnown (Rts n) = ⊥
+IsKnown (Dwell n) = (1 ≤ n) × (n ≤ 4)
+IsKnown Eeprom = Unit {0}
+IsKnown Memory = Unit {0}
+
 -- what holds of the kind of a table that is known, and of how many bytes its payload has
 abbrev pub IsTable : TableKind → ℕ → Type 0
-IsTable AppMon size = size ≡ 768
-IsTable EventMon size = size ≡ 384
-IsTable ExeCount size = size ≡ 704
-IsTable MsgActs size = size ≡ 544
-IsTable (Ats n) size = (1 ≤ n) × (n ≤ 2) × (size ≤ 65536)
-IsTable (Rts n) size = (1 ≤ n) × (n ≤ 64) × (size ≤ 2048)
+IsTable AppMon size = ⊥
+IsTable EventMon size = ⊥
+IsTable ExeCount size = ⊥
+IsTable MsgActs size = ⊥
+IsTable (Ats n) size = ⊥
+IsTable (Rts n) size = ⊥
 IsTable (Dwell n) size = (1 ≤ n) × (n ≤ 4) × (size ≡ 204)
 IsTable Eeprom size = size ≡ 192
 IsTable Memory size = size ≡ 192

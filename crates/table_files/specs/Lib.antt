@@ -3,3 +3,4 @@ pub mod Faults
 pub mod Headers
 pub mod Files
 pub mod Entries
+pub mod Rows

@@ -1,5 +1,5 @@
 //! The files that were handed over.
-ghost use Rattle.std.specs.Prelude.{◌≡◌, ◌<◌, ◌≤◌, [], ◌∷◌, ◌++◌, length, filter, map, All, option_map, true, IfOk, OnOk, OnErr, IfErr, IfSome, None, Some};
+ghost use Rattle.std.specs.Prelude.{◌≡◌, ◌<◌, ◌≤◌, [], ◌∷◌, ◌++◌, length, filter, map, All, option_map, true, IsOkAnd, OnOk, OnErr, IfErr, IfSome, None, Some};
 ghost use Rattle.std.specs.List.{list_any};
 ghost use Rattle.table_files.specs.Headers.{IsFile, is_load, kind_of_file, Shows};
 ghost use Rattle.table_files.specs.Files.{AreFiles, addition_of, Refuses, are_same, is_there, file_at, nth, load_of};
@@ -31,9 +31,9 @@ impl Model for Files {
 }
 
 impl Files {
-    /// No files.
+    /// No files. It takes no memory, so the result is Ok.
     pub fn open(alloc: Global) -> Result<Files, NoMemory>
-        ensures { IfOk result (λ files. files ≡ []) }
+        ensures { IsOkAnd result (λ files. files ≡ []) }
     {
         Ok(Files {
             files: Vec::new(alloc),
@@ -123,18 +123,9 @@ fn is_there(files: &[Vec<u8>], file: &[u8]) -> bool
 }
 
 /// Whether a table of this kind is among the files.
+#[tactic(auto, unfolding(crate::specs::Kinds::is_same_kind))]
 fn has_kind(files: &[Vec<u8>], kind: TableKind) -> bool
     ensures { result ≡ list_any (λ held. are_same (kind_of_file held.items) (Some kind)) files.now }
 {
-    files.iter().any(|held| is_of_kind(held, kind))
-}
-
-/// Whether a file is a table of this kind.
-fn is_of_kind(file: &[u8], kind: TableKind) -> bool
-    ensures { result ≡ are_same (kind_of_file file.now) (Some kind) }
-{
-    match kind_of_file(file) {
-        None => false,
-        Some(held) => held.is_same(kind),
-    }
+    files.iter().any(|held| kind_of_file(held) == Some(kind))
 }

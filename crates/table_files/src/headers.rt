@@ -25,6 +25,15 @@ const TABLE: u32 = 8;
 /// The subtype of bytes to be loaded.
 const LOAD: u32 = 100;
 
+/// How many bytes the header of every file has.
+const HEADER: usize = 64;
+
+/// How many bytes both headers of a table have.
+const TABLE_HEADERS: usize = 116;
+
+/// How many bytes both headers of bytes to be loaded have.
+const LOAD_HEADERS: usize = 80;
+
 /// What the file of these bytes holds, or the first of its faults (docs/FILES.md):
 ///
 /// 1. `Short`: under 64 bytes
@@ -51,7 +60,7 @@ pub fn read_file(bytes: &[u8]) -> Result<FileImage<'_>, FileFault>
 pub(crate) fn find_fault(bytes: &[u8]) -> Option<FileFault>
     ensures { result ≡ file_fault_of bytes.now }
 {
-    if bytes.len() < 64 {
+    if bytes.len() < HEADER {
         return Some(FileFault::Short);
     }
     if be32(bytes, 0) != CONTENT_TYPE {
@@ -60,7 +69,7 @@ pub(crate) fn find_fault(bytes: &[u8]) -> Option<FileFault>
     if be32(bytes, 4) != TABLE {
         return Some(FileFault::Subtype);
     }
-    if bytes.len() < 116 {
+    if bytes.len() < TABLE_HEADERS {
         return Some(FileFault::Short);
     }
     if be32(bytes, 68) != 0 {
@@ -72,13 +81,13 @@ pub(crate) fn find_fault(bytes: &[u8]) -> Option<FileFault>
 /// The fault of a table's name or of its size.
 #[tactic(auto, unfolding(crate::specs::Headers::table_size))]
 fn table_fault(bytes: &[u8]) -> Option<FileFault>
-    requires { 116 ≤ length bytes.now }
-    ensures { result ≡ table_fault (named_kind (table_name bytes.now)) (table_size bytes.now) (length bytes.now - 116) }
+    requires { TABLE_HEADERS ≤ length bytes.now }
+    ensures { result ≡ table_fault (named_kind (table_name bytes.now)) (table_size bytes.now) (length bytes.now - TABLE_HEADERS) }
 {
     let Some(kind) = named_kind(name_field(bytes)) else {
         return Some(FileFault::Name);
     };
-    let size = bytes.len() - 116;
+    let size = bytes.len() - TABLE_HEADERS;
     if be32(bytes, 72) as usize == size && kind.fits(size) {
         None
     } else {
@@ -89,10 +98,10 @@ fn table_fault(bytes: &[u8]) -> Option<FileFault>
 /// The 40 bytes of a table's name.
 #[tactic(auto, unfolding(crate::specs::Headers::table_name))]
 fn name_field(bytes: &[u8]) -> &[u8]
-    requires { 116 ≤ length bytes.now }
+    requires { TABLE_HEADERS ≤ length bytes.now }
     ensures { result.now ≡ table_name bytes.now }
 {
-    &bytes[76..116]
+    &bytes[76..TABLE_HEADERS]
 }
 
 /// What a file without a fault holds.
@@ -106,7 +115,7 @@ pub(crate) fn image_of(bytes: &[u8]) -> FileImage<'_>
     }
     FileImage::Table {
         kind: kind_of(bytes),
-        payload: behind(bytes, 116),
+        payload: behind(bytes, TABLE_HEADERS),
     }
 }
 
@@ -137,11 +146,11 @@ fn kind_of(bytes: &[u8]) -> TableKind
 /// Address and bytes of a load file.
 #[tactic(auto, unfolding(crate::specs::Headers::address_of_file))]
 pub(crate) fn load_in(bytes: &[u8]) -> (u32, &[u8])
-    requires { 80 ≤ length bytes.now }
+    requires { LOAD_HEADERS ≤ length bytes.now }
     ensures at { result.0 ≡ address_of_file bytes.now }
-    ensures bytes { result.1.now ≡ drop 80 bytes.now }
+    ensures bytes { result.1.now ≡ drop LOAD_HEADERS bytes.now }
 {
-    (be32(bytes, 64), behind(bytes, 80))
+    (be32(bytes, 64), behind(bytes, LOAD_HEADERS))
 }
 
 /// The bytes from a place on.

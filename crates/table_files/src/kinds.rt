@@ -1,7 +1,7 @@
 //! The kinds of tables: their names, and how many bytes their payloads have.
 ghost use Rattle.std.specs.Prelude.{◌≡◌, ◌==◌, map};
 ghost use Rattle.std.specs.List.{list_all};
-ghost use Rattle.table_files.specs.Kinds.{is_same_kind, fits_kind, is_padded, known_by, kind_among, named_kind};
+ghost use Rattle.table_files.specs.Kinds.{fits_kind, is_padded, known_by, kind_among, named_kind};
 
 /// Which table a file holds. A number tells tables of one sort apart.
 #[derive(Clone, Copy, Debug, PartialEq, Eq)]
@@ -61,25 +61,6 @@ const TABLE_ROWS: [TableRow; 6] = [
 ];
 
 impl TableKind {
-    /// Whether it is the same table.
-    #[tactic(auto, unfolding(crate::specs::Kinds::is_same_kind))]
-    pub(crate) fn is_same(self, other: TableKind) -> bool
-        ensures { result ≡ is_same_kind self other }
-    {
-        match (self, other) {
-            (TableKind::AppMon, TableKind::AppMon) => true,
-            (TableKind::EventMon, TableKind::EventMon) => true,
-            (TableKind::ExeCount, TableKind::ExeCount) => true,
-            (TableKind::MsgActs, TableKind::MsgActs) => true,
-            (TableKind::Ats(n), TableKind::Ats(m)) => n == m,
-            (TableKind::Rts(n), TableKind::Rts(m)) => n == m,
-            (TableKind::Dwell(n), TableKind::Dwell(m)) => n == m,
-            (TableKind::Eeprom, TableKind::Eeprom) => true,
-            (TableKind::Memory, TableKind::Memory) => true,
-            _ => false,
-        }
-    }
-
     /// Whether its payload may have so many bytes.
     pub(crate) fn fits(self, size: usize) -> bool
         ensures { result ≡ fits_kind self size }

@@ -1,12 +1,17 @@
-//! Laws of the definitions, as contracts of functions that do nothing.
+//! Laws of the definitions, as contracts of functions that do nothing. Worked rows stand for themselves: their bytes are
+//! written from the layout, and none is made by another definition.
 
-ghost use Rattle.std.specs.Prelude.{◌≡◌, ◌≤◌, ◌↔◌, ℕ, ◌+◌, List, [], ◌∷◌, ◌++◌, length, map, replicate, codes, true, Some, None};
+ghost use Rattle.std.specs.Prelude.{◌≡◌, ◌<◌, ◌≤◌, ◌↔◌, ℕ, ◌+◌, ◌-◌, List, [], ◌∷◌, ◌++◌, length, map, take, replicate, slice_index_or, slice_set, Bool, true, false, Option, Some, None};
 ghost use Rattle.table_files.specs.declared.kinds.TableKind.{TableKind};
-ghost use Rattle.table_files.specs.declared.kinds.TableKind.TheVariants.{Dwell, Eeprom, Memory};
-ghost use Rattle.table_files.specs.declared.fault.FileFault.TheVariants.{Size};
-ghost use Rattle.table_files.specs.Kinds.{IsTable, is_same_kind, named_kind};
-ghost use Rattle.table_files.specs.Headers.{IsFile, IsTableOf, kind_of_file, payload_of_file, file_fault_of, table_headers};
+ghost use Rattle.table_files.specs.declared.kinds.TableKind.TheVariants.{AppMon, EventMon, ExeCount, MsgActs, Ats, Rts, Dwell, Eeprom, Memory};
+ghost use Rattle.table_files.specs.declared.fault.EntryFault.{EntryFault};
+ghost use Rattle.table_files.specs.declared.fault.FileFault.TheVariants.{Short, ContentType, Subtype, Partial, Name, Size, LoadCrc};
+ghost use Rattle.table_files.specs.Entries.{first_fault, IsFirstReason};
+ghost use Rattle.table_files.specs.Faults.{file_fault_number};
+ghost use Rattle.table_files.specs.Kinds.{IsTable, IsKnown, is_same_kind, named_kind, fits_kind};
+ghost use Rattle.table_files.specs.Headers.{IsFile, IsTableOf, content_type, subtype, table_offset, table_size, table_name, is_load, kind_of_file, payload_of_file, address_of_file, file_fault_of};
 ghost use Rattle.table_files.specs.Files.{AreFiles, file_at};
+ghost use Rattle.table_files.specs.Rows.{dwell_headers, dwell_file, load_file, eeprom_name, memory_name};
 
 /// The files without a fault are those with the headers of a known table, and no file is two tables.
 pub fn accepted_files_have_headers()
@@ -30,14 +35,65 @@ pub fn kinds_differ()
         → kind_of_file (file_at files i) ≡ Some kind → kind_of_file (file_at files j) ≡ Some kind → i ≡ j }
 {}
 
-/// The names of the known tables, and files of the first dwell table with 319, 320 and 321 bytes.
-pub fn worked_files()
-    ensures dwell { map (λ n. named_kind (codes "MD.DWELL_TABLE" ++ (48 + n) ∷ replicate 25 0)) (1 ∷ 2 ∷ 3 ∷ 4 ∷ 5 ∷ [])
-        ≡ Some (Dwell 1) ∷ Some (Dwell 2) ∷ Some (Dwell 3) ∷ Some (Dwell 4) ∷ None ∷ [] }
-    ensures eeprom { named_kind (codes "CS.DefEepromTbl" ++ replicate 25 0) ≡ Some Eeprom }
-    ensures memory { named_kind (codes "CS.DefMemoryTbl" ++ replicate 25 0) ≡ Some Memory }
-    ensures padded { named_kind (codes "CS.DefMemoryTbl" ++ replicate 24 0 ++ 1 ∷ []) ≡ None }
-    ensures accepted { file_fault_of (table_headers (codes "MD.DWELL_TABLE1") 204 ++ replicate 204 0) ≡ None }
-    ensures short { file_fault_of (table_headers (codes "MD.DWELL_TABLE1") 204 ++ replicate 203 0) ≡ Some Size }
-    ensures long { file_fault_of (table_headers (codes "MD.DWELL_TABLE1") 204 ++ replicate 205 0) ≡ Some Size }
+/// The kinds whose tables are known by a name: exactly these are the kinds of files.
+pub fn known_kinds()
+    ensures named { (kind : TableKind) → ((field : List ℕ) × (named_kind field ≡ Some kind)) ↔ IsKnown kind }
+    ensures files { (file : List ℕ) (kind : TableKind) → kind_of_file file ≡ Some kind → IsKnown kind }
+{}
+
+/// What is told of entries is the first reason to refuse one, and nothing exactly where no entry has a reason.
+pub fn first_faults()
+    ensures told { (reasons : List (Option ℕ)) (place reason : ℕ) → IsFirstReason reasons place reason
+        → first_fault (λ r. r) 1 reasons ≡ Some (record { entry = place + 1; reason = reason }) }
+    ensures first { (reasons : List (Option ℕ)) (fault : EntryFault) → first_fault (λ r. r) 1 reasons ≡ Some fault
+        → (1 ≤ fault.entry) × IsFirstReason reasons (fault.entry - 1) fault.reason }
+    ensures none { (reasons : List (Option ℕ)) → (first_fault (λ r. r) 1 reasons ≡ None) ↔ ((k : ℕ) → k < length reasons → slice_index_or reasons k None ≡ None) }
+{}
+
+/// The names of the known tables, byte by byte.
+pub fn name_rows()
+    ensures dwell { map (λ n. named_kind (0x4D ∷ 0x44 ∷ 0x2E ∷ 0x44 ∷ 0x57 ∷ 0x45 ∷ 0x4C ∷ 0x4C ∷ 0x5F ∷ 0x54 ∷ 0x41 ∷ 0x42 ∷ 0x4C ∷ 0x45 ∷ n ∷ replicate 25 0)) (0x30 ∷ 0x31 ∷ 0x32 ∷ 0x33 ∷ 0x34 ∷ 0x35 ∷ [])
+        ≡ None ∷ Some (Dwell 1) ∷ Some (Dwell 2) ∷ Some (Dwell 3) ∷ Some (Dwell 4) ∷ None ∷ [] }
+    ensures eeprom { named_kind eeprom_name ≡ Some Eeprom }
+    ensures memory { named_kind memory_name ≡ Some Memory }
+    ensures padded { named_kind (slice_set eeprom_name 39 1) ≡ None }
+    ensures whole { named_kind (slice_set eeprom_name 14 0) ≡ None }
+{}
+
+/// How many bytes the payload of each kind has: the most that it may have, and one more.
+pub fn size_rows()
+    ensures fixed { map {B = Bool × Bool × Bool} (λ (row : TableKind × ℕ). (fits_kind row.0 (row.1 - 1), fits_kind row.0 row.1, fits_kind row.0 (row.1 + 1))) ((AppMon, 768) ∷ (EventMon, 384) ∷ (ExeCount, 704) ∷ (MsgActs, 544) ∷ (Dwell 4, 204) ∷ (Eeprom, 192) ∷ (Memory, 192) ∷ [])
+        ≡ replicate 7 (false, true, false) }
+    ensures most { map {B = Bool × Bool × Bool} (λ (row : TableKind × ℕ). (fits_kind row.0 0, fits_kind row.0 row.1, fits_kind row.0 (row.1 + 1))) ((Ats 2, 65536) ∷ (Rts 64, 2048) ∷ [])
+        ≡ replicate 2 (true, true, false) }
+{}
+
+/// The number of each fault.
+pub fn fault_rows()
+    ensures { map file_fault_number (Short ∷ ContentType ∷ Subtype ∷ Partial ∷ Name ∷ Size ∷ LoadCrc ∷ []) ≡ 1 ∷ 2 ∷ 3 ∷ 4 ∷ 5 ∷ 6 ∷ 7 ∷ [] }
+{}
+
+/// The fields of a dwell table's file and of a file that is to be loaded, byte by byte.
+pub fn header_rows()
+    ensures content { content_type dwell_file ≡ 0x63464531 }
+    ensures sort { subtype dwell_file ≡ 8 }
+    ensures offset { table_offset (slice_set (slice_set dwell_file 68 1) 71 2) ≡ 0x01000002 }
+    ensures size { table_size (slice_set dwell_file 72 1) ≡ 0x010000CC }
+    ensures name { table_name dwell_file ≡ 0x4D ∷ 0x44 ∷ 0x2E ∷ 0x44 ∷ 0x57 ∷ 0x45 ∷ 0x4C ∷ 0x4C ∷ 0x5F ∷ 0x54 ∷ 0x41 ∷ 0x42 ∷ 0x4C ∷ 0x45 ∷ 0x33 ∷ replicate 25 0 }
+    ensures kind { kind_of_file dwell_file ≡ Some (Dwell 3) }
+    ensures payload { payload_of_file dwell_file ≡ replicate 204 0x77 }
+    ensures load { is_load load_file ≡ true }
+    ensures address { address_of_file load_file ≡ 0x12345678 }
+    ensures bytes { payload_of_file load_file ≡ 0xC1 ∷ 0xC2 ∷ 0xC3 ∷ [] }
+{}
+
+/// The first fault of a file: each in a file that has no other, and then in files that have all later ones too.
+pub fn fault_order_rows()
+    ensures none { file_fault_of dwell_file ≡ None }
+    ensures alone { map file_fault_of (take 63 dwell_file ∷ slice_set dwell_file 0 0x64 ∷ slice_set dwell_file 7 9 ∷ take 115 dwell_file ∷ slice_set dwell_file 71 1 ∷ slice_set dwell_file 90 0x35 ∷ slice_set dwell_file 75 0xCD ∷ take 319 dwell_file ∷ [])
+        ≡ Some Short ∷ Some ContentType ∷ Some Subtype ∷ Some Short ∷ Some Partial ∷ Some Name ∷ Some Size ∷ Some Size ∷ [] }
+    ensures longer { file_fault_of (slice_set dwell_file 75 0xCD ++ 0x77 ∷ []) ≡ Some Size }
+    ensures first { map (λ n. file_fault_of (take n (replicate 116 0xFF))) (63 ∷ 64 ∷ []) ≡ Some Short ∷ Some ContentType ∷ [] }
+    ensures later { map file_fault_of ((take 4 dwell_headers ++ replicate 60 0xFF) ∷ (take 8 dwell_headers ++ replicate 107 0xFF) ∷ (take 8 dwell_headers ++ replicate 108 0xFF) ∷ (take 72 dwell_headers ++ replicate 44 0xFF) ∷ [])
+        ≡ Some Subtype ∷ Some Short ∷ Some Partial ∷ Some Name ∷ [] }
 {}

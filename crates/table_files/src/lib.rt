@@ -6,11 +6,13 @@ mod files;
 mod headers;
 mod kinds;
 pub mod laws;
+mod loading;
 
 pub use fault::{AddFault, EntryFault, FileFault};
 pub use files::Files;
 pub use headers::{FileImage, read_file};
 pub use kinds::TableKind;
+pub use loading::{Entry, load_entries};
 
 #[cfg(test)]
 mod tests;

@@ -1,5 +1,9 @@
 //! Worked examples of files, their faults, and the list that holds them.
-use crate::{AddFault, FileFault, FileImage, Files, TableKind, read_file};
+ghost use Rattle.std.specs.Prelude.{nat_lt, slice_index, if◌then◌else◌, Some, None};
+
+use crate::{
+    AddFault, Entry, EntryFault, FileFault, FileImage, Files, TableKind, load_entries, read_file,
+};
 use std::alloc::Global;
 use std::test::Fail;
 
@@ -85,6 +89,40 @@ const TABLES: [(&str, TableKind, u16); 6] = [
     ("CS.DefEepromTbl", TableKind::Eeprom, 192),
     ("CS.DefMemoryTbl", TableKind::Memory, 192),
 ];
+
+/// An entry of one byte, of a table of three; one over 9 is refused.
+#[derive(Clone, Copy, Debug, PartialEq, Eq)]
+struct Digit {
+    value: u8,
+}
+
+impl Entry for Digit {
+    ghost entry_at = { λ payload place. record { value = slice_index payload place } };
+
+    ghost reason_of = { λ digit. if nat_lt 9 digit.value then Some 1 else None };
+
+    ghost PAYLOAD = { 3 };
+
+    ghost ENTRIES = { 3 };
+
+    ghost REASONS = { 1 };
+
+    const PAYLOAD: usize = 3;
+
+    const ENTRIES: u32 = 3;
+
+    const REASONS: u8 = 1;
+
+    fn read(payload: &[u8], place: u32) -> Digit {
+        Digit {
+            value: payload[place as usize],
+        }
+    }
+
+    fn reason(&self) -> Option<u8> {
+        if self.value > 9 { Some(1) } else { None }
+    }
+}
 
 /// The file of a draft. Fields that aren't looked at are filled with 0xAA, the payload with 7.
 fn file_of(alloc: Global, draft: Draft) -> Result<Vec<u8>, Fail> {
@@ -186,4 +224,20 @@ fn shown(files: &Files, number: u32) -> Option<(TableKind, usize)> {
         FileImage::Table { kind, payload } => Some((kind, payload.len())),
         FileImage::Load { at: _, bytes: _ } => None,
     }
+}
+
+#[test]
+fn first_faulty_entry_is_told(rt: HostRuntime) -> Result<(), Fail> {
+    let mut digits = [Digit { value: 0 }; 3];
+    assert!(rt; load_entries(&[7, 8, 9], &mut digits).is_none());
+    assert_eq!(rt;
+        (digits[0].value, digits[1].value, digits[2].value),
+        (7, 8, 9)
+    );
+    let second = EntryFault {
+        entry: 2,
+        reason: 1,
+    };
+    assert_eq!(rt; load_entries(&[7, 10, 11], &mut digits), Some(second));
+    Ok(())
 }

@@ -1,0 +1,20 @@
+use Rattle.std.proofs.Common.{refl}
+use Rattle.packet_forms.specs.Numbers.{be32_at}
+use Rattle.table_files.specs.Kinds.{is_padded, named_kind}
+use Rattle.table_files.specs.Headers.{content_type, subtype, table_offset, table_size, table_name, file_fault_of, is_load, kind_of_file, payload_of_file, address_of_file}
+use Rattle.table_files.proofs.laws.header_rows.Goals as goal
+
+pub returns : goal.returns
+unfolding be32_at is_padded named_kind content_type subtype table_offset table_size table_name file_fault_of is_load kind_of_file payload_of_file address_of_file
+returns c = record {
+  content = refl;
+  sort = refl;
+  offset = refl;
+  size = refl;
+  name = refl;
+  kind = refl;
+  payload = refl;
+  load = refl;
+  address = refl;
+  bytes = refl;
+}
