@@ -38,7 +38,7 @@ bank_is r at n inside =
     omega (arith, low, high)
 
 -- a part of what is made of bytes, by itself
-part_alone : (f : ℕ → ℕ → ℕ) (at from count : ℕ) (xs : List ℕ) → take count (drop from (each_from f at xs)) ≡ each_from f (at + from) (take count (drop from xs))
+pub part_alone : (f : ℕ → ℕ → ℕ) (at from count : ℕ) (xs : List ℕ) → take count (drop from (each_from f at xs)) ≡ each_from f (at + from) (take count (drop from xs))
 part_alone f at from count xs =
     each_from-is f (at + from) (take count (drop from xs)) (take count (drop from (each_from f at xs)))
     (length-take count (drop from (each_from f at xs)) ∙ ap (min count) (length-drop from (each_from f at xs) ∙ ap (λ (n : ℕ). n - from) (length-each_from f at xs) ∙ sym (length-drop from xs)) ∙ sym (length-take count (drop from xs)))

@@ -41,7 +41,7 @@ bytes-fit at len (Some r) = by_case (nat_eq (at % unit_of r.region.kind) 0) (nat
     by_case true false bytes = refl
     by_case true true bytes = refl
 
-start-regions : (regions : List Region) → regions_of (start_memory regions).areas ≡ regions
+pub start-regions : (regions : List Region) → regions_of (start_memory regions).areas ≡ regions
 start-regions regions = regions-cut regions (zeros (total_of regions))
 
 -- a read is given by one memory where it is by another with the same regions

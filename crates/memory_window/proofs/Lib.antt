@@ -4,3 +4,5 @@ pub mod Areas
 pub mod Soundness
 pub mod BankLaws
 pub mod Given
+pub mod ReadLaws
+pub mod WholeLaws

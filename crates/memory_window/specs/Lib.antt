@@ -5,5 +5,7 @@ pub mod Landing
 pub mod Numbers
 pub mod Fitting
 pub mod Access
+pub mod Reading
 pub mod Window
 pub mod Banks
+pub mod Rows

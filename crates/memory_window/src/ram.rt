@@ -6,6 +6,7 @@ ghost use Rattle.memory_window.specs.Operations.{IsSound, IsBacked, protect, pro
 ghost use Rattle.memory_window.specs.Landing.{land, landed};
 ghost use Rattle.memory_window.specs.Memory.{cut, changed, regions_of, start_memory, upset_at};
 ghost use Rattle.memory_window.specs.Access.{Admitted};
+ghost use Rattle.memory_window.specs.Reading.{IsWhole};
 
 use crate::landing::bank_land;
 use crate::regions::{MOST_REGIONS, Region};
@@ -59,6 +60,7 @@ impl Ram {
     pub fn window(&self) -> Window<'_>
         ensures window { seen result ≡ self.now }
         ensures map { map_fault_of (regions_of self.now.areas) ≡ None }
+        ensures whole { IsWhole self.now }
     {
         let block = self.store.part(0, self.store.len());
         Window::over(self.map.regions(), &self.guarded, block)
