@@ -10,7 +10,6 @@ ghost use Rattle.memory_window.specs.Reading.{IsWhole};
 
 use crate::landing::bank_land;
 use crate::regions::{MOST_REGIONS, Region};
-use crate::window::Part;
 use crate::{Map, MemOp, Window};
 use fsw_outside::NoMemory;
 use memory_block::Store;

@@ -4,24 +4,25 @@ ghost use Rattle.memory_window.specs.Regions.{is_eeprom, total_of};
 ghost use Rattle.memory_window.specs.Operations.{is_size};
 ghost use Rattle.memory_window.specs.Numbers.{number_of};
 
-use crate::regions::{Kind, MOST_REGIONS, Region};
+use crate::regions::{Kind, Region};
 use crate::{AccessFault, MemOp};
 
 /// A region that a window shows, with its bytes and whether it is protected.
 #[derive(Clone, Copy)]
-pub struct Part<'a> {
-    pub(crate) region: Region,
-    pub(crate) bytes: &'a [u8],
-    pub(crate) guarded: bool,
-    ghost whole: { length bytes.now ≡ region.len },
+struct Part<'a> {
+    region: Region,
+    bytes: &'a [u8],
+    guarded: bool,
 }
 
-/// The regions of memory, their bytes, and which of them are protected.
+/// The regions of memory, their bytes side by side in one block, and which of them are protected.
 #[derive(Clone, Copy)]
 pub struct Window<'a> {
-    pub(crate) parts: [Part<'a>; MOST_REGIONS],
-    pub(crate) count: usize,
-    ghost bounded: { (count ≤ 8) × (length parts ≡ 8) },
+    regions: &'a [Region],
+    // One flag for each region; those behind the last one say nothing.
+    flags: &'a [bool],
+    block: &'a [u8],
+    ghost bounded: { (length regions.now ≤ 8) × (length flags.now ≡ 8) × (total_of regions.now ≡ length block.now) },
 }
 
 impl<'a> Part<'a> {
@@ -41,31 +42,16 @@ impl<'a> Window<'a> {
     ghost use Rattle.memory_window.specs.Window.{area_of, seen};
 
     // The window on a block in which the regions lie side by side.
-    pub(crate) fn over(regions: &[Region], guarded: &[bool], block: &'a [u8]) -> Window<'a>
+    pub(crate) fn over(regions: &'a [Region], flags: &'a [bool], block: &'a [u8]) -> Window<'a>
         requires few { length regions.now ≤ 8 }
-        requires flags { length guarded.now ≡ 8 }
+        requires flags { length flags.now ≡ 8 }
         requires whole { total_of regions.now ≡ length block.now }
-        ensures { seen result ≡ record { areas = cut regions.now block.entry.now; guarded = take (length regions.now) guarded.now } }
+        ensures { seen result ≡ record { areas = cut regions.entry.now block.entry.now; guarded = take (length regions.entry.now) flags.entry.now } }
     {
-        let blank = Part {
-            region: Region::BLANK,
-            bytes: &[],
-            guarded: false,
-        };
-        let mut parts = [blank; MOST_REGIONS];
-        let mut from = 0;
-        for (i, region) in regions.iter().enumerate() {
-            let to = from + region.len as usize;
-            parts[i] = Part {
-                region: *region,
-                bytes: &block[from..to],
-                guarded: guarded[i],
-            };
-            from = to;
-        }
         Window {
-            parts,
-            count: regions.len(),
+            regions,
+            flags,
+            block,
         }
     }
 
@@ -75,10 +61,17 @@ impl<'a> Window<'a> {
         ensures inside { IfSome result (λ p. (p.region.start ≤ at) × (at + len ≤ p.region.start + length p.bytes.now)) }
         ensures guard { IfSome result (λ p. is_guarded (seen self.entry).areas (seen self.entry).guarded at len ≡ (is_eeprom p.region.kind && p.guarded)) }
     {
-        for part in &self.parts[..self.count] {
-            if part.region.spans(at, len) {
-                return Some(*part);
+        let mut from = 0;
+        for (i, region) in self.regions.iter().enumerate() {
+            let to = from + region.len as usize;
+            if region.spans(at, len) {
+                return Some(Part {
+                    region: *region,
+                    bytes: &self.block[from..to],
+                    guarded: self.flags[i],
+                });
             }
+            from = to;
         }
         None
     }
@@ -189,13 +182,12 @@ impl<'a> Window<'a> {
     pub fn protected(self, region: u32) -> Option<bool>
         ensures { result ≡ is_protected (seen self.entry) region }
     {
-        if region == 0 || region as usize > self.count {
+        if region == 0 || region as usize > self.regions.len() {
             return None;
         }
-        let parts = &self.parts[..self.count];
-        let part = parts[region as usize - 1];
-        if part.region.kind.is_eeprom() {
-            Some(part.guarded)
+        let place = region as usize - 1;
+        if self.regions[place].kind.is_eeprom() {
+            Some(self.flags[place])
         } else {
             None
         }
