@@ -6,3 +6,4 @@ pub mod GrowthLemmas
 pub mod SaidLemmas
 pub mod GoodLemmas
 pub mod TextLaws
+pub mod FirstLemmas

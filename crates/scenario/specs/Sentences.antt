@@ -91,6 +91,16 @@ abbrev pub IsPlaced : Place → Option Sentence → Type 0
 IsPlaced place None = Unit {0}
 IsPlaced place (Some s) = stands_at place (verb_said s) ≡ true
 
+-- a sentence as what a line says
+abbrev pub as_said : Result Sentence Reason → Result (Option Sentence) Reason
+as_said (Ok s) = Ok (Some s)
+as_said (Err reason) = Err reason
+
+-- what a line says is of a kind of line
+abbrev pub IsOfVerb : Verb → Option Sentence → Type 0
+IsOfVerb verb None = ⊥
+IsOfVerb verb (Some s) = verb_said s ≡ verb
+
 -- the packet of these bytes, where they have no fault
 abbrev pub packet_of : List ℕ → Result (List ℕ) Reason
 packet_of bytes = elim (fault_of bytes) [ None ↦ Ok bytes | Some fault ↦ Err reasons.Packet ]

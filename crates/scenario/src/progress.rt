@@ -52,7 +52,7 @@ impl Progress {
     ghost use Rattle.scenario.specs.Frames.{refusal, room_for_item};
     ghost use Rattle.scenario.specs.FrameLists.{items_in};
     ghost use Rattle.memory_window.specs.Regions.{map_fault_of};
-    ghost use Rattle.scenario.specs.Sentences.{IsPlaced};
+    ghost use Rattle.scenario.specs.Sentences.{Gives, IsPlaced};
     ghost use Rattle.scenario.specs.Texts.{Before, nothing, reads, passed, is_too_long};
     ghost use Rattle.scenario.specs.Following.{Follows, HasRoom, HasRoomFor, KeepsFrame};
 
@@ -150,23 +150,29 @@ impl Progress {
 
     /// What a line says that takes so many bytes, or the first reason why it is bad.
     #[tactic(auto, unfolding(crate::specs::Texts::reads))]
-    pub(crate) fn reads(&self, line: &[u8], takes: u32) -> Result<Option<Sentence>, Reason>
+    pub(crate) fn reads(
+        &self,
+        line: &[u8],
+        takes: u32,
+        said: &mut Option<Sentence>,
+    ) -> Result<(), Reason>
         requires hidden { self.now.shown ≡ false }
         requires takes { takes ≤ 1000 }
-        ensures value { (old : Before) → Follows self.now old → result ≡ reads old (record { bytes = line.now; takes = takes }) }
-        ensures room { IfOk result (HasRoomFor self.now) }
-        ensures placed { IfOk result (IsPlaced self.now.place) }
+        ensures value { (old : Before) → Follows self.now old → Gives (λ _. said.new) result (reads old (record { bytes = line.now; takes = takes })) }
+        ensures room { IfOk result (λ _. HasRoomFor self.now said.new) }
+        ensures placed { IfOk result (λ _. IsPlaced self.now.place said.new) }
         ensures small { IfOk result (λ _. self.now.bytes + takes ≤ 16777216) }
     {
         if self.is_too_long(line, takes) {
             return Err(Reason::TooLong);
         }
-        match line_says(self.place, line)? {
-            Some(said) => match self.refusal(&said) {
+        line_says(self.place, line, said)?;
+        match said {
+            Some(sentence) => match self.refusal(sentence) {
                 Some(reason) => Err(reason),
-                None => Ok(Some(said)),
+                None => Ok(()),
             },
-            None => Ok(None),
+            None => Ok(()),
         }
     }
 

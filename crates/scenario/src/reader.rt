@@ -7,6 +7,7 @@ use crate::progress::{Header, Progress};
 use crate::sentence::{Place, Sentence};
 use arrayvec::ArrayVec;
 use fsw_outside::NoMemory;
+use memchr::memchr;
 use std::alloc::Global;
 
 /// One byte more than the longest line.
@@ -39,7 +40,7 @@ fn front(bytes: &[u8], most: usize) -> &[u8]
 fn find_lf(bytes: &[u8]) -> Option<usize>
     ensures { result ≡ position (λ b. b == 10) bytes.now }
 {
-    bytes.iter().position(|byte| *byte == b'\n')
+    memchr(b'\n', bytes)
 }
 
 /// What is answered at a line that gives an item.
@@ -148,8 +149,10 @@ impl Reader {
         if !self.has_line() {
             return self.at_end();
         }
-        match self.progress.reads(self.line.as_slice(), self.takes()) {
-            Ok(said) => self.pass(said),
+        let mut said = None;
+        let takes = self.takes();
+        match self.progress.reads(self.line.as_slice(), takes, &mut said) {
+            Ok(()) => self.pass(said),
             Err(reason) => Item::Bad {
                 line: self.progress.lines + 1,
                 reason: reason.number(),

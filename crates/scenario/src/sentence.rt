@@ -1,6 +1,6 @@
 ghost use Rattle.std.specs.Prelude.{◌≡◌, ◌≤◌, ◌∷◌, [], length, IfOk, Some, true};
 ghost use Rattle.scenario.specs.Words.{words};
-ghost use Rattle.scenario.specs.Sentences.{Gives, IsPlaced, verb_of, verb_said, stands_at, none, one, two, three, number_or_bad, epoch_line, region_line, send_line, app_line, upset_line, hold_line, bare_line, sentence_of, line_says, packet_of, verb_at};
+ghost use Rattle.scenario.specs.Sentences.{Gives, IsPlaced, IsOfVerb, as_said, verb_of, stands_at, none, one, two, three, number_or_bad, epoch_line, region_line, send_line, app_line, upset_line, hold_line, bare_line, sentence_of, line_says, packet_of, verb_at};
 
 use crate::frame::{App, Upset};
 use crate::reason::Reason;
@@ -55,26 +55,19 @@ pub(crate) enum Sentence {
 fn known_verb(word: &[u8]) -> Option<Verb>
     ensures { result ≡ verb_of word.now }
 {
-    if word == b"epoch".as_slice() {
-        Some(Verb::Epoch)
-    } else if word == b"region".as_slice() {
-        Some(Verb::Region)
-    } else if word == b"start".as_slice() {
-        Some(Verb::Start)
-    } else if word == b"send".as_slice() {
-        Some(Verb::Send)
-    } else if word == b"app".as_slice() {
-        Some(Verb::App)
-    } else if word == b"upset".as_slice() {
-        Some(Verb::Upset)
-    } else if word == b"hold".as_slice() {
-        Some(Verb::Hold)
-    } else if word == b"tick".as_slice() {
-        Some(Verb::Tick)
-    } else if word == b"end".as_slice() {
-        Some(Verb::End)
-    } else {
-        None
+    if word == b"region".as_slice() {
+        return Some(Verb::Region);
+    }
+    match word {
+        b"epoch" => Some(Verb::Epoch),
+        b"start" => Some(Verb::Start),
+        b"send" => Some(Verb::Send),
+        b"app" => Some(Verb::App),
+        b"upset" => Some(Verb::Upset),
+        b"hold" => Some(Verb::Hold),
+        b"tick" => Some(Verb::Tick),
+        b"end" => Some(Verb::End),
+        _ => None,
     }
 }
 
@@ -149,26 +142,28 @@ fn number_or_bad(most: u32, word: &[u8]) -> Result<u32, Reason>
 
 /// `epoch N`
 #[tactic(auto, unfolding(crate::specs::Sentences::epoch_line))]
-fn epoch_line(rest: &[u8]) -> Result<Sentence, Reason>
-    ensures value { result ≡ epoch_line (words rest.now) }
-    ensures verb { IfOk result (λ said. verb_said said ≡ Verb.Epoch) }
+fn epoch_line(rest: &[u8], said: &mut Option<Sentence>) -> Result<(), Reason>
+    ensures value { Gives (λ _. said.new) result (as_said (epoch_line (words rest.now))) }
+    ensures verb { IfOk result (λ _. IsOfVerb Verb.Epoch said.new) }
 {
     let word = one_word(rest)?;
     let time = number_or_bad(4_294_000_000, word)?;
-    Ok(Sentence::Epoch(time))
+    *said = Some(Sentence::Epoch(time));
+    Ok(())
 }
 
 /// `region KIND START LEN`
 #[tactic(auto, unfolding(crate::specs::Sentences::region_line))]
-fn region_line(rest: &[u8]) -> Result<Sentence, Reason>
-    ensures value { result ≡ region_line (words rest.now) }
-    ensures verb { IfOk result (λ said. verb_said said ≡ Verb.Region) }
+fn region_line(rest: &[u8], said: &mut Option<Sentence>) -> Result<(), Reason>
+    ensures value { Gives (λ _. said.new) result (as_said (region_line (words rest.now))) }
+    ensures verb { IfOk result (λ _. IsOfVerb Verb.Region said.new) }
 {
     let (kind_word, start_word, len_word) = three_words(rest)?;
     let kind = kind(kind_word).ok_or(Reason::Word)?;
     let start = number_or_bad(u32::MAX, start_word)?;
     let len = number_or_bad(u32::MAX, len_word)?;
-    Ok(Sentence::Region(Region { kind, start, len }))
+    *said = Some(Sentence::Region(Region { kind, start, len }));
+    Ok(())
 }
 
 fn packet(bytes: &[u8]) -> Result<Packet, Reason>
@@ -182,95 +177,103 @@ fn packet(bytes: &[u8]) -> Result<Packet, Reason>
 
 /// `send HEX`
 #[tactic(auto, unfolding(crate::specs::Sentences::send_line))]
-fn send_line(rest: &[u8]) -> Result<Sentence, Reason>
+fn send_line(rest: &[u8], said: &mut Option<Sentence>) -> Result<(), Reason>
     requires { length rest.now ≤ 640 }
-    ensures value { result ≡ send_line (words rest.now) }
-    ensures verb { IfOk result (λ said. verb_said said ≡ Verb.Send) }
+    ensures value { Gives (λ _. said.new) result (as_said (send_line (words rest.now))) }
+    ensures verb { IfOk result (λ _. IsOfVerb Verb.Send said.new) }
 {
     let word = one_word(rest)?;
-    let bytes = hex(word).ok_or(Reason::Packet)?;
-    let packet = packet(bytes.as_slice())?;
-    Ok(Sentence::Send(packet))
+    let mut places = [0; 320];
+    let len = hex(word, &mut places).ok_or(Reason::Packet)?;
+    let packet = packet(&places[..len])?;
+    *said = Some(Sentence::Send(packet));
+    Ok(())
 }
 
 /// `app NAME N`
 #[tactic(auto, unfolding(crate::specs::Sentences::app_line))]
-fn app_line(rest: &[u8]) -> Result<Sentence, Reason>
-    ensures value { result ≡ app_line (words rest.now) }
-    ensures verb { IfOk result (λ said. verb_said said ≡ Verb.App) }
+fn app_line(rest: &[u8], said: &mut Option<Sentence>) -> Result<(), Reason>
+    ensures value { Gives (λ _. said.new) result (as_said (app_line (words rest.now))) }
+    ensures verb { IfOk result (λ _. IsOfVerb Verb.App said.new) }
 {
     let (name_word, value_word) = two_words(rest)?;
     let name = name(name_word).ok_or(Reason::Word)?;
     let value = number_or_bad(u32::MAX, value_word)?;
-    Ok(Sentence::Count(Counter { name, value }))
+    *said = Some(Sentence::Count(Counter { name, value }));
+    Ok(())
 }
 
 /// `upset ADDR VALUE`
 #[tactic(auto, unfolding(crate::specs::Sentences::upset_line))]
-fn upset_line(rest: &[u8]) -> Result<Sentence, Reason>
-    ensures value { result ≡ upset_line (words rest.now) }
-    ensures verb { IfOk result (λ said. verb_said said ≡ Verb.Upset) }
+fn upset_line(rest: &[u8], said: &mut Option<Sentence>) -> Result<(), Reason>
+    ensures value { Gives (λ _. said.new) result (as_said (upset_line (words rest.now))) }
+    ensures verb { IfOk result (λ _. IsOfVerb Verb.Upset said.new) }
 {
     let (at_word, value_word) = two_words(rest)?;
     let at = number_or_bad(u32::MAX, at_word)?;
     let value = number_or_bad(255, value_word)?;
-    Ok(Sentence::Upset(Upset {
+    *said = Some(Sentence::Upset(Upset {
         at,
         value: value as u8,
-    }))
+    }));
+    Ok(())
 }
 
 /// `hold APP`
 #[tactic(auto, unfolding(crate::specs::Sentences::hold_line))]
-fn hold_line(rest: &[u8]) -> Result<Sentence, Reason>
-    ensures value { result ≡ hold_line (words rest.now) }
-    ensures verb { IfOk result (λ said. verb_said said ≡ Verb.Hold) }
+fn hold_line(rest: &[u8], said: &mut Option<Sentence>) -> Result<(), Reason>
+    ensures value { Gives (λ _. said.new) result (as_said (hold_line (words rest.now))) }
+    ensures verb { IfOk result (λ _. IsOfVerb Verb.Hold said.new) }
 {
     let word = one_word(rest)?;
     let app = app(word).ok_or(Reason::Word)?;
-    Ok(Sentence::Hold(app))
+    *said = Some(Sentence::Hold(app));
+    Ok(())
 }
 
-fn start_line(rest: &[u8]) -> Result<Sentence, Reason>
-    ensures value { result ≡ bare_line Sentence.Start (words rest.now) }
-    ensures verb { IfOk result (λ said. verb_said said ≡ Verb.Start) }
+fn start_line(rest: &[u8], said: &mut Option<Sentence>) -> Result<(), Reason>
+    ensures value { Gives (λ _. said.new) result (as_said (bare_line Sentence.Start (words rest.now))) }
+    ensures verb { IfOk result (λ _. IsOfVerb Verb.Start said.new) }
 {
     no_word(rest)?;
-    Ok(Sentence::Start)
+    *said = Some(Sentence::Start);
+    Ok(())
 }
 
-fn tick_line(rest: &[u8]) -> Result<Sentence, Reason>
-    ensures value { result ≡ bare_line Sentence.Tick (words rest.now) }
-    ensures verb { IfOk result (λ said. verb_said said ≡ Verb.Tick) }
+fn tick_line(rest: &[u8], said: &mut Option<Sentence>) -> Result<(), Reason>
+    ensures value { Gives (λ _. said.new) result (as_said (bare_line Sentence.Tick (words rest.now))) }
+    ensures verb { IfOk result (λ _. IsOfVerb Verb.Tick said.new) }
 {
     no_word(rest)?;
-    Ok(Sentence::Tick)
+    *said = Some(Sentence::Tick);
+    Ok(())
 }
 
-fn end_line(rest: &[u8]) -> Result<Sentence, Reason>
-    ensures value { result ≡ bare_line Sentence.End (words rest.now) }
-    ensures verb { IfOk result (λ said. verb_said said ≡ Verb.End) }
+fn end_line(rest: &[u8], said: &mut Option<Sentence>) -> Result<(), Reason>
+    ensures value { Gives (λ _. said.new) result (as_said (bare_line Sentence.End (words rest.now))) }
+    ensures verb { IfOk result (λ _. IsOfVerb Verb.End said.new) }
 {
     no_word(rest)?;
-    Ok(Sentence::End)
+    *said = Some(Sentence::End);
+    Ok(())
 }
 
 #[tactic(auto, unfolding(crate::specs::Sentences::sentence_of))]
-fn read_sentence(verb: Verb, rest: &[u8]) -> Result<Sentence, Reason>
+fn read_sentence(verb: Verb, rest: &[u8], said: &mut Option<Sentence>) -> Result<(), Reason>
     requires { length rest.now ≤ 640 }
-    ensures value { result ≡ sentence_of verb (words rest.now) }
-    ensures verb { IfOk result (λ said. verb_said said ≡ verb) }
+    ensures value { Gives (λ _. said.new) result (as_said (sentence_of verb (words rest.now))) }
+    ensures verb { IfOk result (λ _. IsOfVerb verb said.new) }
 {
     match verb {
-        Verb::Epoch => epoch_line(rest),
-        Verb::Region => region_line(rest),
-        Verb::Start => start_line(rest),
-        Verb::Send => send_line(rest),
-        Verb::App => app_line(rest),
-        Verb::Upset => upset_line(rest),
-        Verb::Hold => hold_line(rest),
-        Verb::Tick => tick_line(rest),
-        Verb::End => end_line(rest),
+        Verb::Epoch => epoch_line(rest, said),
+        Verb::Region => region_line(rest, said),
+        Verb::Start => start_line(rest, said),
+        Verb::Send => send_line(rest, said),
+        Verb::App => app_line(rest, said),
+        Verb::Upset => upset_line(rest, said),
+        Verb::Hold => hold_line(rest, said),
+        Verb::Tick => tick_line(rest, said),
+        Verb::End => end_line(rest, said),
     }
 }
 
@@ -293,20 +296,24 @@ fn verb_at(place: Place, word: &[u8]) -> Result<Verb, Reason>
 
 /// What a line says that stands at a place: nothing where it is skipped.
 #[tactic(auto, unfolding(crate::specs::Sentences::line_says, crate::specs::Sentences::said))]
-pub(crate) fn line_says(place: Place, line: &[u8]) -> Result<Option<Sentence>, Reason>
+pub(crate) fn line_says(
+    place: Place,
+    line: &[u8],
+    said: &mut Option<Sentence>,
+) -> Result<(), Reason>
     requires { length line.now ≤ 640 }
-    ensures value { result ≡ line_says place line.now }
-    ensures placed { IfOk result (λ said. IsPlaced place said) }
+    ensures value { Gives (λ _. said.new) result (line_says place line.now) }
+    ensures placed { IfOk result (λ _. IsPlaced place said.new) }
 {
+    *said = None;
     match split_word(line) {
         Some((first, rest)) => {
             if first[0] == b'#' {
-                return Ok(None);
+                return Ok(());
             }
             let verb = verb_at(place, first)?;
-            let sentence = read_sentence(verb, rest)?;
-            Ok(Some(sentence))
+            read_sentence(verb, rest, said)
         }
-        None => Ok(None),
+        None => Ok(()),
     }
 }

@@ -4,7 +4,6 @@ ghost use Rattle.std.specs.Char.{is_digit, digit_value};
 ghost use Rattle.scenario.specs.Words.{words, digits, any_number, number, hex, name_said, app_of, kind_of};
 
 use crate::frame::App;
-use arrayvec::ArrayVec;
 use memory_window::Kind;
 use packet_forms::Name;
 
@@ -48,26 +47,27 @@ pub(crate) fn split_word(line: &[u8]) -> Option<(&[u8], &[u8])>
     }
 }
 
+/// The value of each byte as a digit: from 0 for `0` to 35 for `Z` and `z`, and 36 where it is no digit and no letter.
+static DIGITS: [u8; 256] = [
+    36, 36, 36, 36, 36, 36, 36, 36, 36, 36, 36, 36, 36, 36, 36, 36, 36, 36, 36, 36, 36, 36, 36, 36,
+    36, 36, 36, 36, 36, 36, 36, 36, 36, 36, 36, 36, 36, 36, 36, 36, 36, 36, 36, 36, 36, 36, 36, 36,
+    0, 1, 2, 3, 4, 5, 6, 7, 8, 9, 36, 36, 36, 36, 36, 36, 36, 10, 11, 12, 13, 14, 15, 16, 17, 18,
+    19, 20, 21, 22, 23, 24, 25, 26, 27, 28, 29, 30, 31, 32, 33, 34, 35, 36, 36, 36, 36, 36, 36, 10,
+    11, 12, 13, 14, 15, 16, 17, 18, 19, 20, 21, 22, 23, 24, 25, 26, 27, 28, 29, 30, 31, 32, 33, 34,
+    35, 36, 36, 36, 36, 36, 36, 36, 36, 36, 36, 36, 36, 36, 36, 36, 36, 36, 36, 36, 36, 36, 36, 36,
+    36, 36, 36, 36, 36, 36, 36, 36, 36, 36, 36, 36, 36, 36, 36, 36, 36, 36, 36, 36, 36, 36, 36, 36,
+    36, 36, 36, 36, 36, 36, 36, 36, 36, 36, 36, 36, 36, 36, 36, 36, 36, 36, 36, 36, 36, 36, 36, 36,
+    36, 36, 36, 36, 36, 36, 36, 36, 36, 36, 36, 36, 36, 36, 36, 36, 36, 36, 36, 36, 36, 36, 36, 36,
+    36, 36, 36, 36, 36, 36, 36, 36, 36, 36, 36, 36, 36, 36, 36, 36, 36, 36, 36, 36, 36, 36, 36, 36,
+    36, 36, 36, 36, 36, 36, 36, 36, 36, 36, 36, 36, 36, 36,
+];
+
 /// The value of a digit or a letter, from 0 for `0` to 35 for `Z` and `z`, and 36 for any other byte.
 fn digit(byte: u8) -> u8
     ensures value { result ≡ digit_value byte }
     ensures bound { result ≤ 36 }
 {
-    if byte < b'0' {
-        36
-    } else if byte <= b'9' {
-        byte - b'0'
-    } else if byte < b'A' {
-        36
-    } else if byte <= b'Z' {
-        byte - b'A' + 10
-    } else if byte < b'a' {
-        36
-    } else if byte <= b'z' {
-        byte - b'a' + 10
-    } else {
-        36
-    }
+    DIGITS[byte as usize]
 }
 
 /// The number that 1 to `room` digits write in a base of at most 16; none where a byte is no digit, or
@@ -121,36 +121,22 @@ pub(crate) fn number(most: u32, word: &[u8]) -> Option<u32>
     None
 }
 
-fn is_hex_pair(high: u8, low: u8) -> bool
-    ensures { result ≡ (is_digit high 16 && is_digit low 16) }
-{
-    digit(high) < 16 && digit(low) < 16
-}
-
-fn hex_pair(high: u8, low: u8) -> u8
-    requires high { digit_value high < 16 }
-    requires low { digit_value low < 16 }
-    ensures { result ≡ 16 * digit_value high + digit_value low }
-{
-    16 * digit(high) + digit(low)
-}
-
-/// The bytes that pairs of hexadecimal digits write.
-pub(crate) fn hex(word: &[u8]) -> Option<ArrayVec<u8, 320>>
+/// Writes the bytes that pairs of hexadecimal digits write into the first places, and answers how many they are.
+pub(crate) fn hex(word: &[u8], places: &mut [u8; 320]) -> Option<usize>
     requires { length word.now ≤ 640 }
-    ensures { option_map (λ bytes. bytes.items) result ≡ hex word.now }
+    ensures bytes { option_map (λ count. take count places.new) result ≡ hex word.now }
+    ensures few { IfSome result (λ count. count ≤ 320) }
 {
-    let mut bytes = ArrayVec::new();
     'pairs: for i in 0..word.len() / 2 {
-        let high = word[2 * i];
-        let low = word[2 * i + 1];
-        if !is_hex_pair(high, low) {
+        let high = digit(word[2 * i]);
+        let low = digit(word[2 * i + 1]);
+        if high >= 16 || low >= 16 {
             return None;
         }
-        bytes.push(hex_pair(high, low));
+        places[i] = 16 * high + low;
     }
     if word.len() % 2 == 0 {
-        Some(bytes)
+        Some(word.len() / 2)
     } else {
         None
     }
