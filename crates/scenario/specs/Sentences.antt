@@ -46,23 +46,49 @@ verb_of word =
     else if bytes_eq word (codes "end") then Some verbs.End
     else None
 
--- the lines that may stand at a place
+-- nothing but skipped lines came before
+abbrev pub is_opening : Place → Bool
+is_opening places.Opening = true
+is_opening places.Header = false
+is_opening places.Between = false
+is_opening places.Inside = false
+is_opening places.Ended = false
+
+-- behind `epoch` and before `start`
+abbrev pub is_in_header : Place → Bool
+is_in_header places.Opening = false
+is_in_header places.Header = true
+is_in_header places.Between = false
+is_in_header places.Inside = false
+is_in_header places.Ended = false
+
+-- directly behind `start` or a `tick`
+abbrev pub is_between : Place → Bool
+is_between places.Opening = false
+is_between places.Header = false
+is_between places.Between = true
+is_between places.Inside = false
+is_between places.Ended = false
+
+-- behind `start` and before `end`
+abbrev pub is_in_frames : Place → Bool
+is_in_frames places.Opening = false
+is_in_frames places.Header = false
+is_in_frames places.Between = true
+is_in_frames places.Inside = true
+is_in_frames places.Ended = false
+
+-- the places at which a kind of line may stand
 abbrev pub stands_at : Place → Verb → Bool
-stands_at places.Opening verbs.Epoch = true
-stands_at places.Header verbs.Region = true
-stands_at places.Header verbs.Start = true
-stands_at places.Between verbs.Send = true
-stands_at places.Between verbs.App = true
-stands_at places.Between verbs.Upset = true
-stands_at places.Between verbs.Hold = true
-stands_at places.Between verbs.Tick = true
-stands_at places.Between verbs.End = true
-stands_at places.Inside verbs.Send = true
-stands_at places.Inside verbs.App = true
-stands_at places.Inside verbs.Upset = true
-stands_at places.Inside verbs.Hold = true
-stands_at places.Inside verbs.Tick = true
-stands_at _ _ = false
+stands_at place verbs.Epoch = is_opening place
+stands_at place verbs.Region = is_in_header place
+stands_at place verbs.Start = is_in_header place
+stands_at place verbs.Send = is_in_frames place
+stands_at place verbs.App = is_in_frames place
+stands_at place verbs.Upset = is_in_frames place
+stands_at place verbs.Hold = is_in_frames place
+stands_at place verbs.Tick = is_in_frames place
+stands_at place verbs.End = is_between place
 
 -- a kind of line, where it may stand at the place
 abbrev pub placed : Place → Verb → Result Verb Reason

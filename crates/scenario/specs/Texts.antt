@@ -73,9 +73,15 @@ pub data Given : Type 0 where
 -- the `start` line gives the header, each `tick` line a frame
 abbrev pub given : List Sentence → Option Sentence → List Given
 given old None = []
+given old (Some (says.Epoch n)) = []
+given old (Some (says.Region r)) = []
 given old (Some says.Start) = Head (epoch_of old) (regions_of old) ∷ []
+given old (Some (says.Send p)) = []
+given old (Some (says.Count c)) = []
+given old (Some (says.Upset u)) = []
+given old (Some (says.Hold a)) = []
 given old (Some says.Tick) = Whole (frame_of old) ∷ []
-given old (Some _) = []
+given old (Some says.End) = []
 
 -- how a text ends: at a bad line, with its number and its first reason; well; without `end`, after so many lines; or it is open
 pub data Ending : Type 0 where
@@ -87,7 +93,13 @@ pub data Ending : Type 0 where
 -- how a text ends that has no bad line
 abbrev pub ending_at : Bool → Before → Ending
 ending_at false old = Open
-ending_at true old = elim (place_after old.sentences) [ places.Ended ↦ Ended | _ ↦ Unended old.lines ]
+ending_at true old = elim (place_after old.sentences) [
+  | places.Opening ↦ Unended old.lines
+  | places.Header ↦ Unended old.lines
+  | places.Between ↦ Unended old.lines
+  | places.Inside ↦ Unended old.lines
+  | places.Ended ↦ Ended
+]
 
 -- the items of a text, its ending, and its stops: how many bytes lie before the end of each line that gives an item, and then of the bad line
 pub record Reading : Type 0 where

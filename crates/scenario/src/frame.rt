@@ -1,3 +1,4 @@
+//! What one frame is given.
 ghost use Rattle.std.specs.Prelude.{◌≡◌, ◌≤◌, ◌<◌, ◌++◌, ◌∷◌, []};
 ghost use Rattle.scenario.specs.FrameLists.{no_items, items_in};
 

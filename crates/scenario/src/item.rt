@@ -1,3 +1,5 @@
+//! What a reader answers.
+
 /// What a reader answers.
 #[derive(Clone, Copy, Debug, PartialEq, Eq)]
 pub enum Item {

@@ -1,3 +1,4 @@
+//! What the good lines so far come to, and what one more line is behind them.
 ghost use Rattle.std.specs.Prelude.{◌≡◌, ◌≤◌, ◌<◌, ◌+◌, ◌∷◌, false, if◌then◌else◌, is_none, ℕ, List, length, min, nat_lt, nat_le, ◌||◌, IfOk, Some, None};
 
 use crate::frame::FrameInput;

@@ -1,9 +1,11 @@
+//! The reader of a text that comes in pieces.
 ghost use Rattle.scenario.specs.Answers.{item_said};
 ghost use Rattle.std.specs.Prelude.{◌≡◌, ◌≤◌, ◌<◌, ◌+◌, ◌==◌, ◌++◌, ◌∷◌, [], ℕ, Bool, List, true, false, length, take, min, position, slice_index, IfOk, Some};
 
 use crate::frame::FrameInput;
 use crate::item::Item;
 use crate::progress::{Header, Progress};
+use crate::reason::Reason;
 use crate::sentence::{Place, Sentence};
 use arrayvec::ArrayVec;
 use fsw_outside::NoMemory;
@@ -48,9 +50,18 @@ fn item_of(said: &Option<Sentence>) -> Option<Item>
     ensures { result ≡ item_said said.now }
 {
     match said {
+        None => None,
         Some(Sentence::Start) => Some(Item::Header),
         Some(Sentence::Tick) => Some(Item::Frame),
-        _ => None,
+        Some(
+            Sentence::Epoch(_)
+            | Sentence::Region(_)
+            | Sentence::Send(_)
+            | Sentence::Count(_)
+            | Sentence::Upset(_)
+            | Sentence::Hold(_)
+            | Sentence::End,
+        ) => None,
     }
 }
 
@@ -215,9 +226,9 @@ impl Reader {
         }
         match self.progress.place {
             Place::Ended => Item::End,
-            _ => Item::Bad {
+            Place::Opening | Place::Header | Place::Between | Place::Inside => Item::Bad {
                 line: self.progress.lines,
-                reason: 7,
+                reason: Reason::Unended.number(),
             },
         }
     }

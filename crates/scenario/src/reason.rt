@@ -1,3 +1,4 @@
+//! Why a line is bad.
 ghost use Rattle.std.specs.Prelude.{◌≡◌};
 ghost use Rattle.scenario.specs.Reasons.{number_of};
 

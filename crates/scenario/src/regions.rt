@@ -1,3 +1,4 @@
+//! The regions of a header, one after another.
 ghost use Rattle.std.specs.Prelude.{◌≡◌, ◌≤◌, ◌<◌, ◌++◌, ◌∷◌, [], length};
 
 use memory_window::{Kind, Region};

@@ -1,3 +1,4 @@
+//! What a line says by itself, where it stands.
 ghost use Rattle.std.specs.Prelude.{◌≡◌, ◌≤◌, ◌∷◌, [], length, IfOk, Some, true};
 ghost use Rattle.scenario.specs.Words.{words};
 ghost use Rattle.scenario.specs.Sentences.{Gives, IsPlaced, IsOfVerb, as_said, verb_of, stands_at, none, one, two, three, number_or_bad, epoch_line, region_line, send_line, app_line, upset_line, hold_line, bare_line, sentence_of, line_says, packet_of, verb_at};
@@ -74,12 +75,13 @@ fn known_verb(word: &[u8]) -> Option<Verb>
 fn may_stand(place: Place, verb: Verb) -> bool
     ensures { result ≡ stands_at place verb }
 {
-    match place {
-        Place::Opening => matches!(verb, Verb::Epoch),
-        Place::Header => matches!(verb, Verb::Region | Verb::Start),
-        Place::Between => !matches!(verb, Verb::Epoch | Verb::Region | Verb::Start),
-        Place::Inside => !matches!(verb, Verb::Epoch | Verb::Region | Verb::Start | Verb::End),
-        Place::Ended => false,
+    match verb {
+        Verb::Epoch => matches!(place, Place::Opening),
+        Verb::Region | Verb::Start => matches!(place, Place::Header),
+        Verb::Send | Verb::App | Verb::Upset | Verb::Hold | Verb::Tick => {
+            matches!(place, Place::Between | Place::Inside)
+        }
+        Verb::End => matches!(place, Place::Between),
     }
 }
 

@@ -1,3 +1,4 @@
+//! The words of a line, and what a word says.
 ghost use Rattle.std.specs.Prelude.{◌≡◌, ◌≤◌, ◌<◌, ◌+◌, ◌*◌, ◌==◌, ◌∷◌, [], ℕ, Some, None, take, drop, length, not, option_map, MatchOption, IfSome, IsTrue, codes, nat_eq, ◌&&◌};
 ghost use Rattle.std.specs.List.{position, position_or_len, list_all, starts_with};
 ghost use Rattle.std.specs.Char.{is_digit, digit_value};
