@@ -8,6 +8,7 @@ pub mod laws;
 mod names;
 mod outbox;
 mod pipe;
+mod reserved;
 
 pub use batch::Batch;
 pub use bus::Bus;

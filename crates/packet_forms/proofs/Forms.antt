@@ -7,7 +7,7 @@ use Rattle.std.specs.Int.Bits.{xor_assoc, xor_self, xor_zero_r, xor_zero_l}
 use Rattle.std.proofs.lemmas.Nat.{xor_comm}
 use Rattle.std.proofs.lemmas.List.Sums.{fold-append}
 use Rattle.packet_forms.specs.Numbers.{be16_at, be16_bytes, be32_bytes}
-use Rattle.packet_forms.specs.Packets.{IsPacket, message_id, version_of, sequence_flags, sequence_count, length_field, is_command, is_command_id, function_code, checksum_of, is_checksum_right, payload_of}
+use Rattle.packet_forms.specs.Packets.{IsPacket, shortest_packet, message_id, version_of, sequence_flags, sequence_count, length_field, is_command, is_command_id, function_code, checksum_of, is_checksum_right, payload_of}
 use Rattle.packet_forms.specs.Faults.{fault_of}
 use Rattle.packet_forms.specs.Built.{primary_header, with_checksum, command_of, telemetry_of, event_payload, event_of, with_sequence, IsCommandOf, IsTelemetryOf, IsRecounted}
 
@@ -211,3 +211,8 @@ recounted n (a ∷ b ∷ c ∷ d ∷ rest) small w = record {
   behind = refl;
 }
 recounted n _ small w = absurd (omega arith)
+
+-- the shortest packet is one
+pub shortest : IsPacket shortest_packet
+unfolding version_of sequence_flags length_field be16_at
+shortest = record { long = lit≤ tt; short = lit≤ tt; version = refl; whole = refl; field = refl }

@@ -1,6 +1,7 @@
 -- The packets that are built here, byte by byte, and how they read back.
 use Rattle.std.specs.Prelude.{◌≡◌, ℕ, ◌+◌, ◌-◌, true, false, List, [], ◌∷◌, ◌++◌, length, take, drop, bit_xor}
 use Rattle.packet_forms.specs.Numbers.{be16_bytes, be32_bytes}
+use Rattle.packet_forms.specs.MessageIds.{event_id}
 use Rattle.packet_forms.specs.Packets.{IsPacket, message_id, is_command, is_command_id, function_code, is_checksum_right, payload_of, sequence_count, checksum_of}
 
 -- the six bytes that begin a packet of `size` bytes: its id, the sequence flags 3 with the count 0, and its length field
@@ -25,7 +26,7 @@ event_payload name id kind = name ++ be16_bytes id ++ be16_bytes kind ++ be32_by
 
 -- an event message
 unfoldable pub event_of : List ℕ → ℕ → ℕ → ℕ → List ℕ
-event_of name id kind secs = telemetry_of 0x0808 secs (event_payload name id kind)
+event_of name id kind secs = telemetry_of event_id secs (event_payload name id kind)
 
 -- a packet with another sequence count
 unfoldable pub with_sequence : ℕ → List ℕ → List ℕ

@@ -1,5 +1,5 @@
 -- What the bytes of a space packet say (CCSDS 133.0-B, with a command header made after the cFE's).
-use Rattle.std.specs.Prelude.{◌≡◌, ◌≤◌, ℕ, ◌+◌, ◌-◌, ◌/◌, ◌%◌, ◌==◌, Bool, if◌then◌else◌, List, ◌++◌, length, take, drop, replicate, slice_index, bit_xor}
+use Rattle.std.specs.Prelude.{◌≡◌, ◌≤◌, ℕ, ◌+◌, ◌-◌, ◌/◌, ◌%◌, ◌==◌, Bool, if◌then◌else◌, List, [], ◌∷◌, length, drop, slice_index, bit_xor}
 use Rattle.std.specs.List.{fold}
 use Rattle.packet_forms.specs.Numbers.{be16_at}
 
@@ -55,9 +55,6 @@ pub record IsPacket (p : List ℕ) : Type 0 where
   pub whole : sequence_flags p ≡ 3
   pub field : length_field p + 7 ≡ length p
 
--- of 256 places the first `count` hold a packet, and those behind it zeros
-pub record HoldsPacket (count : ℕ) (places : List ℕ) : Type 0 where
-  pub packet : IsPacket (take count places)
-  pub within : count ≤ 256
-  pub whole : length places ≡ 256
-  pub zeros : places ≡ take count places ++ replicate (256 - count) 0
+-- the shortest packet: id 0, the count 0, and two zero bytes behind the header
+abbrev pub shortest_packet : List ℕ
+shortest_packet = 0x00 ∷ 0x00 ∷ 0xC0 ∷ 0x00 ∷ 0x00 ∷ 0x01 ∷ 0x00 ∷ 0x00 ∷ []

@@ -4,7 +4,8 @@ ghost use Rattle.std.specs.Prelude.{◌≡◌, ◌≤◌, ◌<◌, true, length}
 ghost use Rattle.packet_forms.specs.Packets.{is_command_id};
 ghost use Rattle.packet_forms.specs.Built.{command_of, telemetry_of, event_of, event_payload, primary_header, IsCommandOf, IsTelemetryOf};
 
-use crate::draft::Draft;
+use crate::byte_list::ByteList;
+use crate::message_ids::EVENT;
 use crate::name::Name;
 use crate::packet::{Packet, exclusive_or};
 
@@ -17,13 +18,13 @@ pub fn command(mid: u16, code: u8, payload: &[u8]) -> Packet
     ensures bytes { result ≡ command_of mid code payload.now }
     ensures reads_back { IsCommandOf mid code payload.now result }
 {
-    let mut draft = Draft::new();
+    let mut draft = ByteList::new();
     begin(&mut draft, mid, payload.len() + 8);
     draft.append(&[code]);
     let sum = exclusive_or(draft.bytes());
     draft.append(&[0xFF ^ (sum ^ exclusive_or(payload))]);
     draft.append(payload);
-    draft.finish()
+    Packet::of_list(&draft)
 }
 
 /// Telemetry of at most 244 payload bytes: subseconds 0, sequence count 0.
@@ -33,33 +34,33 @@ pub fn telemetry(mid: u16, secs: u32, payload: &[u8]) -> Packet
     ensures bytes { result ≡ telemetry_of mid secs payload.now }
     ensures reads_back { IsTelemetryOf mid payload.now result }
 {
-    let mut draft = Draft::new();
+    let mut draft = ByteList::new();
     begin(&mut draft, mid, payload.len() + 12);
     draft.append(&secs.to_be_bytes());
     draft.append(&[0, 0]);
     draft.append(payload);
-    draft.finish()
+    Packet::of_list(&draft)
 }
 
 /// An event message of an application: `kind` is 2 for information and 3 for an error.
 pub fn event(name: Name, id: u16, kind: u16, secs: u32) -> Packet
     ensures bytes { result ≡ event_of name id kind secs }
-    ensures reads_back { IsTelemetryOf 0x0808 (event_payload name id kind) result }
+    ensures reads_back { IsTelemetryOf EVENT (event_payload name id kind) result }
 {
-    let mut draft = Draft::new();
-    begin(&mut draft, 0x0808, 44);
+    let mut draft = ByteList::new();
+    begin(&mut draft, EVENT, 44);
     draft.append(&secs.to_be_bytes());
     draft.append(&[0, 0]);
     draft.append(name.bytes());
     draft.append(&id.to_be_bytes());
     draft.append(&kind.to_be_bytes());
     draft.append(&[0, 0, 0, 66, 0, 0, 0, 1]);
-    draft.finish()
+    Packet::of_list(&draft)
 }
 
 #[tactic(auto, unfolding(crate::specs::Built::primary_header, crate::specs::Numbers::be16_bytes))]
 /// Begins a packet of `size` bytes with its header of six bytes.
-fn begin(draft: &mut Draft, mid: u16, size: usize)
+fn begin(draft: &mut ByteList<256>, mid: u16, size: usize)
     requires fresh { length draft.old ≡ 0 }
     requires long { 7 < size }
     requires short { size ≤ 256 }

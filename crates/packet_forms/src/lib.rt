@@ -2,20 +2,23 @@
 #![tactic(auto)]
 
 mod build;
+mod byte_list;
 mod crc;
 mod crc_rows;
-mod draft;
 pub mod laws;
+pub mod message_ids;
 mod name;
 mod numbers;
 mod packet;
 mod pieces;
 
+pub use byte_list::ByteList;
 pub use build::{command, event, telemetry};
 pub use crc::crc16;
 pub use name::{Counter, Name};
 pub use numbers::{be16, be32};
 pub use packet::{Packet, PacketFault};
+pub use pieces::{are_zeros, behind, front, place};
 
 #[cfg(test)]
 mod tests;

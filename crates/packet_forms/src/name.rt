@@ -1,10 +1,10 @@
 //! Names of applications, and their execution counters.
 
-ghost use Rattle.std.specs.Prelude.{◌≡◌, ◌==◌, if◌then◌else◌, Some, None, true, length, position};
+ghost use Rattle.std.specs.Prelude.{◌≡◌, ◌==◌, if◌then◌else◌, Some, None, true, codes, length, position};
 ghost use Rattle.std.specs.List.{list_all};
 ghost use Rattle.packet_forms.specs.Names.{is_name_byte, is_name_text, is_name, name_text, name_of};
 
-use crate::pieces::{behind, front, place};
+use crate::pieces::{are_zeros, behind, front, place};
 use std::marker::Model;
 
 /// A name of 1 to 19 letters, digits and underscores, seen as 20 bytes with zero bytes behind it.
@@ -107,12 +107,6 @@ fn is_name(bytes: &[u8]) -> bool
     bytes.len() == 20 && is_text && is_padded
 }
 
-fn are_zeros(bytes: &[u8]) -> bool
-    ensures { result ≡ list_all (λ b. b == 0) bytes.now }
-{
-    bytes.iter().all(|byte| *byte == 0)
-}
-
 /// Whether these are 1 to 19 letters, digits and underscores.
 #[tactic(auto, unfolding(crate::specs::Names::is_name_text))]
 fn is_name_text(text: &[u8]) -> bool
@@ -140,7 +134,9 @@ fn is_name_byte(byte: u8) -> bool
 impl Default for Name {
     /// The name `A`.
     #[tactic(auto, unfolding(crate::specs::Names::is_name, crate::specs::Names::is_name_text, crate::specs::Names::name_text))]
-    fn default() -> Name {
+    fn default() -> Name
+        ensures { result ≡ name_of (codes "A") }
+    {
         let mut bytes = [0; 20];
         bytes[0] = b'A';
         Name { bytes }

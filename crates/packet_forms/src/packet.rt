@@ -1,11 +1,11 @@
 //! A space packet of 8 to 256 bytes.
 
-ghost use Rattle.std.specs.Prelude.{◌≡◌, ◌≤◌, ◌<◌, ◌==◌, length, take, IfOk, MatchResult, Some, None};
-ghost use Rattle.packet_forms.specs.Packets.{IsPacket, HoldsPacket, message_id, is_command, function_code, is_checksum_right, payload_of, checksum_of};
+ghost use Rattle.std.specs.Prelude.{◌≡◌, ◌≤◌, ◌<◌, ◌==◌, length, IfOk, MatchResult, Some, None};
+ghost use Rattle.packet_forms.specs.Packets.{IsPacket, shortest_packet, message_id, is_command, function_code, is_checksum_right, payload_of, checksum_of};
 ghost use Rattle.packet_forms.specs.Faults.{fault_of, fault_number};
 ghost use Rattle.packet_forms.specs.Built.{with_sequence, IsRecounted};
 
-use crate::draft::Draft;
+use crate::byte_list::ByteList;
 use crate::numbers::be16;
 use crate::pieces::behind;
 use std::marker::Model;
@@ -43,21 +43,20 @@ impl PacketFault {
 /// A space packet, seen as the list of its 8 to 256 bytes.
 #[derive(Clone, Copy, Debug, PartialEq, Eq)]
 pub struct Packet {
-    len: u16,
-    bytes: [u8; 256],
+    list: ByteList<256>,
 }
 
 impl Model for Packet {
-    ghost use Rattle.std.specs.Prelude.{List, ℕ, ◌-◌, ◌++◌, length, take, replicate};
-    ghost use Rattle.packet_forms.specs.Packets.{HoldsPacket};
+    ghost use Rattle.std.specs.Prelude.{List, ℕ};
+    ghost use Rattle.packet_forms.specs.Packets.{IsPacket};
 
     ghost Value = { List ℕ };
 
-    ghost view = { λ a. take a.len a.bytes };
+    ghost view = { λ a. a.list };
 
-    ghost invariant = { λ a. HoldsPacket a.len a.bytes };
+    ghost invariant = { λ a. IsPacket a.list };
 
-    ghost inverse = { λ p. record { len = length p; bytes = p ++ replicate (256 - length p) 0 } };
+    ghost inverse = { λ p. record { list = p } };
 }
 
 impl Packet {
@@ -69,17 +68,15 @@ impl Packet {
         if let Some(fault) = find_fault(bytes) {
             return Err(fault);
         }
-        let mut draft = Draft::new();
-        draft.append(bytes);
-        Ok(draft.finish())
+        Ok(Packet::of_list(&ByteList::copy_of(bytes)))
     }
 
-    /// The packet in the first `len` places, which have zeros behind it.
-    pub(crate) fn of_places(len: u16, bytes: [u8; 256]) -> Packet
-        requires { HoldsPacket len bytes }
-        ensures { result ≡ take len bytes }
+    /// The packet of these bytes.
+    pub(crate) fn of_list(list: &ByteList<256>) -> Packet
+        requires { IsPacket list.now }
+        ensures { result ≡ list.now }
     {
-        Packet { len, bytes }
+        Packet { list: *list }
     }
 
     /// The bytes of the packet.
@@ -89,7 +86,7 @@ impl Packet {
         ensures long { 8 ≤ length result.now }
         ensures short { length result.now ≤ 256 }
     {
-        &self.bytes[..self.len as usize]
+        self.list.bytes()
     }
 
     /// The message id.
@@ -137,17 +134,23 @@ impl Packet {
     }
 
     /// The packet with the sequence count `n`, which is under 16,384.
-    pub fn with_sequence(self, n: u16) -> Packet
+    pub fn with_sequence(&self, n: u16) -> Packet
         requires { n < 16384 }
-        ensures bytes { result ≡ with_sequence n self }
-        ensures recounted { IsRecounted n self result }
+        ensures bytes { result ≡ with_sequence n self.now }
+        ensures recounted { IsRecounted n self.now result }
     {
-        let bytes = self.bytes();
-        let mut draft = Draft::new();
-        draft.append(&bytes[..2]);
-        draft.append(&(0xC000 + n).to_be_bytes());
-        draft.append(behind(bytes, 4));
-        draft.finish()
+        let mut counted = *self;
+        counted.set_sequence(n);
+        counted
+    }
+
+    /// Writes the sequence count `n`, which is under 16,384, into the packet.
+    pub fn set_sequence(&mut self, n: u16)
+        requires { n < 16384 }
+        ensures bytes { self.new ≡ with_sequence n self.old }
+        ensures recounted { IsRecounted n self.old self.new }
+    {
+        self.list.overwrite(2, &(0xC000 + n).to_be_bytes());
     }
 }
 
@@ -184,9 +187,9 @@ pub fn exclusive_or(bytes: &[u8]) -> u8
 
 impl Default for Packet {
     /// The shortest packet: id 0 and two zero bytes behind the header.
-    fn default() -> Packet {
-        let mut draft = Draft::new();
-        draft.append(&[0, 0, 0xC0, 0, 0, 1, 0, 0]);
-        draft.finish()
+    fn default() -> Packet
+        ensures { result ≡ shortest_packet }
+    {
+        Packet::of_list(&ByteList::copy_of(&[0, 0, 0xC0, 0, 0, 1, 0, 0]))
     }
 }

@@ -1,6 +1,7 @@
 //! Parts of slices.
 
-ghost use Rattle.std.specs.Prelude.{◌≡◌, ◌≤◌, ◌+◌, ◌++◌, length, take, drop};
+ghost use Rattle.std.specs.Prelude.{◌≡◌, ◌≤◌, ◌+◌, ◌++◌, ◌==◌, length, take, drop};
+ghost use Rattle.std.specs.List.{list_all};
 
 /// Writes the piece from place `at` on.
 pub fn place(bytes: &mut [u8], at: usize, piece: &[u8])
@@ -26,4 +27,11 @@ pub fn behind(bytes: &[u8], at: usize) -> &[u8]
     ensures { result.now ≡ drop at bytes.now }
 {
     if at <= bytes.len() { &bytes[at..] } else { &[] }
+}
+
+/// Whether all bytes are zero.
+pub fn are_zeros(bytes: &[u8]) -> bool
+    ensures { result ≡ list_all (λ b. b == 0) bytes.now }
+{
+    bytes.iter().all(|byte| *byte == 0)
 }

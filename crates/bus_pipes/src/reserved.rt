@@ -1,0 +1,88 @@
+//! Lists whose room was reserved.
+
+ghost use Rattle.std.specs.Prelude.{◌≡◌, ◌<◌, ◌+◌, ◌==◌, [], ◌∷◌, length, IfOk};
+ghost use Rattle.bus_pipes.specs.Held.{adding, emptied};
+
+use fsw_outside::NoMemory;
+use std::alloc::Global;
+use std::marker::Model;
+
+/// A list whose room was reserved, so that no push asks for memory.
+#[derive(Drop)]
+pub struct ReservedList<T> {
+    items: Vec<T>,
+    room: u32,
+}
+
+impl<T> Model for ReservedList<T> {
+    ghost use Rattle.std.specs.Prelude.{◌≤◌, vec_capacity};
+    ghost use Rattle.bus_pipes.specs.Held.{Held};
+
+    ghost Value = { Held T };
+
+    ghost view = { λ a. record { items = a.items.items; room = a.room } };
+
+    ghost invariant = { λ a. a.room ≤ vec_capacity a.items };
+}
+
+impl<T> ReservedList<T> {
+    /// An empty list with room for so many items.
+    pub fn open(alloc: Global, room: u32) -> Result<ReservedList<T>, NoMemory>
+        ensures { IfOk result (λ list. list ≡ record { items = []; room = room }) }
+    {
+        match Vec::with_capacity(alloc, room as usize) {
+            Ok(items) => Ok(ReservedList { items, room }),
+            Err(_) => Err(NoMemory),
+        }
+    }
+
+    /// Puts an item behind the others.
+    #[tactic(auto, unfolding(crate::specs::Held::adding))]
+    pub fn push(&mut self, item: T)
+        requires { length self.old.items < self.old.room }
+        ensures after { self.new ≡ adding self.old (item ∷ []) }
+        ensures size { length self.new.items ≡ length self.old.items + 1 }
+        ensures room { self.new.room ≡ self.old.room }
+    {
+        self.items.push_reserved(item);
+    }
+
+    /// The items in order.
+    pub fn items(&self) -> &[T]
+        ensures { result.now ≡ self.now.items }
+    {
+        self.items.as_slice()
+    }
+
+    /// The number of items.
+    pub fn len(&self) -> usize
+        ensures { result ≡ length self.now.items }
+    {
+        self.items.len()
+    }
+
+    /// Whether there is no item.
+    pub fn is_empty(&self) -> bool
+        ensures { result ≡ (length self.now.items == 0) }
+    {
+        self.items.len() == 0
+    }
+
+    /// How many items there is room for.
+    pub fn room(&self) -> u32
+        ensures { result ≡ self.now.room }
+    {
+        self.room
+    }
+}
+
+impl<T: Drop> ReservedList<T> {
+    /// Removes all items. The room stays.
+    pub fn clear(&mut self)
+        ensures after { self.new ≡ emptied self.old }
+        ensures none { self.new.items ≡ [] }
+        ensures room { self.new.room ≡ self.old.room }
+    {
+        self.items.clear();
+    }
+}

@@ -1,0 +1,81 @@
+//! Bounded lists of bytes, which lie in the value itself.
+
+ghost use Rattle.std.specs.Prelude.{◌≡◌, ◌≤◌, ◌+◌, [], ◌++◌, length, take, drop};
+
+use crate::pieces::place;
+use std::marker::Model;
+
+/// A list of at most `N` bytes.
+#[derive(Clone, Copy, Debug, PartialEq, Eq)]
+pub struct ByteList<const N: usize> {
+    len: usize,
+    // Zeros stand behind the bytes.
+    places: [u8; N],
+}
+
+impl<const N: usize> Model for ByteList<N> {
+    ghost use Rattle.std.specs.Prelude.{◌≡◌, ◌≤◌, ◌-◌, ◌++◌, List, ℕ, length, take, replicate};
+
+    ghost Value = { List ℕ };
+
+    ghost view = { λ a. take a.len a.places };
+
+    ghost invariant = { λ a. (a.len ≤ N) × (length a.places ≡ N) × (a.places ≡ take a.len a.places ++ replicate (N - a.len) 0) };
+
+    ghost inverse = { λ xs. record { len = length xs; places = xs ++ replicate (N - length xs) 0 } };
+}
+
+impl<const N: usize> ByteList<N> {
+    /// No bytes.
+    pub fn new() -> Self
+        ensures { result ≡ [] }
+    {
+        ByteList {
+            len: 0,
+            places: [0; N],
+        }
+    }
+
+    /// A copy of these bytes.
+    pub fn copy_of(bytes: &[u8]) -> Self
+        requires { length bytes.now ≤ N }
+        ensures { result ≡ bytes.now }
+    {
+        let mut list = Self::new();
+        list.append(bytes);
+        list
+    }
+
+    /// Puts the piece behind the bytes so far.
+    pub fn append(&mut self, piece: &[u8])
+        requires { length self.old + length piece.now ≤ N }
+        ensures { self.new ≡ self.old ++ piece.now }
+    {
+        place(&mut self.places, self.len, piece);
+        self.len += piece.len();
+    }
+
+    /// Writes the piece over the bytes from place `at` on.
+    pub fn overwrite(&mut self, at: usize, piece: &[u8])
+        requires { at + length piece.now ≤ length self.old }
+        ensures { self.new ≡ take at self.old ++ (piece.now ++ drop (at + length piece.now) self.old) }
+    {
+        place(&mut self.places, at, piece);
+    }
+
+    /// The bytes.
+    pub fn bytes(&self) -> &[u8]
+        ensures value { result.now ≡ self.now }
+        ensures few { length self.now ≤ N }
+    {
+        &self.places[..self.len]
+    }
+
+    /// How many bytes there are.
+    pub fn len(&self) -> usize
+        ensures value { result ≡ length self.now }
+        ensures few { result ≤ N }
+    {
+        self.len
+    }
+}
