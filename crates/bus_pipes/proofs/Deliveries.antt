@@ -1,7 +1,8 @@
 -- Laws of delivery and of lists with a room.
 use Rattle.std.proofs.Common.{◌≡◌, ◌≤◌, ℕ, ◌+◌, List, [], ◌∷◌, ◌++◌, length, refl, sym, ap, ◌∙◌, arith, append-nil, append_assoc, length-append, ◌<◌, get_or, take}
-use Rattle.std.specs.Prelude.{Option, Some, None, cond, ◌==◌}
-use Rattle.std.proofs.lemmas.List.Sums.{fold_push, fold-append, sum_by-append}
+use Rattle.std.specs.Prelude.{Option, Some, None, cond, false, nat_le, ◌==◌}
+use Rattle.std.proofs.lemmas.Bool.Decides.{nat_tests}
+use Rattle.std.proofs.lemmas.List.Sums.{fold_push, fold-append, sum_by-append, count_by-le-length}
 use Rattle.std.proofs.lemmas.List.{take_more}
 use Rattle.packet_forms.specs.Packets.{message_id}
 use Rattle.bus_pipes.specs.Held.{Held, adding}
@@ -13,10 +14,36 @@ use Rattle.bus_pipes.specs.declared.names.Dropped.{Dropped}
 use Rattle.bus_pipes.specs.declared.names.Offer.{Offer}
 use Rattle.bus_pipes.specs.declared.names.Offer.TheVariants.{Kept, Limit, Full}
 
+take_one : (packets : List (List ℕ)) (i : ℕ) (p : List ℕ) → i < length packets → p ≡ get_or packets i p → take (i + 1) packets ≡ take i packets ++ p ∷ []
+take_one packets i p h at = take_more packets i p h ∙ ap (λ (q : List ℕ). take i packets ++ q ∷ []) (sym at)
+
 -- the packets of an id in two lists
 pub count_of_both : (id : ℕ) (xs ys : List (List ℕ)) → count_of_id id (xs ++ ys) ≡ count_of_id id xs + count_of_id id ys
 unfolding count_of_id
 count_of_both id xs ys = sum_by-append (λ (p : List ℕ). cond (message_id p == id) 1 0) xs ys
+
+pub count_of_none : (id : ℕ) → count_of_id id [] ≡ 0
+unfolding count_of_id
+count_of_none id = refl
+
+count_of_one : (id : ℕ) (p : List ℕ) → count_of_id id (p ∷ []) ≡ cond (message_id p == id) 1 0
+unfolding count_of_id
+count_of_one id p = omega arith
+
+-- and of the first packets of a list, and of one more
+pub count_more : (id : ℕ) (packets : List (List ℕ)) (i : ℕ) (p : List ℕ) (one : ℕ) → i < length packets → p ≡ get_or packets i p → one ≡ cond (message_id p == id) 1 0 → count_of_id id (take i packets) + one ≡ count_of_id id (take (i + 1) packets)
+count_more id packets i p one h at is =
+    ap (λ (n : ℕ). count_of_id id (take i packets) + n) (is ∙ sym (count_of_one id p))
+    ∙ sym (count_of_both id (take i packets) (p ∷ []))
+    ∙ ap (count_of_id id) (sym (take_one packets i p h at))
+
+-- no more than there are
+pub count_of_few : (id : ℕ) (packets : List (List ℕ)) → count_of_id id packets ≤ length packets
+unfolding count_of_id
+count_of_few id packets = count_by-le-length (λ (p : List ℕ). message_id p == id) packets
+
+pub under_limit : (limit count : ℕ) → count < limit → false ≡ nat_le limit count
+under_limit limit count h = grind (arith, nat_tests)
 
 -- nothing more
 pub adding_none : {X : Type 0} (held : Held X) → adding held [] ≡ held
@@ -154,9 +181,6 @@ packets_in_other Md Cs packets pipes apart = refl
 packets_in_other Md Sc packets pipes apart = refl
 packets_in_other Md Mm packets pipes apart = refl
 packets_in_other Md Md packets pipes apart = absurd (apart refl)
-
-take_one : (packets : List (List ℕ)) (i : ℕ) (p : List ℕ) → i < length packets → p ≡ get_or packets i p → take (i + 1) packets ≡ take i packets ++ p ∷ []
-take_one packets i p h at = take_more packets i p h ∙ ap (λ (q : List ℕ). take i packets ++ q ∷ []) (sym at)
 
 -- delivery of the first packets of a list, and of one more
 pub front_after : (pipes before now : Pipes) (packets : List (List ℕ)) (i : ℕ) (p : List ℕ) → i < length packets → p ≡ get_or packets i p → before ≡ after_offers pipes (take i packets) → now ≡ after_offer before p → now ≡ after_offers pipes (take (i + 1) packets)

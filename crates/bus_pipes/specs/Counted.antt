@@ -1,6 +1,7 @@
 -- Which telemetry gets sequence counts.
 use Rattle.std.specs.Prelude.{ℕ, ◌==◌, Bool, true, List, [], ◌∷◌}
 use Rattle.std.specs.List.{list_any}
+use Rattle.packet_forms.specs.MessageIds.{event_id, hs_housekeeping, cs_housekeeping, cs_baseline, sc_housekeeping, mm_housekeeping, mm_peek, mm_dump, md_housekeeping, md_dwell}
 use Rattle.packet_forms.specs.Packets.{message_id}
 use Rattle.bus_pipes.specs.declared.names.Out.{Out}
 use Rattle.bus_pipes.specs.declared.names.Out.TheVariants.{Made, Stored, Reset, Restart, Delete}
@@ -8,8 +9,8 @@ use Rattle.bus_pipes.specs.declared.names.Out.TheVariants.{Made, Stored, Reset, 
 -- the ids that get sequence counts: events, the housekeeping of the five applications, peek, dump, the four dwell tables, baseline
 abbrev pub counted_ids : List ℕ
 counted_ids =
-    0x0808 ∷ 0x08AD ∷ 0x08A4 ∷ 0x08AA ∷ 0x0887 ∷ 0x0890 ∷ 0x088A ∷ 0x088B ∷ 0x0891 ∷ 0x0892 ∷ 0x0893 ∷ 0x0894 ∷ 0x08A5
-    ∷ []
+    event_id ∷ hs_housekeeping ∷ cs_housekeeping ∷ sc_housekeeping ∷ mm_housekeeping ∷ md_housekeeping ∷ mm_peek ∷ mm_dump
+    ∷ md_dwell 1 ∷ md_dwell 2 ∷ md_dwell 3 ∷ md_dwell 4 ∷ cs_baseline ∷ []
 
 -- an id that gets sequence counts
 unfoldable pub is_counted : ℕ → Bool

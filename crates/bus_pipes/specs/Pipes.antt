@@ -1,5 +1,6 @@
 -- One pipe, and the six pipes of the bus.
 use Rattle.std.specs.Prelude.{◌≡◌, ℕ, ◌==◌, ◌||◌, if◌then◌else◌, List, [], ◌∷◌, ◌++◌, length, count_by, nat_le, Option, Some, None}
+use Rattle.packet_forms.specs.MessageIds.{hs_command, hs_request, cs_command, cs_request, sc_command, sc_request, mm_command, mm_request, md_command, md_request, event_id}
 use Rattle.packet_forms.specs.Packets.{message_id}
 use Rattle.bus_pipes.specs.declared.names.PipeName.{PipeName}
 use Rattle.bus_pipes.specs.declared.names.PipeName.TheVariants.{Hs, HsEv, Cs, Sc, Mm, Md}
@@ -62,18 +63,22 @@ with_packets Md packets pipes = record pipes { md = packets }
 
 -- how many packets a pipe holds at most, all together as well as of one id
 abbrev pub depth_of : PipeName → ℕ
+depth_of Hs = 16
 depth_of HsEv = 32
-depth_of _ = 16
+depth_of Cs = 16
+depth_of Sc = 16
+depth_of Mm = 16
+depth_of Md = 16
 
 -- the pipe to which packets of an id go, if any
 unfoldable pub pipe_of : ℕ → Option PipeName
 pipe_of id =
-    if (id == 0x18AE) || (id == 0x18AF) then Some Hs
-    else if id == 0x0808 then Some HsEv
-    else if (id == 0x189F) || (id == 0x18A0) then Some Cs
-    else if (id == 0x18A9) || (id == 0x18AA) then Some Sc
-    else if (id == 0x1888) || (id == 0x1889) then Some Mm
-    else if (id == 0x1890) || (id == 0x1891) then Some Md
+    if (id == hs_command) || (id == hs_request) then Some Hs
+    else if id == event_id then Some HsEv
+    else if (id == cs_command) || (id == cs_request) then Some Cs
+    else if (id == sc_command) || (id == sc_request) then Some Sc
+    else if (id == mm_command) || (id == mm_request) then Some Mm
+    else if (id == md_command) || (id == md_request) then Some Md
     else None
 
 -- a pipe of this depth, which is its limit too
@@ -83,9 +88,9 @@ pub record IsSized (size : ℕ) (pipe : PipeState) : Type 0 where
 
 -- each pipe of the bus has its depth
 pub record AreSized (hs hs_ev cs sc mm md : PipeState) : Type 0 where
-  pub hs_size : IsSized 16 hs
-  pub hs_ev_size : IsSized 32 hs_ev
-  pub cs_size : IsSized 16 cs
-  pub sc_size : IsSized 16 sc
-  pub mm_size : IsSized 16 mm
-  pub md_size : IsSized 16 md
+  pub hs_size : IsSized (depth_of Hs) hs
+  pub hs_ev_size : IsSized (depth_of HsEv) hs_ev
+  pub cs_size : IsSized (depth_of Cs) cs
+  pub sc_size : IsSized (depth_of Sc) sc
+  pub mm_size : IsSized (depth_of Mm) mm
+  pub md_size : IsSized (depth_of Md) md

@@ -43,6 +43,13 @@ impl Batch {
         &self.places[..self.count]
     }
 
+    /// Leaves no packets.
+    pub(crate) fn clear(&mut self)
+        ensures { self.new ≡ [] }
+    {
+        self.count = 0;
+    }
+
     /// Takes all packets of a ring that has places for at most 32.
     pub(crate) fn fill(&mut self, ring: &mut HeapCircularBuffer<Packet>)
         requires { ring.old.capacity ≤ 32 }

@@ -1,17 +1,17 @@
 //! The six pipes of the bus, and the routes to them.
 
-ghost use Rattle.std.specs.Prelude.{◌≡◌, ◌<◌, ◌≤◌, ◌+◌, ◌++◌, [], drop, length, slice_get, IfOk};
+ghost use Rattle.std.specs.Prelude.{◌≡◌, ◌<◌, ◌≤◌, ◌+◌, ◌==◌, ◌++◌, [], drop, length, slice_get, IfOk};
 ghost use Rattle.packet_forms.specs.Packets.{message_id};
 ghost use Rattle.bus_pipes.specs.Pipes.{empty_pipes, packets_in, with_packets, depth_of, pipe_of, offered};
 ghost use Rattle.bus_pipes.specs.Held.{adding};
 ghost use Rattle.bus_pipes.specs.Delivery.{pipe_in, after_offer_to, after_offer, drop_of, after_offers, drops_from};
 
 use crate::batch::Batch;
-use crate::drops::Drops;
-use crate::names::{Dropped, Offer, PipeName};
+use crate::names::{Dropped, Drops, EVENT_PIPE_DEPTH, Offer, PIPE_DEPTH, PipeName};
 use crate::pipe::Pipe;
 use fsw_outside::NoMemory;
 use packet_forms::Packet;
+use packet_forms::message_ids::{CS_COMMAND, CS_REQUEST, EVENT, HS_COMMAND, HS_REQUEST, MD_COMMAND, MD_REQUEST, MM_COMMAND, MM_REQUEST, SC_COMMAND, SC_REQUEST};
 use std::alloc::Global;
 use std::marker::Model;
 
@@ -41,12 +41,12 @@ impl Bus {
     pub fn open(alloc: Global) -> Result<Bus, NoMemory>
         ensures { IfOk result (λ bus. bus ≡ empty_pipes) }
     {
-        let hs = Pipe::open(alloc, 16, 16)?;
-        let hs_ev = Pipe::open(alloc, 32, 32)?;
-        let cs = Pipe::open(alloc, 16, 16)?;
-        let sc = Pipe::open(alloc, 16, 16)?;
-        let mm = Pipe::open(alloc, 16, 16)?;
-        let md = Pipe::open(alloc, 16, 16)?;
+        let hs = Pipe::open(alloc, PIPE_DEPTH, PIPE_DEPTH)?;
+        let hs_ev = Pipe::open(alloc, EVENT_PIPE_DEPTH, EVENT_PIPE_DEPTH)?;
+        let cs = Pipe::open(alloc, PIPE_DEPTH, PIPE_DEPTH)?;
+        let sc = Pipe::open(alloc, PIPE_DEPTH, PIPE_DEPTH)?;
+        let mm = Pipe::open(alloc, PIPE_DEPTH, PIPE_DEPTH)?;
+        let md = Pipe::open(alloc, PIPE_DEPTH, PIPE_DEPTH)?;
         Ok(Bus {
             hs,
             hs_ev,
@@ -58,10 +58,10 @@ impl Bus {
     }
 
     /// Offers a packet to the pipe of its id, if there is one. A packet that the pipe refuses is appended to `drops`.
-    pub fn route(&mut self, packet: Packet, drops: &mut Drops)
+    pub fn route(&mut self, packet: &Packet, drops: &mut Drops)
         requires { length drops.old.items < drops.old.room }
-        ensures after { self.new ≡ after_offer self.old packet }
-        ensures drops { drops.new ≡ adding drops.old (drop_of self.old packet) }
+        ensures after { self.new ≡ after_offer self.old packet.now }
+        ensures drops { drops.new ≡ adding drops.old (drop_of self.old packet.now) }
         ensures few { length drops.new.items ≤ length drops.old.items + 1 }
         ensures room { drops.new.room ≡ drops.old.room }
     {
@@ -73,12 +73,12 @@ impl Bus {
             Offer::Limit => drops.push(Dropped {
                 pipe,
                 full: false,
-                packet,
+                packet: *packet,
             }),
             Offer::Full => drops.push(Dropped {
                 pipe,
                 full: true,
-                packet,
+                packet: *packet,
             }),
         }
     }
@@ -95,6 +95,20 @@ impl Bus {
             PipeName::Sc => self.sc.take(),
             PipeName::Mm => self.mm.take(),
             PipeName::Md => self.md.take(),
+        }
+    }
+
+    /// Whether a pipe holds no packet.
+    pub fn is_empty(&self, pipe: PipeName) -> bool
+        ensures { result ≡ (length (packets_in pipe self.now) == 0) }
+    {
+        match pipe {
+            PipeName::Hs => self.hs.is_empty(),
+            PipeName::HsEv => self.hs_ev.is_empty(),
+            PipeName::Cs => self.cs.is_empty(),
+            PipeName::Sc => self.sc.is_empty(),
+            PipeName::Mm => self.mm.is_empty(),
+            PipeName::Md => self.md.is_empty(),
         }
     }
 
@@ -123,15 +137,15 @@ impl Bus {
         ensures room { drops.new.room ≡ drops.old.room }
     {
         for packet in packets {
-            self.route(*packet, drops);
+            self.route(packet, drops);
         }
     }
 
     /// Offers a packet to a pipe.
     #[tactic(auto, unfolding(crate::specs::Delivery::after_offer_to))]
-    fn offer(&mut self, pipe: PipeName, packet: Packet) -> Offer
-        ensures answer { result ≡ offered (pipe_in pipe self.old) packet }
-        ensures after { self.new ≡ after_offer_to pipe self.old packet }
+    fn offer(&mut self, pipe: PipeName, packet: &Packet) -> Offer
+        ensures answer { result ≡ offered (pipe_in pipe self.old) packet.now }
+        ensures after { self.new ≡ after_offer_to pipe self.old packet.now }
     {
         match pipe {
             PipeName::Hs => self.hs.offer(packet),
@@ -149,19 +163,13 @@ impl Bus {
 fn pipe_of(id: u16) -> Option<PipeName>
     ensures { result ≡ pipe_of id }
 {
-    if id == 0x18AE || id == 0x18AF {
-        Some(PipeName::Hs)
-    } else if id == 0x0808 {
-        Some(PipeName::HsEv)
-    } else if id == 0x189F || id == 0x18A0 {
-        Some(PipeName::Cs)
-    } else if id == 0x18A9 || id == 0x18AA {
-        Some(PipeName::Sc)
-    } else if id == 0x1888 || id == 0x1889 {
-        Some(PipeName::Mm)
-    } else if id == 0x1890 || id == 0x1891 {
-        Some(PipeName::Md)
-    } else {
-        None
+    match id {
+        HS_COMMAND | HS_REQUEST => Some(PipeName::Hs),
+        EVENT => Some(PipeName::HsEv),
+        CS_COMMAND | CS_REQUEST => Some(PipeName::Cs),
+        SC_COMMAND | SC_REQUEST => Some(PipeName::Sc),
+        MM_COMMAND | MM_REQUEST => Some(PipeName::Mm),
+        MD_COMMAND | MD_REQUEST => Some(PipeName::Md),
+        _ => None,
     }
 }

@@ -1,8 +1,10 @@
 //! Laws of delivery, as contracts of functions that do nothing.
 
-ghost use Rattle.std.specs.Prelude.{◌≡◌, ◌≤◌, ℕ, List, [], ◌∷◌, ◌++◌, length, replicate, true, false};
+ghost use Rattle.std.specs.Prelude.{◌≡◌, ◌≤◌, ℕ, List, [], ◌∷◌, ◌++◌, ◌==◌, length, map, replicate, true, false, Some, None};
+ghost use Rattle.std.specs.List.{list_any};
 ghost use Rattle.packet_forms.specs.Built.{command_of};
-ghost use Rattle.bus_pipes.specs.Pipes.{Pipes, empty_pipes, packets_in, with_packets};
+ghost use Rattle.bus_pipes.specs.Counted.{counted_ids};
+ghost use Rattle.bus_pipes.specs.Pipes.{Pipes, empty_pipes, depth_of, pipe_of, packets_in, with_packets};
 ghost use Rattle.bus_pipes.specs.Delivery.{after_offer, drop_of, after_offers, drops_from};
 ghost use Rattle.bus_pipes.specs.declared.names.PipeName.{PipeName};
 
@@ -21,6 +23,32 @@ pub fn delivery_goes_on()
 pub fn pipes_are_apart()
     ensures same { (name : PipeName) (packets : List (List ℕ)) (pipes : Pipes) → packets_in name (with_packets name packets pipes) ≡ packets }
     ensures other { (name held : PipeName) (packets : List (List ℕ)) (pipes : Pipes) → (name ≡ held → ⊥) → packets_in held (with_packets name packets pipes) ≡ packets_in held pipes }
+{}
+
+/// The eleven ids that go to a pipe.
+pub fn worked_routes()
+    ensures hs_command { pipe_of 0x18AE ≡ Some PipeName.Hs }
+    ensures hs_request { pipe_of 0x18AF ≡ Some PipeName.Hs }
+    ensures event { pipe_of 0x0808 ≡ Some PipeName.HsEv }
+    ensures cs_command { pipe_of 0x189F ≡ Some PipeName.Cs }
+    ensures cs_request { pipe_of 0x18A0 ≡ Some PipeName.Cs }
+    ensures sc_command { pipe_of 0x18A9 ≡ Some PipeName.Sc }
+    ensures sc_request { pipe_of 0x18AA ≡ Some PipeName.Sc }
+    ensures mm_command { pipe_of 0x1888 ≡ Some PipeName.Mm }
+    ensures mm_request { pipe_of 0x1889 ≡ Some PipeName.Mm }
+    ensures md_command { pipe_of 0x1890 ≡ Some PipeName.Md }
+    ensures md_request { pipe_of 0x1891 ≡ Some PipeName.Md }
+{}
+
+/// No other id goes to a pipe.
+pub fn other_ids_go_nowhere()
+    ensures { (id : ℕ) → list_any (λ routed. id == routed) (0x18AE ∷ 0x18AF ∷ 0x0808 ∷ 0x189F ∷ 0x18A0 ∷ 0x18A9 ∷ 0x18AA ∷ 0x1888 ∷ 0x1889 ∷ 0x1890 ∷ 0x1891 ∷ []) ≡ false → pipe_of id ≡ None }
+{}
+
+/// The depths of the pipes, and the ids that get sequence counts.
+pub fn worked_tables()
+    ensures depths { map depth_of (PipeName.Hs ∷ PipeName.HsEv ∷ PipeName.Cs ∷ PipeName.Sc ∷ PipeName.Mm ∷ PipeName.Md ∷ []) ≡ 16 ∷ 32 ∷ 16 ∷ 16 ∷ 16 ∷ 16 ∷ [] }
+    ensures counted { counted_ids ≡ 0x0808 ∷ 0x08AD ∷ 0x08A4 ∷ 0x08AA ∷ 0x0887 ∷ 0x0890 ∷ 0x088A ∷ 0x088B ∷ 0x0891 ∷ 0x0892 ∷ 0x0893 ∷ 0x0894 ∷ 0x08A5 ∷ [] }
 {}
 
 /// Seventeen no-ops and a housekeeping request of MM: the seventeenth is dropped for the limit, the request for the depth.

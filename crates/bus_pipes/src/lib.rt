@@ -3,19 +3,16 @@
 
 mod batch;
 mod bus;
-mod drops;
 pub mod laws;
 mod names;
-mod outbox;
 mod pipe;
 mod reserved;
 
 pub use batch::Batch;
 pub use bus::Bus;
-pub use drops::Drops;
-pub use names::{Counts, Dropped, Offer, Out, PipeName};
-pub use outbox::Outbox;
+pub use names::{Counts, Dropped, Drops, EVENT_PIPE_DEPTH, Offer, Out, Outbox, PIPE_DEPTH, PipeName};
 pub use pipe::Pipe;
+pub use reserved::ReservedList;
 
 #[cfg(test)]
 mod tests;

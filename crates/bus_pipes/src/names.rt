@@ -1,6 +1,18 @@
 //! The plain types of the bus.
 
+use crate::reserved::ReservedList;
 use packet_forms::{Name, Packet};
+
+/// How many packets a pipe holds at most, all together as well as of one id.
+pub const PIPE_DEPTH: u32 = 16;
+/// The same of the pipe of events.
+pub const EVENT_PIPE_DEPTH: u32 = 32;
+
+/// The list that an application fills in a step.
+pub type Outbox = ReservedList<Out>;
+
+/// The list of the packets that pipes refused.
+pub type Drops = ReservedList<Dropped>;
 
 /// A pipe of the bus.
 #[derive(Clone, Copy, Debug, PartialEq, Eq)]

@@ -1,6 +1,6 @@
 //! A bounded pipe of packets.
 
-ghost use Rattle.std.specs.Prelude.{◌≡◌, ◌<◌, ◌≤◌, ◌+◌, [], drop, length, slice_get, IfOk};
+ghost use Rattle.std.specs.Prelude.{◌≡◌, ◌<◌, ◌≤◌, ◌+◌, ◌==◌, if◌then◌else◌, [], drop, length, nat_le, slice_get, IfOk};
 ghost use Rattle.packet_forms.specs.Packets.{message_id};
 ghost use Rattle.bus_pipes.specs.Pipes.{offered, held_after, count_of_id};
 
@@ -42,18 +42,25 @@ impl Pipe {
 
     /// Offers a packet: it is refused at the limit for its id, then at the depth, and is the last one otherwise.
     #[tactic(auto, unfolding(crate::specs::Pipes::offered))]
-    pub fn offer(&mut self, packet: Packet) -> Offer
-        ensures answer { result ≡ offered self.old packet }
-        ensures after { self.new ≡ record self.old { packets = held_after self.old.packets packet (offered self.old packet) } }
+    pub fn offer(&mut self, packet: &Packet) -> Offer
+        ensures answer { result ≡ offered self.old packet.now }
+        ensures after { self.new ≡ record self.old { packets = held_after self.old.packets packet.now (offered self.old packet.now) } }
     {
-        if self.count(packet.mid()) >= self.limit as usize {
+        if self.is_at_limit(packet.mid()) {
             return Offer::Limit;
         }
         if self.packets.len() >= self.packets.capacity() {
             return Offer::Full;
         }
-        self.packets.push_back(packet);
+        self.packets.push_back(*packet);
         Offer::Kept
+    }
+
+    /// Whether the pipe holds no packet.
+    pub fn is_empty(&self) -> bool
+        ensures { result ≡ (length self.now.packets == 0) }
+    {
+        self.packets.is_empty()
     }
 
     /// Takes the first packet, or None where the pipe is empty.
@@ -71,7 +78,21 @@ impl Pipe {
         ensures few { length batch.new ≤ self.old.depth }
         ensures after { self.new ≡ record self.old { packets = [] } }
     {
+        if self.packets.is_empty() {
+            batch.clear();
+            return;
+        }
         batch.fill(&mut self.packets);
+    }
+
+    /// Whether the pipe holds as many packets of an id as it may. They are counted only where it holds so many at all.
+    fn is_at_limit(&self, id: u16) -> bool
+        ensures { result ≡ nat_le self.now.limit (count_of_id id self.now.packets) }
+    {
+        if self.packets.len() < self.limit as usize {
+            return false;
+        }
+        self.count(id) >= self.limit as usize
     }
 
     /// How many packets of an id the pipe holds.
@@ -84,10 +105,21 @@ impl Pipe {
 }
 
 /// How many of these packets have an id.
-#[tactic(auto, unfolding(crate::specs::Pipes::count_of_id))]
 fn count_of_id(packets: &[Packet], id: u16) -> usize
     ensures count { result ≡ count_of_id id packets.now }
     ensures bound { result ≤ length packets.now }
 {
-    packets.iter().filter(|packet| packet.mid() == id).count()
+    let mut count = 0;
+    for packet in packets {
+        count += one_where(packet.mid() == id);
+    }
+    count
+}
+
+#[inline(always)]
+fn one_where(holds: bool) -> usize
+    ensures value { result ≡ (if holds then 1 else 0) }
+    ensures bound { result ≤ 1 }
+{
+    if holds { 1 } else { 0 }
 }

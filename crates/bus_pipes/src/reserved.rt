@@ -1,6 +1,7 @@
 //! Lists whose room was reserved.
 
-ghost use Rattle.std.specs.Prelude.{◌≡◌, ◌<◌, ◌+◌, ◌==◌, [], ◌∷◌, length, IfOk};
+ghost use Rattle.std.specs.Prelude.{◌≡◌, ◌<◌, ◌+◌, ◌==◌, [], ◌∷◌, length, slice_index_or, IfOk};
+ghost use Rattle.std.specs.Borrow.{sem};
 ghost use Rattle.bus_pipes.specs.Held.{adding, emptied};
 
 use fsw_outside::NoMemory;
@@ -26,6 +27,8 @@ impl<T> Model for ReservedList<T> {
 }
 
 impl<T> ReservedList<T> {
+    ghost use Rattle.bus_pipes.specs.Lending.{lends_item};
+
     /// An empty list with room for so many items.
     pub fn open(alloc: Global, room: u32) -> Result<ReservedList<T>, NoMemory>
         ensures { IfOk result (λ list. list ≡ record { items = []; room = room }) }
@@ -52,6 +55,15 @@ impl<T> ReservedList<T> {
         ensures { result.now ≡ self.now.items }
     {
         self.items.as_slice()
+    }
+
+    /// The item at a place, for writing.
+    pub fn item_mut(&mut self, at: usize) -> &mut T
+        requires { at < length self.old.items }
+        ensures* writes_back { sem 𝓛 (lends_item T.row self.entry at result) }
+        ensures value { result.now ≡ slice_index_or self.old.items at result.now }
+    {
+        &mut self.items[at]
     }
 
     /// The number of items.

@@ -34,7 +34,7 @@ fn step(rt: &impl Abort, pipe: &mut Pipe, letter: u8, place: u32) -> u8 {
             _ => b'x',
         };
     }
-    match pipe.offer(lettered(letter, place)) {
+    match pipe.offer(&lettered(letter, place)) {
         Offer::Kept => b'K',
         Offer::Limit => b'L',
         Offer::Full => b'F',
@@ -107,7 +107,7 @@ fn check_route(
     let mut bus = Bus::open(alloc)?;
     let mut drops = Drops::open(alloc, 1)?;
     let packet = telemetry(id % 8192, 0, &[]);
-    bus.route(packet, &mut drops);
+    bus.route(&packet, &mut drops);
     assert_eq!(rt; drops.len(), 0);
     for name in [
         PipeName::Hs,

@@ -6,34 +6,34 @@ use Rattle.bus_pipes.proofs.bus.Bus.route.Goals as goal
 
 pub returns-in_default-clause-after : goal.returns-in_default-clause-after
 returns-in_default-clause-after c =
-    sym (after_offer_nowhere c.args.self.now c.args.packet (ap pipe_of (sym c.mid.ensures) ∙ sym c.pipe_of.ensures ∙ c.in_default.is))
+    sym (after_offer_nowhere c.args.self.now c.args.packet.now (ap pipe_of (sym c.mid.ensures) ∙ sym c.pipe_of.ensures ∙ c.in_default.is))
 
 pub returns-in_default-clause-drops : goal.returns-in_default-clause-drops
 returns-in_default-clause-drops c =
-    none_dropped c.args.self.now c.args.packet c.args.drops.now (ap pipe_of (sym c.mid.ensures) ∙ sym c.pipe_of.ensures ∙ c.in_default.is)
+    none_dropped c.args.self.now c.args.packet.now c.args.drops.now (ap pipe_of (sym c.mid.ensures) ∙ sym c.pipe_of.ensures ∙ c.in_default.is)
 
 pub returns-in-Kept-clause-after : goal.returns-in-Kept-clause-after
 returns-in-Kept-clause-after c =
-    routed c.in-Some.pipe c.args.self.now c.offer.new.self c.args.packet (ap pipe_of (sym c.mid.ensures) ∙ sym c.pipe_of.ensures ∙ c.in-Some.is) c.offer.ensures.after
+    routed c.in-Some.pipe c.args.self.now c.offer.new.self c.args.packet.now (ap pipe_of (sym c.mid.ensures) ∙ sym c.pipe_of.ensures ∙ c.in-Some.is) c.offer.ensures.after
 
 pub returns-in-Kept-clause-drops : goal.returns-in-Kept-clause-drops
 returns-in-Kept-clause-drops c =
-    none_lost c.in-Some.pipe c.args.self.now c.args.packet c.args.drops.now (ap pipe_of (sym c.mid.ensures) ∙ sym c.pipe_of.ensures ∙ c.in-Some.is) c.in-Kept.ensures.answer
+    none_lost c.in-Some.pipe c.args.self.now c.args.packet.now c.args.drops.now (ap pipe_of (sym c.mid.ensures) ∙ sym c.pipe_of.ensures ∙ c.in-Some.is) c.in-Kept.ensures.answer
 
 pub returns-in-Limit-clause-after : goal.returns-in-Limit-clause-after
 returns-in-Limit-clause-after c =
-    routed c.in-Some.pipe c.args.self.now c.offer.new.self c.args.packet (ap pipe_of (sym c.mid.ensures) ∙ sym c.pipe_of.ensures ∙ c.in-Some.is) c.offer.ensures.after
+    routed c.in-Some.pipe c.args.self.now c.offer.new.self c.args.packet.now (ap pipe_of (sym c.mid.ensures) ∙ sym c.pipe_of.ensures ∙ c.in-Some.is) c.offer.ensures.after
 
 pub returns-in-Limit-clause-drops : goal.returns-in-Limit-clause-drops
 returns-in-Limit-clause-drops c =
     c.push.ensures.after
-    ∙ dropped c.in-Some.pipe c.args.self.now c.args.packet Limit c.args.drops.now (ap pipe_of (sym c.mid.ensures) ∙ sym c.pipe_of.ensures ∙ c.in-Some.is) c.in-Limit.ensures.answer
+    ∙ dropped c.in-Some.pipe c.args.self.now c.args.packet.now Limit c.args.drops.now (ap pipe_of (sym c.mid.ensures) ∙ sym c.pipe_of.ensures ∙ c.in-Some.is) c.in-Limit.ensures.answer
 
 pub returns-in-Full-clause-after : goal.returns-in-Full-clause-after
 returns-in-Full-clause-after c =
-    routed c.in-Some.pipe c.args.self.now c.offer.new.self c.args.packet (ap pipe_of (sym c.mid.ensures) ∙ sym c.pipe_of.ensures ∙ c.in-Some.is) c.offer.ensures.after
+    routed c.in-Some.pipe c.args.self.now c.offer.new.self c.args.packet.now (ap pipe_of (sym c.mid.ensures) ∙ sym c.pipe_of.ensures ∙ c.in-Some.is) c.offer.ensures.after
 
 pub returns-in-Full-clause-drops : goal.returns-in-Full-clause-drops
 returns-in-Full-clause-drops c =
     c.push-in-Full.ensures.after
-    ∙ dropped c.in-Some.pipe c.args.self.now c.args.packet Full c.args.drops.now (ap pipe_of (sym c.mid.ensures) ∙ sym c.pipe_of.ensures ∙ c.in-Some.is) c.in-Full.ensures.answer
+    ∙ dropped c.in-Some.pipe c.args.self.now c.args.packet.now Full c.args.drops.now (ap pipe_of (sym c.mid.ensures) ∙ sym c.pipe_of.ensures ∙ c.in-Some.is) c.in-Full.ensures.answer
