@@ -11,7 +11,10 @@ use crate::names::{Dropped, Drops, EVENT_PIPE_DEPTH, Offer, PIPE_DEPTH, PipeName
 use crate::pipe::Pipe;
 use fsw_outside::NoMemory;
 use packet_forms::Packet;
-use packet_forms::message_ids::{CS_COMMAND, CS_REQUEST, EVENT, HS_COMMAND, HS_REQUEST, MD_COMMAND, MD_REQUEST, MM_COMMAND, MM_REQUEST, SC_COMMAND, SC_REQUEST};
+use packet_forms::message_ids::{
+    CS_COMMAND, CS_REQUEST, EVENT, HS_COMMAND, HS_REQUEST, MD_COMMAND, MD_REQUEST, MM_COMMAND,
+    MM_REQUEST, SC_COMMAND, SC_REQUEST,
+};
 use std::alloc::Global;
 use std::marker::Model;
 

@@ -10,7 +10,9 @@ mod reserved;
 
 pub use batch::Batch;
 pub use bus::Bus;
-pub use names::{Counts, Dropped, Drops, EVENT_PIPE_DEPTH, Offer, Out, Outbox, PIPE_DEPTH, PipeName};
+pub use names::{
+    Counts, Dropped, Drops, EVENT_PIPE_DEPTH, Offer, Out, Outbox, PIPE_DEPTH, PipeName,
+};
 pub use pipe::Pipe;
 pub use reserved::ReservedList;
 

@@ -12,8 +12,8 @@ mod numbers;
 mod packet;
 mod pieces;
 
-pub use byte_list::ByteList;
 pub use build::{command, event, telemetry};
+pub use byte_list::ByteList;
 pub use crc::crc16;
 pub use name::{Counter, Name};
 pub use numbers::{be16, be32};

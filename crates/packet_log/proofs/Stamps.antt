@@ -108,3 +108,8 @@ one_stamped made counts p k s at = record {
 pub stamped_by : (made : List (List ℕ)) (counts : List ℕ) (p : List ℕ) (k : ℕ) → Stands made counts → place_of (message_id p) ≡ Some k → with_sequence (get_or counts k 0) p ≡ stamped made p
 unfolding stamped
 stamped_by made counts p k s at = ap (λ (n : ℕ). with_sequence n p) (s.each (message_id p) k at)
+
+-- the packet with the count of its id
+pub stamped_with : (made : List (List ℕ)) (p : List ℕ) (id n : ℕ) → id ≡ message_id p → n ≡ count_of made id → with_sequence n p ≡ stamped made p
+unfolding stamped
+stamped_with made p id n same is = ap (λ (k : ℕ). with_sequence k p) (is ∙ ap (count_of made) same)

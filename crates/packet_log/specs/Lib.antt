@@ -2,3 +2,4 @@ pub mod Lines
 pub mod Counts
 pub mod Standing
 pub mod Items
+pub mod Sent

@@ -2,15 +2,14 @@
 #![tactic(auto)]
 
 mod counts;
-mod items;
 pub mod laws;
 mod lines;
+mod pairs;
 mod writing;
 
 pub use counts::Log;
-pub use items::{item_line, request_line};
-pub use lines::{Line, drop_line, line_of};
-pub use writing::put_text;
+pub use lines::{Head, Line, head_of, write_drop, write_item};
+pub use writing::{put_bytes, put_text};
 
 #[cfg(test)]
 mod tests;

@@ -1,55 +1,186 @@
-//! The lines of the log.
+//! A line of the log, which is written again and again, and what the lines say.
 
-ghost use Rattle.std.specs.Prelude.{◌≡◌, ◌<◌, ◌≤◌, ◌+◌, ◌*◌, ◌++◌, ◌∷◌, [], length, codes, decimal};
-ghost use Rattle.arrayvec.specs.ArrayString.{array_string_len};
-ghost use Rattle.packet_log.specs.Lines.{hex_digit, hex, packet_line, drop_line, pipe_text, cause_text};
+ghost use Rattle.std.specs.Prelude.{◌≡◌, ◌≤◌, ◌+◌, ◌*◌, ◌++◌, [], ℕ, true, length, take, drop, codes, decimal};
+ghost use Rattle.packet_log.specs.Lines.{hex_pair, hex, packet_line, drop_line, pipe_text, cause_text};
+ghost use Rattle.packet_log.specs.Items.{is_request, request_text, request_line, item_line};
 
-use arrayvec::ArrayString;
-use bus_pipes::{Dropped, PipeName};
+use crate::pairs::PAIRS;
+use bus_pipes::{Dropped, Out, PipeName};
 use itoa::Buffer;
-use packet_forms::Packet;
+use packet_forms::{ByteList, Packet, place};
+use std::marker::Model;
 
-/// A line of the log.
-pub type Line = ArrayString<640>;
+/// The digits of a frame's number, with which each of its lines begins.
+pub type Head = ByteList<40>;
 
-/// The line of a packet that was sent in a frame.
-#[tactic(auto, unfolding(crate::specs::Lines::packet_line))]
-pub fn line_of(frame: u32, packet: &Packet) -> Line
-    ensures { result.bytes ≡ packet_line frame packet.now }
-{
-    let mut line = begin(frame);
-    line.push_str(" pkt ");
-    push_hex(&mut line, packet.bytes());
-    line.push_str("\n");
-    line
+/// The longest line is that of a dropped packet of 256 bytes, below 640 bytes.
+const LINE_BYTES: usize = 640;
+
+/// A line, seen as its bytes. It is made once and written again and again.
+#[derive(Drop)]
+pub struct Line {
+    len: usize,
+    places: [u8; LINE_BYTES],
 }
 
-/// The line of a packet that was dropped in a frame.
-#[tactic(auto, unfolding(crate::specs::Lines::drop_line))]
-pub fn drop_line(frame: u32, lost: &Dropped) -> Line
-    ensures { result.bytes ≡ drop_line frame lost.now }
-{
-    let mut line = begin(frame);
-    line.push_str(" drop ");
-    line.push_str(pipe_text(lost.pipe));
-    line.push_str(cause_text(lost.full));
-    push_hex(&mut line, lost.packet.bytes());
-    line.push_str("\n");
-    line
+impl Model for Line {
+    ghost use Rattle.std.specs.Prelude.{◌≡◌, ◌≤◌, List, ℕ, length, take};
+
+    ghost Value = { List ℕ };
+
+    ghost view = { λ a. take a.len a.places };
+
+    ghost invariant = { λ a. (a.len ≤ 640) × (length a.places ≡ 640) };
 }
 
-/// A line that begins with the number of a frame.
-pub(crate) fn begin(frame: u32) -> Line
-    ensures value { result.bytes ≡ decimal frame }
-    ensures short { length result.bytes ≤ 40 }
+impl Line {
+    /// An empty line.
+    pub fn new() -> Line
+        ensures { result ≡ [] }
+    {
+        Line {
+            len: 0,
+            places: [0; LINE_BYTES],
+        }
+    }
+
+    /// The bytes of the line.
+    pub fn bytes(&self) -> &[u8]
+        ensures { result.now ≡ self.now }
+    {
+        &self.places[..self.len]
+    }
+
+    fn clear(&mut self)
+        ensures { self.new ≡ [] }
+    {
+        self.len = 0;
+    }
+
+    #[inline(always)]
+    fn append(&mut self, piece: &[u8])
+        requires { length self.old + length piece.now ≤ 640 }
+        ensures { self.new ≡ self.old ++ piece.now }
+    {
+        place(&mut self.places, self.len, piece);
+        self.len += piece.len();
+    }
+
+    // Appends the bytes in hexadecimal digits.
+    fn append_hex(&mut self, bytes: &[u8])
+        requires { length self.old + 2 * length bytes.now ≤ 640 }
+        ensures value { self.new ≡ self.old ++ hex bytes.now }
+        ensures size { length self.new ≡ length self.old + 2 * length bytes.now }
+    {
+        place_hex(&mut self.places, self.len, bytes);
+        self.len += 2 * bytes.len();
+    }
+}
+
+// Writes the hexadecimal digits of the bytes from place `at` on.
+fn place_hex(places: &mut [u8], at: usize, bytes: &[u8])
+    requires { at + 2 * length bytes.now ≤ length places.old }
+    ensures { places.new ≡ take at places.old ++ (hex bytes.now ++ drop (at + 2 * length bytes.now) places.old) }
+{
+    for i in 0..bytes.len() {
+        place(places, at + 2 * i, &digits_of(bytes[i]));
+    }
+}
+
+// The two hexadecimal digits of a byte, in upper case.
+#[inline(always)]
+fn digits_of(byte: u8) -> [u8; 2]
+    ensures { result ≡ hex_pair byte }
+{
+    PAIRS[byte as usize]
+}
+
+/// The digits of a frame's number.
+pub fn head_of(frame: u32) -> Head
+    ensures { result ≡ decimal frame }
 {
     let mut buffer = Buffer::new();
-    let mut line = Line::new();
-    line.push_str(buffer.format(frame));
-    line
+    Head::copy_of(buffer.format(frame).as_bytes())
 }
 
-/// What a line calls a pipe.
+/// Makes the line that of an item: of its packet, or of its request. `head` is what `head_of` gives of the frame's number.
+pub fn write_item(line: &mut Line, head: &[u8], item: &Out)
+    requires { length head.now ≤ 40 }
+    ensures { (frame : ℕ) → head.now ≡ decimal frame → line.new ≡ item_line frame item.now }
+{
+    match item {
+        Out::Made(packet) => write_packet(line, head, packet),
+        Out::Stored(packet) => write_packet(line, head, packet),
+        Out::Reset => write_request(line, head, item),
+        Out::Restart(_) => write_request(line, head, item),
+        Out::Delete(_) => write_request(line, head, item),
+    }
+}
+
+/// Makes the line that of a packet that was dropped. `head` is what `head_of` gives of the frame's number.
+#[tactic(auto, unfolding(crate::specs::Lines::drop_line))]
+pub fn write_drop(line: &mut Line, head: &[u8], lost: &Dropped)
+    requires { length head.now ≤ 40 }
+    ensures { (frame : ℕ) → head.now ≡ decimal frame → line.new ≡ drop_line frame lost.now }
+{
+    line.clear();
+    line.append(head);
+    line.append(" drop ".as_bytes());
+    line.append(pipe_text(lost.pipe).as_bytes());
+    line.append(cause_text(lost.full).as_bytes());
+    line.append_hex(lost.packet.bytes());
+    line.append("\n".as_bytes());
+}
+
+// Makes the line that of a packet that was sent.
+#[tactic(auto, unfolding(crate::specs::Lines::packet_line))]
+fn write_packet(line: &mut Line, head: &[u8], packet: &Packet)
+    requires { length head.now ≤ 40 }
+    ensures { (frame : ℕ) → head.now ≡ decimal frame → line.new ≡ packet_line frame packet.now }
+{
+    line.clear();
+    line.append(head);
+    line.append(" pkt ".as_bytes());
+    line.append_hex(packet.bytes());
+    line.append("\n".as_bytes());
+}
+
+// Makes the line that of a request.
+#[tactic(auto, unfolding(crate::specs::Items::request_line))]
+fn write_request(line: &mut Line, head: &[u8], item: &Out)
+    requires short { length head.now ≤ 40 }
+    requires request { is_request item.now ≡ true }
+    ensures { (frame : ℕ) → head.now ≡ decimal frame → line.new ≡ request_line frame item.now }
+{
+    line.clear();
+    line.append(head);
+    append_request(line, item);
+    line.append("\n".as_bytes());
+}
+
+// Appends what a line says of a request.
+#[tactic(auto, unfolding(packet_forms::specs::Names::is_name_text))]
+fn append_request(line: &mut Line, item: &Out)
+    requires { length line.old ≤ 40 }
+    ensures value { line.new ≡ line.old ++ request_text item.now }
+    ensures short { length line.new ≤ 80 }
+{
+    match item {
+        Out::Made(_) => {}
+        Out::Stored(_) => {}
+        Out::Reset => line.append(" reset".as_bytes()),
+        Out::Restart(name) => {
+            line.append(" restart ".as_bytes());
+            line.append(name.text().as_bytes());
+        }
+        Out::Delete(name) => {
+            line.append(" delete ".as_bytes());
+            line.append(name.text().as_bytes());
+        }
+    }
+}
+
+// What a line calls a pipe.
 fn pipe_text(pipe: PipeName) -> &'static str
     ensures value { result.now ≡ pipe_text pipe }
     ensures short { length result.now ≤ 5 }
@@ -64,40 +195,10 @@ fn pipe_text(pipe: PipeName) -> &'static str
     }
 }
 
-/// What a line says of why a packet was dropped.
+// What a line says of why a packet was dropped.
 fn cause_text(full: bool) -> &'static str
     ensures value { result.now ≡ cause_text full }
     ensures short { length result.now ≤ 7 }
 {
     if full { " full " } else { " limit " }
-}
-
-/// Appends the bytes in hexadecimal digits.
-fn push_hex(line: &mut Line, bytes: &[u8])
-    requires { length line.old.bytes + 2 * length bytes.now ≤ 640 }
-    ensures value { line.new.bytes ≡ line.old.bytes ++ hex bytes.now }
-    ensures size { length line.new.bytes ≡ length line.old.bytes + 2 * length bytes.now }
-{
-    for byte in bytes {
-        push_digit(line, *byte / 16);
-        push_digit(line, *byte % 16);
-    }
-}
-
-/// Appends a hexadecimal digit.
-fn push_digit(line: &mut Line, digit: u8)
-    requires digit { digit < 16 }
-    requires room { length line.old.bytes < 640 }
-    ensures { line.new.bytes ≡ line.old.bytes ++ hex_digit digit ∷ [] }
-{
-    line.push(hex_digit(digit) as char);
-}
-
-/// A hexadecimal digit, in upper case.
-fn hex_digit(digit: u8) -> u8
-    requires { digit < 16 }
-    ensures value { result ≡ hex_digit digit }
-    ensures ascii { result < 128 }
-{
-    if digit < 10 { 48 + digit } else { 55 + digit }
 }

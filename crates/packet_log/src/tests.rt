@@ -17,26 +17,44 @@ fn noop_event() -> Result<Packet, Fail> {
     Ok(event(name, 16, 2, 1001))
 }
 
+/// The line of an item in a frame, or of a packet that was dropped, is this text.
+fn check_item(rt: &impl Abort, line: &mut Line, frame: u32, item: &Out, expected: &str) {
+    write_item(line, head_of(frame).bytes(), item);
+    assert_eq!(rt; line.bytes(), expected.as_bytes());
+}
+
+fn check_drop(rt: &impl Abort, line: &mut Line, frame: u32, lost: &Dropped, expected: &str) {
+    write_drop(line, head_of(frame).bytes(), lost);
+    assert_eq!(rt; line.bytes(), expected.as_bytes());
+}
+
 #[test]
 fn lines_are_exact(rt: HostRuntime) -> Result<(), Fail> {
-    assert_eq!(rt; line_of(1, &noop_event()?).as_str(), EVENT_LINE);
+    let mut line = Line::new();
+    check_item(&rt, &mut line, 1, &Out::Stored(noop_event()?), EVENT_LINE);
     let limit = Dropped {
         pipe: PipeName::Mm,
         full: false,
         packet: command(0x1888, 0, &[]),
     };
-    assert_eq!(rt;
-        drop_line(0, &limit).as_str(),
-        "0 drop MM limit 1888C000000100AE\n"
+    check_drop(
+        &rt,
+        &mut line,
+        0,
+        &limit,
+        "0 drop MM limit 1888C000000100AE\n",
     );
     let full = Dropped {
         pipe: PipeName::HsEv,
         full: true,
         packet: command(0x1889, 0, &[]),
     };
-    assert_eq!(rt;
-        drop_line(100_000, &full).as_str(),
-        "100000 drop HS.EV full 1889C000000100AF\n"
+    check_drop(
+        &rt,
+        &mut line,
+        100_000,
+        &full,
+        "100000 drop HS.EV full 1889C000000100AF\n",
     );
     Ok(())
 }
@@ -44,19 +62,11 @@ fn lines_are_exact(rt: HostRuntime) -> Result<(), Fail> {
 #[test]
 fn request_lines(rt: HostRuntime) -> Result<(), Fail> {
     let name = Name::from_text("LOAD").ok_or("LOAD is a name")?;
-    assert_eq!(rt; request_line(0, &Out::Reset).as_str(), "0 reset\n");
-    assert_eq!(rt;
-        request_line(5, &Out::Restart(name)).as_str(),
-        "5 restart LOAD\n"
-    );
-    assert_eq!(rt;
-        item_line(7, &Out::Delete(name)).as_str(),
-        "7 delete LOAD\n"
-    );
-    assert_eq!(rt;
-        item_line(1, &Out::Made(noop_event()?)).as_str(),
-        EVENT_LINE
-    );
+    let mut line = Line::new();
+    check_item(&rt, &mut line, 0, &Out::Reset, "0 reset\n");
+    check_item(&rt, &mut line, 5, &Out::Restart(name), "5 restart LOAD\n");
+    check_item(&rt, &mut line, 7, &Out::Delete(name), "7 delete LOAD\n");
+    check_item(&rt, &mut line, 1, &Out::Made(noop_event()?), EVENT_LINE);
     Ok(())
 }
 
@@ -68,13 +78,13 @@ fn counts_go_by_id_and_wrap(rt: HostRuntime) -> Result<(), Fail> {
     let answer = telemetry(0x0887, 1001, &[0; 4]);
     let mut log = Log::start();
     for count in 0..16384u16 {
-        let stamped = log.stamp(made);
+        let stamped = log.stamp(&made);
         assert_eq!(rt; be16(stamped.bytes(), 2), 0xC000 + count);
     }
-    assert!(rt; log.stamp(answer) == answer);
-    assert!(rt; log.stamp(made) == made);
-    assert!(rt; log.stamp(made) == made.with_sequence(1));
-    assert!(rt; log.stamp(answer) == answer.with_sequence(1));
+    assert!(rt; log.stamp(&answer) == answer);
+    assert!(rt; log.stamp(&made) == made);
+    assert!(rt; log.stamp(&made) == made.with_sequence(1));
+    assert!(rt; log.stamp(&answer) == answer.with_sequence(1));
     Ok(())
 }
 

@@ -1,18 +1,26 @@
 //! The writing of a whole text to a sink that may take it piece by piece.
 
-ghost use Rattle.std.specs.Prelude.{◌≡◌, ◌≤◌, length, drop};
+ghost use Rattle.std.specs.Prelude.{◌≡◌};
 ghost use Rattle.fsw_outside.specs.Told.{WhereTold};
 ghost use Rattle.fsw_outside.specs.Causes.{HasCause};
 ghost use Rattle.fsw_outside.specs.Written.{WritesAll};
 
 use fsw_outside::{Failed, Sink};
+use packet_forms::behind;
 
 /// Writes all of the text, or a proper first part of it where the sink fails.
 pub fn put_text<O: Sink>(sink: &mut O, text: &str) -> Result<(), Failed>
     ensures content { WhereTold (O.held sink.old) (O.held sink.new) (WritesAll result text.now) }
     ensures cause { HasCause (O.held sink.new) (O.faults sink.old) (O.faults sink.new) result }
 {
-    let bytes = text.as_bytes();
+    put_bytes(sink, text.as_bytes())
+}
+
+/// Writes all of the bytes, or a proper first part of them where the sink fails.
+pub fn put_bytes<O: Sink>(sink: &mut O, bytes: &[u8]) -> Result<(), Failed>
+    ensures content { WhereTold (O.held sink.old) (O.held sink.new) (WritesAll result bytes.now) }
+    ensures cause { HasCause (O.held sink.new) (O.faults sink.old) (O.faults sink.new) result }
+{
     let mut at = 0;
     'pieces: while at < bytes.len() {
         match sink.write(behind(bytes, at)) {
@@ -21,12 +29,4 @@ pub fn put_text<O: Sink>(sink: &mut O, text: &str) -> Result<(), Failed>
         }
     }
     Ok(())
-}
-
-/// The bytes from place `at` on.
-fn behind(bytes: &[u8], at: usize) -> &[u8]
-    requires { at ≤ length bytes.now }
-    ensures { result.now ≡ drop at bytes.now }
-{
-    &bytes[at..]
 }

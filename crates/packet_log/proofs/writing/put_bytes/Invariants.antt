@@ -1,6 +1,6 @@
 use Rattle.std.proofs.Common.{◌≡◌, ◌≤◌, ◌-◌, ◌++◌, length, take}
 use Rattle.fsw_outside.specs.Told.{WhereTold}
-use Rattle.packet_log.proofs.writing.put_text.Given as goal
+use Rattle.packet_log.proofs.writing.put_bytes.Given as goal
 
 -- the front of the text is appended, and no fault came
 abbrev pub invariant-pieces : goal.invariant-pieces
