@@ -1,2 +1,4 @@
 pub mod Stamps
 pub mod Digits
+pub mod Blocks
+pub mod Cuts

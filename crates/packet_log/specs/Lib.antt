@@ -3,3 +3,4 @@ pub mod Counts
 pub mod Standing
 pub mod Items
 pub mod Sent
+pub mod Blocks

@@ -1,10 +1,14 @@
 //! Laws of the definitions, as contracts of functions that do nothing.
 
-ghost use Rattle.std.specs.Prelude.{◌≡◌, ◌+◌, ◌%◌, ◌≢◌, ◌++◌, ℕ, List, [], ◌∷◌, true, false, codes};
+ghost use Rattle.std.specs.Prelude.{◌≡◌, ◌<◌, ◌+◌, ◌%◌, ◌≢◌, ◌++◌, ℕ, List, [], ◌∷◌, true, false, Option, Result, Ok, Err, length, take, slice_index_or, codes};
+ghost use Rattle.fsw_outside.specs.Told.{WhereTold};
+ghost use Rattle.fsw_outside.specs.Written.{AppendsPart, WritesAll};
+ghost use Rattle.fsw_outside.specs.declared.traits.Failed.{Failed};
 ghost use Rattle.packet_forms.specs.Packets.{message_id};
 ghost use Rattle.packet_forms.specs.Names.{name_of};
 ghost use Rattle.packet_forms.specs.Built.{command_of, event_of};
 ghost use Rattle.bus_pipes.specs.declared.names.PipeName.{PipeName};
+ghost use Rattle.packet_log.specs.Blocks.{Waiting, Puts, tells, ends_from, joined, whole_in};
 ghost use Rattle.packet_log.specs.Counts.{count_of};
 ghost use Rattle.packet_log.specs.Lines.{packet_line, drop_line};
 
@@ -13,6 +17,29 @@ pub fn counts_go_on()
     ensures none { (id : ℕ) → count_of [] id ≡ 0 }
     ensures same { (made : List (List ℕ)) (p : List ℕ) → count_of (made ++ p ∷ []) (message_id p) ≡ (count_of made (message_id p) + 1) % 16384 }
     ensures other { (made : List (List ℕ)) (p : List ℕ) (id : ℕ) → message_id p ≢ id → count_of (made ++ p ∷ []) id ≡ count_of made id }
+{}
+
+/// Texts stand one behind another, and the last one isn't whole yet: what a sink took of them all ends in a proper first part
+/// of the text behind those that end among what it took.
+pub fn frames_are_cut()
+    ensures cut { (texts : List (List ℕ)) (begun : List ℕ) (taken : ℕ) → taken < length (joined texts) + length begun → AppendsPart (slice_index_or texts (whole_in texts taken) begun) (joined (take (whole_in texts taken) texts)) (take taken (joined texts ++ begun)) }
+    ensures ends_none { (start : ℕ) → ends_from start [] ≡ [] }
+    ensures ends_more { (texts : List (List ℕ)) (start : ℕ) (text : List ℕ) → ends_from start (texts ++ text ∷ []) ≡ ends_from start texts ++ (start + length (joined (texts ++ text ∷ []))) ∷ [] }
+{}
+
+/// A text given to a block, and then another; a part of one; and what is told where it was given.
+pub fn puts_go_on()
+    ensures then { (result : Result Unit Failed) (first second : List ℕ) (old middle new : Waiting) (one two three : Option (List ℕ)) → Puts {E = Failed} (Ok tt) first old middle one two → Puts result second middle new two three → Puts result (first ++ second) old new one three }
+    ensures part { (error : Failed) (first second : List ℕ) (old new : Waiting) (before after : Option (List ℕ)) → Puts (Err error) first old new before after → Puts (Err error) (first ++ second) old new before after }
+    ensures told { (result : Result Unit Failed) (text : List ℕ) (old new : Waiting) (before after : Option (List ℕ)) → Puts result text old new before after → WhereTold (tells before old) (tells after new) (WritesAll result text) }
+{}
+
+/// Three frames of 3, 0 and 2 bytes, of which a sink took 4: two are whole, and the third is cut behind its first byte.
+pub fn worked_cut()
+    ensures ends { ends_from 0 ((1 ∷ 2 ∷ 3 ∷ []) ∷ [] ∷ (4 ∷ 5 ∷ []) ∷ []) ≡ 3 ∷ 3 ∷ 5 ∷ [] }
+    ensures at_four { whole_in ((1 ∷ 2 ∷ 3 ∷ []) ∷ [] ∷ (4 ∷ 5 ∷ []) ∷ []) 4 ≡ 2 }
+    ensures at_three { whole_in ((1 ∷ 2 ∷ 3 ∷ []) ∷ [] ∷ (4 ∷ 5 ∷ []) ∷ []) 3 ≡ 2 }
+    ensures at_two { whole_in ((1 ∷ 2 ∷ 3 ∷ []) ∷ [] ∷ (4 ∷ 5 ∷ []) ∷ []) 2 ≡ 0 }
 {}
 
 /// The event that answers a no-op of MM, and a no-op that the limit of MM's pipe refuses.

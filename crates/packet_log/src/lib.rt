@@ -1,12 +1,14 @@
 //! The lines of the log, the sequence counts, and the writing of a whole text.
 #![tactic(auto)]
 
+mod block;
 mod counts;
 pub mod laws;
 mod lines;
 mod pairs;
 mod writing;
 
+pub use block::{BLOCK_BYTES, BLOCK_ENDS, Block};
 pub use counts::Log;
 pub use lines::{Head, Line, head_of, write_drop, write_item};
 pub use writing::{put_bytes, put_text};

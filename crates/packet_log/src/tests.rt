@@ -2,7 +2,7 @@ ghost use Rattle.std.specs.Prelude.{◌<◌};
 
 use super::*;
 use bus_pipes::{Dropped, Out, PipeName};
-use fsw_outside::MemSink;
+use fsw_outside::{Failed, MemSink};
 use packet_forms::{Name, Packet, be16, command, event, telemetry};
 use std::alloc::Global;
 use std::process::Abort;
@@ -122,4 +122,66 @@ fn short_writes_and_failing_calls(rt: HostRuntime) -> Result<(), Fail> {
     check_put(&rt, alloc, &[13], 7, 91)?;
     check_put(&rt, alloc, &[14], 7, 95)?;
     check_put(&rt, alloc, &[94], 1, 94)
+}
+
+/// The lines of four frames, the second of which has none, and where each ends.
+const FRAMES: [(&str, u32); 4] = [
+    ("0 reset\n", 8),
+    ("", 8),
+    ("2 restart LOAD\n", 23),
+    ("3 delete LOAD\n", 37),
+];
+
+const LINES: &str = "0 reset\n2 restart LOAD\n3 delete LOAD\n";
+
+/// Hands the frames in one block to a sink that takes one byte a call, of which one call fails, and then hands on the rest.
+fn check_cut(rt: &impl Abort, alloc: Global, failing: u32) -> Result<(), Fail> {
+    let mut block = Block::open(alloc)?;
+    let mut sink = MemSink::short(alloc, &[failing], 1000, 1)?;
+    let mut late = 0;
+    for (lines, end) in FRAMES {
+        assert!(rt; block.write(&mut sink, lines.as_bytes()) == Ok(()));
+        assert!(rt; block.mark_end(&mut sink) == Ok(()));
+        late += if end > failing { 1 } else { 0 };
+    }
+    assert_eq!(rt; sink.bytes().len(), 0);
+    assert_eq!(rt; block.late_frames(), 4);
+    assert!(rt; block.flush(&mut sink) == Err(Failed));
+    assert!(rt; LINES.as_bytes().get(..failing as usize) == Some(sink.bytes()));
+    assert_eq!(rt; block.late_frames(), late);
+    assert!(rt; block.flush(&mut sink) == Ok(()));
+    assert_eq!(rt; sink.bytes(), LINES.as_bytes());
+    assert_eq!(rt; block.late_frames(), 0);
+    Ok(())
+}
+
+#[test]
+fn a_block_is_cut_at_each_byte(rt: HostRuntime) -> Result<(), Fail> {
+    for failing in 0..37 {
+        check_cut(&rt, rt.alloc(), failing)?;
+    }
+    Ok(())
+}
+
+// What doesn't fit is written behind what waited, and a frame's end behind the 1,024 that were noted.
+#[test]
+fn a_full_block_is_handed_on(rt: HostRuntime) -> Result<(), Fail> {
+    let mut block = Block::open(rt.alloc())?;
+    let mut sink = MemSink::new(rt.alloc(), &[1], 200_000)?;
+    let piece = [b'.'; 32768];
+    for _ in 0..2 {
+        assert!(rt; block.write(&mut sink, &piece) == Ok(()));
+    }
+    assert_eq!(rt; sink.bytes().len(), 0);
+    assert!(rt; block.write(&mut sink, b"\n") == Ok(()));
+    assert_eq!(rt; sink.bytes().len(), 65536);
+    for _ in 0..1024 {
+        assert!(rt; block.mark_end(&mut sink) == Ok(()));
+    }
+    assert!(rt; block.mark_end(&mut sink) == Err(Failed));
+    assert_eq!(rt; block.late_frames(), 1024);
+    assert!(rt; block.mark_end(&mut sink) == Ok(()));
+    assert_eq!(rt; sink.bytes().len(), 65537);
+    assert_eq!(rt; block.late_frames(), 0);
+    Ok(())
 }
