@@ -138,11 +138,11 @@ const LINES: &str = "0 reset\n2 restart LOAD\n3 delete LOAD\n";
 fn check_cut(rt: &impl Abort, alloc: Global, failing: u32) -> Result<(), Fail> {
     let mut block = Block::open(alloc)?;
     let mut sink = MemSink::short(alloc, &[failing], 1000, 1)?;
-    let mut late = 0;
+    let mut late: u32 = 0;
     for (lines, end) in FRAMES {
         assert!(rt; block.write(&mut sink, lines.as_bytes()) == Ok(()));
         assert!(rt; block.mark_end(&mut sink) == Ok(()));
-        late += if end > failing { 1 } else { 0 };
+        late = late.wrapping_add(u32::from(end > failing));
     }
     assert_eq!(rt; sink.bytes().len(), 0);
     assert_eq!(rt; block.late_frames(), 4);

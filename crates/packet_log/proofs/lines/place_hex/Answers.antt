@@ -1,4 +1,4 @@
-use Rattle.std.proofs.Common.{◌≡◌, ◌∙◌, ap, length, refl, arith}
+use Rattle.std.proofs.Common.{◌∙◌, ap, length, refl, arith}
 use Rattle.packet_log.proofs.Digits.{front_none, front_more, length-front}
 use Rattle.packet_log.proofs.lines.place_hex.Goals as goal
 

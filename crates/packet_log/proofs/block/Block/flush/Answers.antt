@@ -1,4 +1,4 @@
-use Rattle.std.proofs.Common.{◌≡◌, ◌≤◌, ◌+◌, ◌-◌, drop, length, ap, ◌∙◌, length-drop, List, ℕ, arith}
+use Rattle.std.proofs.Common.{◌≡◌, ◌-◌, drop, length, ap, ◌∙◌, length-drop, arith}
 use Rattle.packet_log.proofs.Blocks.{notes_cut, notes_handed, tells_cut}
 use Rattle.packet_log.proofs.block.Block.flush.Goals as goal
 

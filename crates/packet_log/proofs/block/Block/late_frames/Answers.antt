@@ -1,4 +1,4 @@
-use Rattle.std.proofs.Common.{◌∙◌, sym, ap}
+use Rattle.std.proofs.Common.{◌∙◌, ap}
 use Rattle.packet_log.specs.Blocks.{Waiting, late_in}
 use Rattle.packet_log.proofs.Blocks.{late_noted}
 use Rattle.packet_log.proofs.block.Block.late_frames.Goals as goal

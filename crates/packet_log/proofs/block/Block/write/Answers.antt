@@ -1,4 +1,4 @@
-use Rattle.std.proofs.Common.{◌+◌, length, ap, arith}
+use Rattle.std.proofs.Common.{arith}
 use Rattle.packet_log.proofs.Blocks.{puts_whole, puts_none}
 use Rattle.packet_log.proofs.block.Block.write.Goals as goal
 

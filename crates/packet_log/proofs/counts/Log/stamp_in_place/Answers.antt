@@ -1,5 +1,4 @@
-use Rattle.std.proofs.Common.{◌∙◌, ap, sym}
-use Rattle.packet_forms.specs.Built.{with_sequence}
+use Rattle.std.proofs.Common.{◌∙◌, sym}
 use Rattle.packet_log.proofs.counts.Log.stamp_in_place.Goals as goal
 use Rattle.packet_log.proofs.Stamps.{stamped_with}
 
