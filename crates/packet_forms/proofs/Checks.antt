@@ -1,5 +1,5 @@
 -- The check by whole bytes: it is linear, so a byte's part in it can be read from a table.
-use Rattle.std.proofs.Common.{◌≡◌, ℕ, zero, suc, ◌+◌, ◌*◌, ◌/◌, ◌%◌, ◌<◌, ◌^◌, Bool, true, false, not, cond, List, [], ◌∷◌, ◌++◌, length, get_or, refl, sym, ap, ◌∙◌, arith, add-zero, mul_assoc, length-append, take, drop, ◌≤◌}
+use Rattle.std.proofs.Common.{◌≡◌, ℕ, zero, suc, ◌+◌, ◌*◌, ◌/◌, ◌%◌, ◌<◌, ◌^◌, Bool, true, false, not, cond, List, [], ◌∷◌, ◌++◌, length, get_or, refl, sym, ap, ◌∙◌, arith, add-zero, mul_assoc, length-append, take, drop, ◌≤◌, ◌-◌, length-drop}
 use Rattle.std.specs.Prelude.{◌==◌, flat_map}
 use Rattle.std.specs.List.{fold}
 use Rattle.std.specs.Int.Bits.{bit_xor, xor_self, xor_zero_l, xor_zero_r, xor_assoc, xor_add_and}
@@ -8,7 +8,7 @@ use Rattle.std.proofs.Math.Nat.{pow-suc}
 use Rattle.std.proofs.lemmas.Bool.Decides.{nat_tests}
 use Rattle.std.proofs.lemmas.List.Sums.{fold-append}
 use Rattle.std.proofs.lemmas.Grind.{flat_map-append}
-use Rattle.std.proofs.lemmas.List.{take_all}
+use Rattle.std.proofs.lemmas.List.{take_all, length-take-le}
 use Rattle.std.proofs.Math.Seq.{take-add}
 use Rattle.packet_forms.specs.Crc.{low_bits, crc_bit, crc_of, after_zeros}
 
@@ -24,7 +24,7 @@ crc_none c = refl
 odd_sum : (m n : ℕ) → ((m + n) % 2 == 1) ≡ cond (m % 2 == 1) (not (n % 2 == 1)) (n % 2 == 1)
 odd_sum m n = grind (arith, nat_tests)
 
-swapped : (x y k : ℕ) → bit_xor (bit_xor x y) k ≡ bit_xor (bit_xor x k) y
+pub swapped : (x y k : ℕ) → bit_xor (bit_xor x y) k ≡ bit_xor (bit_xor x k) y
 swapped x y k = xor_assoc x y k ∙ ap (bit_xor x) (xor_comm y k) ∙ sym (xor_assoc x k y)
 
 cancelled : (x y k : ℕ) → bit_xor (bit_xor x k) (bit_xor y k) ≡ bit_xor x y
@@ -62,7 +62,7 @@ unfolding after_zeros
 zeros_both zero m x = let e : 0 + m ≡ m = omega arith in ap (λ (k : ℕ). after_zeros k x) e
 zeros_both (suc n) m x = let e : suc n + m ≡ suc (n + m) = omega arith in ap (λ (k : ℕ). after_zeros k x) e ∙ zeros_both n m (crc_bit x 0)
 
-even_half : (m : ℕ) → crc_bit (m * 2) 0 ≡ m
+pub even_half : (m : ℕ) → crc_bit (m * 2) 0 ≡ m
 unfolding crc_bit
 even_half m =
     let even : ((m * 2 + 0) % 2 == 1) ≡ false = grind (arith, nat_tests) in
@@ -91,7 +91,7 @@ bit_in c b small =
     rw (half_bit c b small, same) refl
 
 -- its lowest bits and the others
-apart_at : (k m : ℕ) → bit_xor (m / 2 ^ k * 2 ^ k) (m % 2 ^ k) ≡ m
+pub apart_at : (k m : ℕ) → bit_xor (m / 2 ^ k * 2 ^ k) (m % 2 ^ k) ≡ m
 apart_at k m =
     let some = pow_pos k in
     let low : m % 2 ^ k < 2 ^ k = omega arith in
@@ -102,7 +102,7 @@ apart_at k m =
     ∙ ap (λ (x : ℕ). x * 2 ^ k + bit_xor 0 (m % 2 ^ k)) (xor_zero_r (m / 2 ^ k)) ∙ ap (λ (x : ℕ). m / 2 ^ k * 2 ^ k + x) (xor_zero_l (m % 2 ^ k))
     ∙ shr_split m k
 
-apart : (m : ℕ) → bit_xor (m / 2 * 2) (m % 2) ≡ m
+pub apart : (m : ℕ) → bit_xor (m / 2 * 2) (m % 2) ≡ m
 apart m = apart_at 1 m
 
 -- the n lowest bits of a number that has no others, after a check
@@ -229,6 +229,21 @@ block_more start crc after k size bytes eight before here =
     here ∙ ap (λ (n : ℕ). crc_of n (take size (drop (8 * k) bytes))) before
     ∙ sym (crc_both start (take (8 * k) bytes) (take size (drop (8 * k) bytes)))
     ∙ ap (crc_of start) (sym (take-add (8 * k) size bytes) ∙ ap (λ (n : ℕ). take n bytes) next)
+
+-- the check of one piece more
+pub piece_more : (start crc after k size : ℕ) (bytes : List ℕ) → size ≡ 1024 → 1024 * (k + 1) ≤ length bytes → crc ≡ crc_of start (take (1024 * k) bytes)
+    → after ≡ crc_of crc (take (length (take size (drop (1024 * k) bytes)) / 8 * 8) (take size (drop (1024 * k) bytes))) → after ≡ crc_of start (take (1024 * (k + 1)) bytes)
+piece_more start crc after k size bytes long within before here =
+    let rest : length (drop (1024 * k) bytes) ≡ length bytes - 1024 * k = length-drop (1024 * k) bytes in
+    let piece : length (take size (drop (1024 * k) bytes)) ≡ size = length-take-le size (drop (1024 * k) bytes) (omega (arith, long, within, rest)) in
+    let whole : size ≡ length (take size (drop (1024 * k) bytes)) / 8 * 8 = omega (arith, piece, long) in
+    let next : 1024 * k + size ≡ 1024 * (k + 1) = omega (arith, long) in
+    here
+    ∙ ap (λ (n : ℕ). crc_of crc (take n (take size (drop (1024 * k) bytes)))) (sym whole)
+    ∙ ap (crc_of crc) (take_all size (take size (drop (1024 * k) bytes)) (omega (arith, piece)))
+    ∙ ap (λ (n : ℕ). crc_of n (take size (drop (1024 * k) bytes))) before
+    ∙ sym (crc_both start (take (1024 * k) bytes) (take size (drop (1024 * k) bytes)))
+    ∙ ap (crc_of start) (sym (take-add (1024 * k) size bytes) ∙ ap (λ (n : ℕ). take n bytes) next)
 
 -- and that of the bytes behind the blocks
 pub rest_more : (start crc after n size : ℕ) (bytes : List ℕ) → length bytes ≤ n + size → crc ≡ crc_of start (take n bytes) → after ≡ crc_of crc (take size (drop n bytes)) → after ≡ crc_of start bytes

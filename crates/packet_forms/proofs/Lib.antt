@@ -1,3 +1,4 @@
 pub mod Forms
 pub mod NameForms
 pub mod Checks
+pub mod Folding

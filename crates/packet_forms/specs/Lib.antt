@@ -6,3 +6,4 @@ pub mod Names
 pub mod Built
 pub mod Crc
 pub mod Worked
+pub mod Folds

@@ -4,16 +4,49 @@ ghost use Rattle.std.specs.Prelude.{◌≡◌, ◌+◌, ◌*◌, ◌/◌, ◌<�
 ghost use Rattle.packet_forms.specs.Crc.{after_zeros, crc_of};
 
 use crate::crc_rows::ROWS;
+use crate::fold::{FEWEST_FOLDED, MOST_FOLDED, after_words};
 
 /// The check of these bytes that goes on from `start`: polynomial 0xA001, each byte's lowest bit first, no final change.
 pub fn crc16(start: u16, bytes: &[u8]) -> u16
     ensures { result ≡ crc_of start bytes.now }
 {
-    let whole = bytes.len() / 8 * 8;
-    after_each(after_blocks(start, bytes), &bytes[whole..])
+    let whole = bytes.len() / MOST_FOLDED * MOST_FOLDED;
+    after_few(after_pieces(start, bytes), &bytes[whole..])
 }
 
-// The check of the bytes that come in whole blocks of eight.
+// The check of the bytes that come in whole pieces of 1,024.
+fn after_pieces(start: u16, bytes: &[u8]) -> u16
+    ensures { result ≡ crc_of start (take (length bytes.now / 1024 * 1024) bytes.now) }
+{
+    let mut crc = start;
+    for k in 0..bytes.len() / MOST_FOLDED {
+        crc = after_words(crc, &bytes[1024 * k..1024 * k + 1024]);
+    }
+    crc
+}
+
+// The check of fewer than 1,024 bytes.
+fn after_few(start: u16, bytes: &[u8]) -> u16
+    requires { length bytes.now < 1024 }
+    ensures { result ≡ crc_of start bytes.now }
+{
+    let whole = bytes.len() / 8 * 8;
+    after_each(after_eights(start, bytes), &bytes[whole..])
+}
+
+// The check of the bytes that come in whole blocks of eight, folded where there are enough of them.
+fn after_eights(start: u16, bytes: &[u8]) -> u16
+    requires { length bytes.now < 1024 }
+    ensures { result ≡ crc_of start (take (length bytes.now / 8 * 8) bytes.now) }
+{
+    if bytes.len() < FEWEST_FOLDED {
+        after_blocks(start, bytes)
+    } else {
+        after_words(start, bytes)
+    }
+}
+
+// The check of the bytes that come in whole blocks of eight, each looked up.
 fn after_blocks(start: u16, bytes: &[u8]) -> u16
     ensures { result ≡ crc_of start (take (length bytes.now / 8 * 8) bytes.now) }
 {
@@ -44,7 +77,7 @@ fn after_one(crc: u16, byte: u8) -> u16
 }
 
 #[inline(always)]
-fn after_eight(crc: u16, bytes: &[u8]) -> u16
+pub(crate) fn after_eight(crc: u16, bytes: &[u8]) -> u16
     requires { length bytes.now ≡ 8 }
     ensures { result ≡ crc_of crc bytes.now }
 {

@@ -5,6 +5,7 @@ mod build;
 mod byte_list;
 mod crc;
 mod crc_rows;
+mod fold;
 pub mod laws;
 pub mod message_ids;
 mod name;

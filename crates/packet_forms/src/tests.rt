@@ -121,3 +121,26 @@ fn check_in_two_parts(rt: HostRuntime) -> Result<(), Fail> {
     }
     Ok(())
 }
+
+// Lists of several lengths, with the checks of another program that takes one bit at a time.
+#[test]
+fn long_checks(rt: HostRuntime) -> Result<(), Fail> {
+    let mut bytes = [0; 3000];
+    for i in 0..3000usize {
+        bytes[i] = ((i * i + 7 * i) % 251) as u8;
+    }
+    let rows = [
+        (255, 0xD583),
+        (256, 0x7C95),
+        (263, 0xAF22),
+        (1023, 0x665D),
+        (1024, 0xBCE7),
+        (1025, 0x907D),
+        (2048, 0x4C6A),
+        (3000, 0xA77A),
+    ];
+    for (length, check) in rows {
+        assert!(rt; bytes.get(..length).map(|part| crc16(0x1D0F, part)) == Some(check));
+    }
+    Ok(())
+}

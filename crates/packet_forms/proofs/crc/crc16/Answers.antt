@@ -3,4 +3,4 @@ use Rattle.packet_forms.proofs.Checks.{rest_more}
 use Rattle.packet_forms.proofs.crc.crc16.Goals as goal
 
 pub returns : goal.returns
-returns c = rest_more c.args.start c.after_blocks.result c.after_each.result (length c.args.bytes.now / 8 * 8) _ c.args.bytes.now (omega arith) c.after_blocks.ensures c.after_each.ensures
+returns c = rest_more c.args.start c.after_pieces.result c.after_few.result (length c.args.bytes.now / 1024 * 1024) _ c.args.bytes.now (omega arith) c.after_pieces.ensures c.after_few.ensures

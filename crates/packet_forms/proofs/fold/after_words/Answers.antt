@@ -1,0 +1,20 @@
+use Rattle.std.proofs.Common.{◌≡◌, ◌≤◌, ◌<◌, ◌+◌, ◌*◌, ◌/◌, ℕ, length, take, drop, get_or, ap, sym, ◌∙◌, arith}
+use Rattle.packet_forms.specs.Crc.{after_zeros, crc_of}
+use Rattle.packet_forms.specs.Folds.{word_in, words_check}
+use Rattle.std.proofs.lemmas.List.Elements.{All-from_get_or}
+use Rattle.packet_forms.proofs.Folding.{sums_begin, crc_words, word_in_crc}
+use Rattle.packet_forms.proofs.fold.after_words.Goals as goal
+
+pub fold_front-requires-clause-zeros : goal.fold_front-requires-clause-zeros
+fold_front-requires-clause-zeros c k far = c.sums_of-sums.ensures.zeros k (omega (arith, far))
+
+pub returns : goal.returns
+returns c =
+    let bytes = c.args.bytes.now in
+    let words : ℕ = length bytes / 8 in
+    let size : 8 * words ≡ words * 8 = omega arith in
+    c.after_last.ensures
+    ∙ c.fold_front.ensures
+    ∙ sums_begin (word_in bytes) (λ (k : ℕ). get_or c.sums_of-sums.result k 0) c.args.start words (omega (arith, c.requires.many)) c.sums_of-sums.ensures.first c.sums_of-sums.ensures.zeros
+    ∙ sym (crc_words (word_in bytes) bytes c.args.start 0 words (λ k j h. word_in_crc bytes k j (omega (arith, h)) (All-from_get_or (λ (b : ℕ). b < 256) bytes 0 (λ i within. (c.type_inv.bytes i).fits))))
+    ∙ ap (λ (n : ℕ). crc_of c.args.start (take n bytes)) size
