@@ -1,5 +1,5 @@
 -- What the bytes of a space packet say (CCSDS 133.0-B, with a command header made after the cFE's).
-use Rattle.std.specs.Prelude.{◌≡◌, ◌≤◌, ℕ, ◌+◌, ◌-◌, ◌/◌, ◌%◌, ◌==◌, Bool, if◌then◌else◌, List, [], ◌∷◌, length, drop, slice_index, bit_xor}
+use Rattle.std.specs.Prelude.{◌≡◌, ◌≤◌, ℕ, ◌+◌, ◌/◌, ◌%◌, ◌==◌, Bool, if◌then◌else◌, List, [], ◌∷◌, length, drop, slice_index, bit_xor}
 use Rattle.std.specs.List.{fold}
 use Rattle.packet_forms.specs.Numbers.{be16_at}
 

@@ -1,6 +1,6 @@
-use Rattle.std.proofs.Common.{◌≡◌, ◌≤◌, ◌<◌, ◌+◌, ◌*◌, ◌/◌, ℕ, length, take, drop, get_or, ap, sym, ◌∙◌, arith}
-use Rattle.packet_forms.specs.Crc.{after_zeros, crc_of}
-use Rattle.packet_forms.specs.Folds.{word_in, words_check}
+use Rattle.std.proofs.Common.{◌≡◌, ◌<◌, ◌*◌, ◌/◌, ℕ, length, take, get_or, ap, sym, ◌∙◌, arith}
+use Rattle.packet_forms.specs.Crc.{crc_of}
+use Rattle.packet_forms.specs.Folds.{word_in}
 use Rattle.std.proofs.lemmas.List.Elements.{All-from_get_or}
 use Rattle.packet_forms.proofs.Folding.{sums_begin, crc_words, word_in_crc}
 use Rattle.packet_forms.proofs.fold.after_words.Goals as goal

@@ -1,5 +1,5 @@
-use Rattle.std.proofs.Common.{◌≡◌, ◌+◌, ◌∙◌, subst, sym, append_assoc, take, drop}
-use Rattle.packet_forms.specs.Built.{with_sequence, IsRecounted}
+use Rattle.std.proofs.Common.{◌≡◌, ◌+◌, subst, sym, append_assoc, take, drop}
+use Rattle.packet_forms.specs.Built.{with_sequence}
 use Rattle.packet_forms.specs.Numbers.{be16_bytes}
 use Rattle.packet_forms.specs.Packets.{IsPacket}
 use Rattle.packet_forms.proofs.Forms.{recounted}
