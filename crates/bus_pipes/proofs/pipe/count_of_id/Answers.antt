@@ -1,5 +1,5 @@
-use Rattle.std.proofs.Common.{ap, sym, ◌∙◌, ◌==◌, Bool, cond, ℕ, ◌+◌, arith}
-use Rattle.std.proofs.lemmas.List.{take_all, length-take-le}
+use Rattle.std.proofs.Common.{ap, sym, ◌∙◌, ◌==◌, cond, ℕ, ◌+◌, arith}
+use Rattle.std.proofs.lemmas.List.{take_all}
 use Rattle.bus_pipes.specs.Pipes.{count_of_id}
 use Rattle.bus_pipes.proofs.Deliveries.{count_of_none, count_more}
 use Rattle.bus_pipes.proofs.pipe.count_of_id.Goals as goal

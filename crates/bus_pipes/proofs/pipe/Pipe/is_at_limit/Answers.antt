@@ -1,5 +1,5 @@
-use Rattle.std.proofs.Common.{◌≡◌, ◌≤◌, ◌<◌, length, sym, subst, arith}
-use Rattle.bus_pipes.specs.Pipes.{PipeState, count_of_id}
+use Rattle.std.proofs.Common.{◌≤◌, length, arith}
+use Rattle.bus_pipes.specs.Pipes.{count_of_id}
 use Rattle.bus_pipes.proofs.Deliveries.{count_of_few, under_limit}
 use Rattle.bus_pipes.proofs.pipe.Pipe.is_at_limit.Goals as goal
 
