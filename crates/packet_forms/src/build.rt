@@ -7,14 +7,20 @@ ghost use Rattle.packet_forms.specs.Built.{command_of, telemetry_of, event_of, e
 use crate::byte_list::ByteList;
 use crate::message_ids::EVENT;
 use crate::name::Name;
-use crate::packet::{Packet, exclusive_or};
+use crate::packet::{PACKET_BYTES, Packet, exclusive_or};
+
+/// The most bytes of a command's payload.
+pub const COMMAND_PAYLOAD: usize = 248;
+
+/// The most bytes of a telemetry packet's payload.
+pub const TELEMETRY_PAYLOAD: usize = 244;
 
 /// A command of at most 248 payload bytes: sequence count 0, its checksum right.
 pub fn command(mid: u16, code: u8, payload: &[u8]) -> Packet
     requires version { mid < 8192 }
     requires kind { is_command_id mid ≡ true }
     requires code { code ≤ 127 }
-    requires size { length payload.now ≤ 248 }
+    requires size { length payload.now ≤ COMMAND_PAYLOAD }
     ensures bytes { result ≡ command_of mid code payload.now }
     ensures reads_back { IsCommandOf mid code payload.now result }
 {
@@ -30,7 +36,7 @@ pub fn command(mid: u16, code: u8, payload: &[u8]) -> Packet
 /// Telemetry of at most 244 payload bytes: subseconds 0, sequence count 0.
 pub fn telemetry(mid: u16, secs: u32, payload: &[u8]) -> Packet
     requires version { mid < 8192 }
-    requires size { length payload.now ≤ 244 }
+    requires size { length payload.now ≤ TELEMETRY_PAYLOAD }
     ensures bytes { result ≡ telemetry_of mid secs payload.now }
     ensures reads_back { IsTelemetryOf mid payload.now result }
 {
@@ -60,10 +66,10 @@ pub fn event(name: Name, id: u16, kind: u16, secs: u32) -> Packet
 
 #[tactic(auto, unfolding(crate::specs::Built::primary_header, crate::specs::Numbers::be16_bytes))]
 /// Begins a packet of `size` bytes with its header of six bytes.
-fn begin(draft: &mut ByteList<256>, mid: u16, size: usize)
+fn begin(draft: &mut ByteList<PACKET_BYTES>, mid: u16, size: usize)
     requires fresh { length draft.old ≡ 0 }
     requires long { 7 < size }
-    requires short { size ≤ 256 }
+    requires short { size ≤ PACKET_BYTES }
     ensures header { draft.new ≡ primary_header mid size }
     ensures six { length draft.new ≡ 6 }
 {

@@ -13,12 +13,12 @@ mod numbers;
 mod packet;
 mod pieces;
 
-pub use build::{command, event, telemetry};
+pub use build::{COMMAND_PAYLOAD, TELEMETRY_PAYLOAD, command, event, telemetry};
 pub use byte_list::ByteList;
 pub use crc::crc16;
 pub use name::{Counter, Name};
 pub use numbers::{be16, be32};
-pub use packet::{Packet, PacketFault};
+pub use packet::{PACKET_BYTES, Packet, PacketFault};
 pub use pieces::{are_zeros, behind, front, place};
 
 #[cfg(test)]

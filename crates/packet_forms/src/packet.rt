@@ -40,10 +40,13 @@ impl PacketFault {
     }
 }
 
+/// The most bytes of a packet.
+pub const PACKET_BYTES: usize = 256;
+
 /// A space packet, seen as the list of its 8 to 256 bytes.
 #[derive(Clone, Copy, Debug, PartialEq, Eq)]
 pub struct Packet {
-    list: ByteList<256>,
+    list: ByteList<PACKET_BYTES>,
 }
 
 impl Model for Packet {
@@ -72,7 +75,7 @@ impl Packet {
     }
 
     /// The packet of these bytes.
-    pub(crate) fn of_list(list: &ByteList<256>) -> Packet
+    pub(crate) fn of_list(list: &ByteList<PACKET_BYTES>) -> Packet
         requires { IsPacket list.now }
         ensures { result ≡ list.now }
     {
@@ -84,7 +87,7 @@ impl Packet {
         ensures value { result.now ≡ self.now }
         ensures packet { IsPacket self.now }
         ensures long { 8 ≤ length result.now }
-        ensures short { length result.now ≤ 256 }
+        ensures short { length result.now ≤ PACKET_BYTES }
     {
         self.list.bytes()
     }
@@ -162,7 +165,7 @@ fn find_fault(bytes: &[u8]) -> Option<PacketFault>
     if bytes.len() < 8 {
         return Some(PacketFault::Short);
     }
-    if bytes.len() > 256 {
+    if bytes.len() > PACKET_BYTES {
         return Some(PacketFault::Long);
     }
     if bytes[0] / 32 != 0 {

@@ -1,5 +1,6 @@
 -- When a log stands for the packets that were stamped.
 use Rattle.std.specs.Prelude.{◌≡◌, ◌<◌, ◌≤◌, ℕ, List, length, slice_index, Some}
+use Rattle.packet_log.specs.declared.block.TheConstants.{BLOCK_BYTES, BLOCK_ENDS}
 use Rattle.packet_log.specs.Counts.{place_of, count_of}
 
 -- each count is below 16,384
@@ -14,7 +15,7 @@ pub record Stands (made : List (List ℕ)) (counts : List ℕ) : Type 0 where
 -- what a block holds is within what was reserved for it, and the sink took no more than there is
 pub record IsRoomy (size capacity taken ends ends_capacity : ℕ) : Type 0 where
   pub within : taken ≤ size
-  pub full : size ≤ 65536
-  pub room : 65536 ≤ capacity
-  pub few : ends ≤ 1024
-  pub ends_room : 1024 ≤ ends_capacity
+  pub full : size ≤ BLOCK_BYTES
+  pub room : BLOCK_BYTES ≤ capacity
+  pub few : ends ≤ BLOCK_ENDS
+  pub ends_room : BLOCK_ENDS ≤ ends_capacity

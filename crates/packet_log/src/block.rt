@@ -56,7 +56,7 @@ impl Block {
     /// Puts the bytes behind those that wait. Where they don't fit, what waits is handed on first, and where that fails the
     /// bytes are left out.
     pub fn write<O: Sink>(&mut self, sink: &mut O, bytes: &[u8]) -> Result<(), Failed>
-        requires { length bytes.now ≤ 65536 }
+        requires { length bytes.now ≤ BLOCK_BYTES }
         ensures puts { Puts result bytes.now self.old self.new (O.held sink.old) (O.held sink.new) }
         ensures left { OnErr result (0 < length self.new.bytes) }
         ensures cause { HasCause (O.held sink.new) (O.faults sink.old) (O.faults sink.new) result }
@@ -113,14 +113,14 @@ impl Block {
     }
 
     fn append(&mut self, bytes: &[u8])
-        requires { self.old.taken + length self.old.bytes + length bytes.now ≤ 65536 }
+        requires { self.old.taken + length self.old.bytes + length bytes.now ≤ BLOCK_BYTES }
         ensures { self.new ≡ record self.old { bytes = self.old.bytes ++ bytes.now } }
     {
         self.bytes.extend_from_slice(bytes).unwrap();
     }
 
     fn note(&mut self)
-        requires { length self.old.ends < 1024 }
+        requires { length self.old.ends < BLOCK_ENDS }
         ensures { self.new ≡ record self.old { ends = self.old.ends ++ (self.old.taken + length self.old.bytes) ∷ [] } }
     {
         self.ends.push_reserved(self.bytes.len());
@@ -129,7 +129,7 @@ impl Block {
     /// How many of the frames whose ends were noted have bytes that the sink didn't take.
     pub fn late_frames(&self) -> u32
         ensures value { (ends : List ℕ) (given : ℕ) → Notes ends given self.now → result ≡ late_in ends (given - length self.now.bytes) }
-        ensures few { result ≤ 1024 }
+        ensures few { result ≤ BLOCK_ENDS }
     {
         late_among(&self.ends, self.from) as u32
     }

@@ -10,7 +10,7 @@ mod writing;
 
 pub use block::{BLOCK_BYTES, BLOCK_ENDS, Block};
 pub use counts::Log;
-pub use lines::{Head, Line, head_of, write_drop, write_item};
+pub use lines::{HEAD_BYTES, Head, Line, head_of, write_drop, write_item};
 pub use writing::{put_bytes, put_text};
 
 #[cfg(test)]

@@ -11,7 +11,10 @@ use packet_forms::{ByteList, Packet, place};
 use std::marker::Model;
 
 /// The digits of a frame's number, with which each of its lines begins.
-pub type Head = ByteList<40>;
+pub type Head = ByteList<HEAD_BYTES>;
+
+/// The most bytes of a number in a line.
+pub const HEAD_BYTES: usize = 40;
 
 /// The longest line is that of a dropped packet of 256 bytes, below 640 bytes.
 const LINE_BYTES: usize = 640;
@@ -25,12 +28,13 @@ pub struct Line {
 
 impl Model for Line {
     ghost use Rattle.std.specs.Prelude.{◌≡◌, ◌≤◌, List, ℕ, length, take};
+    ghost use Rattle.packet_log.specs.declared.lines.TheConstants.{LINE_BYTES};
 
     ghost Value = { List ℕ };
 
     ghost view = { λ a. take a.len a.places };
 
-    ghost invariant = { λ a. (a.len ≤ 640) × (length a.places ≡ 640) };
+    ghost invariant = { λ a. (a.len ≤ LINE_BYTES) × (length a.places ≡ LINE_BYTES) };
 }
 
 impl Line {
@@ -59,7 +63,7 @@ impl Line {
 
     #[inline(always)]
     fn append(&mut self, piece: &[u8])
-        requires { length self.old + length piece.now ≤ 640 }
+        requires { length self.old + length piece.now ≤ LINE_BYTES }
         ensures { self.new ≡ self.old ++ piece.now }
     {
         place(&mut self.places, self.len, piece);
@@ -68,7 +72,7 @@ impl Line {
 
     // Appends the bytes in hexadecimal digits.
     fn append_hex(&mut self, bytes: &[u8])
-        requires { length self.old + 2 * length bytes.now ≤ 640 }
+        requires { length self.old + 2 * length bytes.now ≤ LINE_BYTES }
         ensures value { self.new ≡ self.old ++ hex bytes.now }
         ensures size { length self.new ≡ length self.old + 2 * length bytes.now }
     {
@@ -105,7 +109,7 @@ pub fn head_of(frame: u32) -> Head
 
 /// Makes the line that of an item: of its packet, or of its request. `head` is what `head_of` gives of the frame's number.
 pub fn write_item(line: &mut Line, head: &[u8], item: &Out)
-    requires { length head.now ≤ 40 }
+    requires { length head.now ≤ HEAD_BYTES }
     ensures { (frame : ℕ) → head.now ≡ decimal frame → line.new ≡ item_line frame item.now }
 {
     match item {
@@ -120,7 +124,7 @@ pub fn write_item(line: &mut Line, head: &[u8], item: &Out)
 /// Makes the line that of a packet that was dropped. `head` is what `head_of` gives of the frame's number.
 #[tactic(auto, unfolding(crate::specs::Lines::drop_line))]
 pub fn write_drop(line: &mut Line, head: &[u8], lost: &Dropped)
-    requires { length head.now ≤ 40 }
+    requires { length head.now ≤ HEAD_BYTES }
     ensures { (frame : ℕ) → head.now ≡ decimal frame → line.new ≡ drop_line frame lost.now }
 {
     line.clear();
@@ -135,7 +139,7 @@ pub fn write_drop(line: &mut Line, head: &[u8], lost: &Dropped)
 // Makes the line that of a packet that was sent.
 #[tactic(auto, unfolding(crate::specs::Lines::packet_line))]
 fn write_packet(line: &mut Line, head: &[u8], packet: &Packet)
-    requires { length head.now ≤ 40 }
+    requires { length head.now ≤ HEAD_BYTES }
     ensures { (frame : ℕ) → head.now ≡ decimal frame → line.new ≡ packet_line frame packet.now }
 {
     line.clear();
@@ -148,7 +152,7 @@ fn write_packet(line: &mut Line, head: &[u8], packet: &Packet)
 // Makes the line that of a request.
 #[tactic(auto, unfolding(crate::specs::Items::request_line))]
 fn write_request(line: &mut Line, head: &[u8], item: &Out)
-    requires short { length head.now ≤ 40 }
+    requires short { length head.now ≤ HEAD_BYTES }
     requires request { is_request item.now ≡ true }
     ensures { (frame : ℕ) → head.now ≡ decimal frame → line.new ≡ request_line frame item.now }
 {
@@ -161,7 +165,7 @@ fn write_request(line: &mut Line, head: &[u8], item: &Out)
 // Appends what a line says of a request.
 #[tactic(auto, unfolding(packet_forms::specs::Names::is_name_text))]
 fn append_request(line: &mut Line, item: &Out)
-    requires { length line.old ≤ 40 }
+    requires { length line.old ≤ HEAD_BYTES }
     ensures value { line.new ≡ line.old ++ request_text item.now }
     ensures short { length line.new ≤ 80 }
 {
