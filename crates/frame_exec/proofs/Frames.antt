@@ -15,24 +15,24 @@ use Rattle.memory_window.specs.declared.regions.Region.{Region}
 use Rattle.memory_window.specs.declared.operations.MemOp.{MemOp}
 use Rattle.memory_window.specs.Landing.{land}
 use Rattle.memory_window.proofs.Areas.{regions-changed, regions-cut}
-use Rattle.mm_core.specs.Standing.{Stands as MmStands}
 use Rattle.packet_log.specs.Items.{item_line}
 use Rattle.packet_log.specs.Lines.{drop_line}
 use Rattle.packet_log.specs.Standing.{Stands as LogStands}
 use Rattle.scenario.specs.declared.frame.Upset.{Upset}
 use Rattle.scenario.specs.FrameLists.{Frame}
 use Rattle.frame_exec.specs.declared.bench.Bench.{Bench}
-use Rattle.mm_core.specs.declared.step.Mm.{Mm}
-use Rattle.cs_slices.specs.declared.step.Cs.{Cs}
-use Rattle.cs_slices.specs.Given.{SegmentsGiven}
-use Rattle.cs_slices.specs.Standing.{Stands as CsStands}
-use Rattle.frame_exec.specs.Tables.{TableSet}
-use Rattle.md_dwell.specs.declared.step.Md.{Md}
-use Rattle.md_dwell.specs.Standing.{Stands as MdStands, AllGiven}
+use Rattle.mm_core.specs.declared.state.Mm.{Mm}
+use Rattle.cs_slices.specs.declared.state.Cs.{Cs}
+use Rattle.cs_slices.specs.declared.segments.Segment.{Segment}
+use Rattle.md_dwell.specs.declared.state.Md.{Md}
+use Rattle.md_dwell.specs.State.{AllGiven}
+use Rattle.frame_exec.specs.Tables.{TableSet, SetGiven, tables_of}
+use Rattle.frame_exec.specs.Ready.{CsIsReady}
+use Rattle.frame_exec.specs.Applications.{cs_stands, mm_stands, md_stands}
 use Rattle.frame_exec.specs.Sending.{upset_by}
-use Rattle.frame_exec.specs.Runs.{Setup, State, beginning, image_at, left_in_pipes, sent_at, offers_at, after_frame, run_of, frame_lines, log_of, lines_at, cs_after, mm_after, md_after, operations_at}
-use Rattle.frame_exec.specs.Standing.{Has, IsReady, Stands, CanRun}
-use Rattle.frame_exec.specs.Stages.{RunsIn, IsLanded}
+use Rattle.frame_exec.specs.Runs.{Setup, State, beginning, image_at, left_by, sent_at, offers_at, after_frame, run_of, frame_lines, log_of, lines_at, operations_at}
+use Rattle.frame_exec.specs.Standing.{AppsStand, Has, IsReady, Stands, CanRun}
+use Rattle.frame_exec.specs.Stages.{KeepsApps, RunsIn}
 
 -- what a run has come to, at one more frame
 pub run_more : (setup : Setup) (frames : List Frame) (frame : Frame) → run_of setup (frames ++ frame ∷ []) ≡ after_frame setup (run_of setup frames) frame
@@ -90,82 +90,84 @@ pub run_regions : (setup : Setup) (frames : List Frame) → regions_of (run_of s
 unfolding run_of beginning
 run_regions setup frames = regions_from setup (beginning setup) frames ∙ regions-cut setup.regions _
 
--- applications that can be woken, by the parts of the bench
-pub ready_by : (before b : Bench) → regions_of b.ram.areas ≡ regions_of before.ram.areas → b.tables ≡ before.tables → b.cs.state ≡ before.cs.state → b.md.state ≡ before.md.state → IsReady before → IsReady b
-ready_by before b same tables cs md ready = record {
-  started = (
-    ready.started.0,
-    subst (λ (t : TableSet). CsStands t.eeprom t.memory ready.started.0 b.cs.state.value) (sym tables)
-        (subst (λ (state : Box Cs Global). CsStands before.tables.eeprom before.tables.memory ready.started.0 state.value) (sym cs) ready.started.1),
-  );
-  eeprom = subst (λ (regions : List Region). SegmentsGiven regions b.tables.eeprom) (sym same) (subst (λ (t : TableSet). SegmentsGiven (regions_of before.ram.areas) t.eeprom) (sym tables) ready.eeprom);
-  memory = subst (λ (regions : List Region). SegmentsGiven regions b.tables.memory) (sym same) (subst (λ (t : TableSet). SegmentsGiven (regions_of before.ram.areas) t.memory) (sym tables) ready.memory);
-  dwells = subst (λ (regions : List Region). AllGiven regions b.md.state.value) (sym same) (subst (λ (state : Box Md Global). AllGiven (regions_of before.ram.areas) state.value) (sym md) ready.dwells);
+-- the states of the applications stand for their histories, where they were kept
+pub apps_kept : (before b : Bench) (s : State) → KeepsApps before b → AppsStand before s → AppsStand b s
+apps_kept before b s kept stand = record {
+  cs = subst (λ (state : Box Cs Global). cs_stands s.tables s.cs state.value) (sym kept.cs) stand.cs;
+  mm = subst (λ (state : Box Mm Global). mm_stands s.tables s.mm state.value) (sym kept.mm) stand.mm;
+  md = subst (λ (state : Box Md Global). md_stands s.tables s.md state.value) (sym kept.md) stand.md;
+}
+
+-- CS can be woken on the same tables in memory of the same regions
+pub cs_ready_by : (regions others : List Region) (eeprom memory other_eeprom other_memory : List Segment) (cs : Cs) → others ≡ regions → other_eeprom ≡ eeprom → other_memory ≡ memory
+    → CsIsReady regions eeprom memory cs → CsIsReady others other_eeprom other_memory cs
+cs_ready_by regions others eeprom memory other_eeprom other_memory cs a b c ready =
+    subst (λ (rs : List Region). CsIsReady rs other_eeprom other_memory cs) (sym a)
+    (subst (λ (table : List Segment). CsIsReady regions table other_memory cs) (sym b) (subst (λ (table : List Segment). CsIsReady regions eeprom table cs) (sym c) ready))
+
+-- the applications can be woken, where their states, the tables and the regions were kept
+pub ready_by : (before b : Bench) → regions_of b.ram.areas ≡ regions_of before.ram.areas → b.tables ≡ before.tables → KeepsApps before b → IsReady before → IsReady b
+ready_by before b same tables kept ready = record {
+  cs = subst (λ (state : Box Cs Global). CsIsReady (regions_of b.ram.areas) b.tables.eeprom b.tables.memory state.value) (sym kept.cs)
+      (cs_ready_by _ _ _ _ _ _ before.cs.state.value same (ap (λ (t : TableSet). t.eeprom) tables) (ap (λ (t : TableSet). t.memory) tables) ready.cs);
+  md = subst (λ (regions : List Region). AllGiven regions b.md.state.value) (sym same) (subst (λ (state : Box Md Global). AllGiven (regions_of before.ram.areas) state.value) (sym kept.md) ready.md);
 }
 
 -- the lines of a frame, by what was sent and dropped
-pub lines_are : (setup : Setup) (s : State) (frame : Frame) (number : ℕ) (sent : List Out) (drops : List Dropped) → number ≡ s.number → sent ≡ sent_at setup s frame
-    → drops ≡ drops_from (left_in_pipes frame s.pipes) (offers_at setup s frame) → flat_map (item_line number) sent ++ flat_map (drop_line number) drops ≡ lines_at setup s frame
-unfolding lines_at
-lines_are setup s frame number sent drops a b c = rw (a, b, c) refl
-
--- the lines of a frame behind others
-pub frame_lines_are : (setup : Setup) (frames : List Frame) (frame : Frame) (lines : List ℕ) → lines ≡ lines_at setup (run_of setup frames) frame → lines ≡ frame_lines setup frames frame
-unfolding frame_lines
-frame_lines_are setup frames frame lines is = is
-
--- memory behind a frame, by its image and the operations that landed
-pub landed_is : (setup : Setup) (s : State) (frame : Frame) (ops : List MemOp) (image now : Memory) → now ≡ land [] ops image → ops ≡ operations_at setup s frame → image ≡ image_at s frame
-    → now ≡ land [] (operations_at setup s frame) (image_at s frame)
-landed_is setup s frame ops image now a b c = a ∙ ap (λ (xs : List MemOp). land [] xs image) b ∙ ap (λ (m : Memory). land [] (operations_at setup s frame) m) c
+pub lines_are : (setup : Setup) (frames : List Frame) (frame : Frame) (number : ℕ) (sent : List Out) (drops : List Dropped) → number ≡ (run_of setup frames).number → sent ≡ sent_at setup (run_of setup frames) frame
+    → drops ≡ drops_from (left_by frame.held (run_of setup frames).pipes) (offers_at setup (run_of setup frames) frame) → flat_map (item_line number) sent ++ flat_map (drop_line number) drops ≡ frame_lines setup frames frame
+unfolding frame_lines lines_at
+lines_are setup frames frame number sent drops a b c = rw (a, b, c) refl
 
 -- the bench has what the run has come to after one more frame
-pub has_after : (before b : Bench) (setup : Setup) (s : State) (frame : Frame) → IsLanded before b → b.number ≡ s.number + 1 → b.tables ≡ setup.tables → RunsIn setup s frame before → Has b setup (after_frame setup s frame)
+pub has_after : (before b : Bench) (setup : Setup) (s : State) (frame : Frame) → KeepsApps before b → b.bus ≡ before.bus → b.log ≡ before.log → b.ram ≡ land [] before.ops before.ram
+    → b.number ≡ s.number + 1 → b.tables ≡ s.tables → RunsIn setup s frame before → Has b (after_frame setup s frame)
 unfolding after_frame
-has_after before b setup s frame landed number tables ran = record {
+has_after before b setup s frame kept pipes log memory number tables ran = record {
   number = number;
   tables = tables;
-  cs = subst (λ (state : Box Cs Global). CsStands setup.tables.eeprom setup.tables.memory (cs_after setup s frame) state.value) (sym landed.cs) ran.cs;
-  mm = subst (λ (state : Box Mm Global). MmStands (mm_after setup s frame) state.value) (sym landed.mm.state) ran.mm;
-  md = subst (λ (state : Box Md Global). MdStands setup.tables.dwells (md_after setup s frame) state.value) (sym landed.md) ran.md;
-  pipes = landed.pipes ∙ ran.pipes;
-  made = subst (LogStands _) (sym landed.log) ran.made;
-  memory = landed_is setup s frame before.mm.ops before.ram b.ram landed.memory ran.operations ran.memory;
+  apps = apps_kept before b (after_frame setup s frame) kept ran.apps;
+  pipes = pipes ∙ ran.pipes;
+  made = subst (LogStands _) (sym log) ran.made;
+  memory = memory ∙ ap (λ (xs : List MemOp). land [] xs before.ram) ran.operations ∙ ap (λ (m : Memory). land [] (operations_at setup s frame) m) ran.memory;
 }
 
--- the applications can be woken again, as landing leaves the regions
-ready_after : (before b : Bench) → IsLanded before b → b.tables ≡ before.tables → IsReady before → IsReady b
-ready_after before b landed tables ready =
-    let same : regions_of b.ram.areas ≡ regions_of before.ram.areas = ap (λ (m : Memory). regions_of m.areas) landed.memory ∙ regions-changed _ before.ram.areas in
-    ready_by before b same tables landed.cs landed.md ready
-
--- a bench stands for one more frame
+-- a bench stands for one more frame, once its operations have landed
 pub stands_after : (before b : Bench) (setup : Setup) (frames : List Frame) (frame : Frame) → b.epoch ≡ setup.epoch → b.failed ≡ false → b.number ≡ (run_of setup frames).number + 1
-    → IsLanded before b → b.tables ≡ before.tables → before.tables ≡ setup.tables → IsReady before → RunsIn setup (run_of setup frames) frame before → Stands b setup (frames ++ frame ∷ [])
-stands_after before b setup frames frame epoch well number landed kept tables ready ran = record {
+    → KeepsApps before b → b.bus ≡ before.bus → b.log ≡ before.log → b.ram ≡ land [] before.ops before.ram → b.tables ≡ before.tables → before.tables ≡ (run_of setup frames).tables
+    → IsReady before → RunsIn setup (run_of setup frames) frame before → Stands b setup (frames ++ frame ∷ [])
+stands_after before b setup frames frame epoch well number kept pipes log memory same tables ready ran = record {
   epoch = epoch;
   well = well;
-  has = subst (Has b setup) (sym (run_more setup frames frame)) (has_after before b setup (run_of setup frames) frame landed number (kept ∙ tables) ran);
-  ready = ready_after before b landed kept ready;
+  has = subst (Has b) (sym (run_more setup frames frame)) (has_after before b setup (run_of setup frames) frame kept pipes log memory number (same ∙ tables) ran);
+  ready = ready_by before b (ap (λ (m : Memory). regions_of m.areas) memory ∙ regions-changed _ before.ram.areas) same kept ready;
 }
 
 -- a bench that was opened stands for no frames
-pub stands_opened : (b : Bench) (setup : Setup) → b.epoch ≡ setup.epoch → b.failed ≡ false → b.number ≡ 0 → b.tables ≡ setup.tables
-    → CsStands setup.tables.eeprom setup.tables.memory [] b.cs.state.value → MmStands [] b.mm.state.value → MdStands setup.tables.dwells [] b.md.state.value
-    → SegmentsGiven setup.regions setup.tables.eeprom → SegmentsGiven setup.regions setup.tables.memory → AllGiven setup.regions b.md.state.value
-    → b.bus ≡ empty_pipes → LogStands [] b.log → b.ram ≡ start_memory setup.regions → Stands b setup []
+pub stands_opened : (b : Bench) (setup : Setup) → b.epoch ≡ setup.epoch → b.failed ≡ false → b.number ≡ 0 → b.tables ≡ tables_of setup.files
+    → cs_stands b.tables [] b.cs.state.value → mm_stands b.tables [] b.mm.state.value → md_stands b.tables [] b.md.state.value
+    → SetGiven setup.regions b.tables → AllGiven setup.regions b.md.state.value → b.bus ≡ empty_pipes → LogStands [] b.log → b.ram ≡ start_memory setup.regions → Stands b setup []
 unfolding run_of beginning
-stands_opened b setup epoch well number tables cs mm md eeprom segments dwells pipes made memory =
-    let same : setup.regions ≡ regions_of b.ram.areas = sym (ap (λ (m : Memory). regions_of m.areas) memory ∙ regions-cut setup.regions _) in
+stands_opened b setup epoch well number tables cs mm md given dwells pipes made memory =
+    let same : regions_of b.ram.areas ≡ setup.regions = ap (λ (m : Memory). regions_of m.areas) memory ∙ regions-cut setup.regions _ in
     record {
       epoch = epoch;
       well = well;
-      has = record { number = number; tables = tables; cs = cs; mm = mm; md = md; pipes = pipes; made = made; memory = memory };
+      has = record {
+        number = number;
+        tables = tables;
+        apps = record {
+          cs = subst (λ (t : TableSet). cs_stands t [] b.cs.state.value) tables cs;
+          mm = mm;
+          md = subst (λ (t : TableSet). md_stands t [] b.md.state.value) tables md;
+        };
+        pipes = pipes;
+        made = made;
+        memory = memory;
+      };
       ready = record {
-        started = ([], subst (λ (t : TableSet). CsStands t.eeprom t.memory [] b.cs.state.value) (sym tables) cs);
-        eeprom = subst (λ (regions : List Region). SegmentsGiven regions b.tables.eeprom) same (subst (λ (t : TableSet). SegmentsGiven setup.regions t.eeprom) (sym tables) eeprom);
-        memory = subst (λ (regions : List Region). SegmentsGiven regions b.tables.memory) same (subst (λ (t : TableSet). SegmentsGiven setup.regions t.memory) (sym tables) segments);
-        dwells = subst (λ (regions : List Region). AllGiven regions b.md.state.value) same dwells;
+        cs = cs_ready_by setup.regions (regions_of b.ram.areas) b.tables.eeprom b.tables.memory b.tables.eeprom b.tables.memory b.cs.state.value same refl refl (record { started = ([], cs); first = given.eeprom; second = given.memory });
+        md = subst (λ (regions : List Region). AllGiven regions b.md.state.value) (sym same) dwells;
       };
     }
 

@@ -1,51 +1,64 @@
 -- Where no entry of the files is refused, memory gives what their tables read.
-use Rattle.std.proofs.Common.{◌≡◌, ℕ, ◌+◌, ◌-◌, true, List, [], ◌∷◌, replicate, Option, Some, None, refl, fold}
+use Rattle.std.proofs.Common.{◌≡◌, ℕ, ◌+◌, ◌-◌, true, List, [], ◌∷◌, replicate, Option, Some, None, refl}
+use Rattle.std.specs.Prelude.{slice_set}
 use Rattle.std.specs.List.{AllPass}
 use Rattle.std.proofs.lemmas.List.Elements.{All-set, All-replicate}
 use Rattle.memory_window.specs.declared.regions.Region.{Region}
+use Rattle.table_files.specs.declared.fault.EntryFault.{EntryFault}
+use Rattle.md_dwell.specs.Tables.{DwellTable, dwell_of, dwell_fault_of, blank_table, blank_entry}
+use Rattle.md_dwell.specs.declared.tables.DwellEntry.{DwellEntry}
+use Rattle.md_dwell.specs.Given.{is_given, first_refused, TablesGiven}
+use Rattle.md_dwell.proofs.Gifts.{none_refused}
+use Rattle.cs_slices.specs.declared.segments.Segment.{Segment}
+use Rattle.cs_slices.specs.Tables.{segments_of, segments_fault_of, blank_segment, blank_segments}
+use Rattle.cs_slices.specs.Given.{is_given as is_segment_given, first_refused as first_refused_segment, SegmentsGiven}
+use Rattle.cs_slices.proofs.Refusing.{none_refused as no_segment_refused}
 use Rattle.table_files.specs.declared.kinds.TableKind.{TableKind}
 use Rattle.table_files.specs.declared.kinds.TableKind.TheVariants.{AppMon, EventMon, ExeCount, MsgActs, Ats, Rts, Dwell, Eeprom, Memory}
 use Rattle.table_files.specs.Headers.{kind_of_file, payload_of_file}
-use Rattle.md_dwell.specs.Tables.{DwellTable, dwell_of, blank_table, blank_entry}
-use Rattle.md_dwell.specs.declared.tables.DwellEntry.{DwellEntry}
-use Rattle.md_dwell.specs.Given.{is_given, TablesGiven}
-use Rattle.md_dwell.proofs.Gifts.{none_refused}
-use Rattle.cs_slices.specs.declared.segments.Segment.{Segment}
-use Rattle.cs_slices.specs.Tables.{blank_segment, blank_segments, segments_of}
-use Rattle.cs_slices.specs.Given.{is_given as is_segment_given, SegmentsGiven}
-use Rattle.cs_slices.proofs.Refusing.{none_refused as no_segment_refused}
-use Rattle.frame_exec.specs.Tables.{TableSet, SetGiven, blank_tables, with_table, with_file, tables_of, said_or, first_said, refused_entry, refused_in, region_fault}
+use Rattle.frame_exec.specs.Tables.{TableSet, SetGiven, blank_tables, by_kind, by_file, where_well, with_table, tables_of, said_or, first_said, refused_entry, refused_in, region_fault}
 
 -- one table more
-table_given : (regions : List Region) (kind : Option TableKind) (payload : List ℕ) (tables : TableSet) → refused_entry regions kind payload ≡ None → SetGiven regions tables → SetGiven regions (with_table kind payload tables)
-unfolding TablesGiven
-table_given regions (Some (Dwell n)) payload tables none given = record {
-  dwells = All-set (λ (t : DwellTable). AllPass (is_given regions) t.entries) tables.dwells (n - 1) (dwell_of payload) (none_refused regions (dwell_of payload).entries none) given.dwells;
-  eeprom = given.eeprom;
-  memory = given.memory;
-}
-table_given regions (Some Eeprom) payload tables none given = record { dwells = given.dwells; eeprom = no_segment_refused regions (segments_of payload) none; memory = given.memory }
-table_given regions (Some Memory) payload tables none given = record { dwells = given.dwells; eeprom = given.eeprom; memory = no_segment_refused regions (segments_of payload) none }
-table_given regions (Some AppMon) payload tables none given = given
-table_given regions (Some EventMon) payload tables none given = given
-table_given regions (Some ExeCount) payload tables none given = given
-table_given regions (Some MsgActs) payload tables none given = given
-table_given regions (Some (Ats n)) payload tables none given = given
-table_given regions (Some (Rts n)) payload tables none given = given
-table_given regions None payload tables none given = given
+module _ (regions : List Region) (tables : TableSet) (given : SetGiven regions tables) where
+  dwell_given : (n : ℕ) (payload : List ℕ) (fault : Option EntryFault) → where_well (first_refused regions (dwell_of payload).entries) None fault ≡ None
+      → SetGiven regions (where_well (record tables { dwells = slice_set tables.dwells (n - 1) (dwell_of payload) }) tables fault)
+  unfolding TablesGiven
+  dwell_given n payload None none = record {
+    dwells = All-set (λ (t : DwellTable). AllPass (is_given regions) t.entries) tables.dwells (n - 1) (dwell_of payload) (none_refused regions (dwell_of payload).entries none) given.dwells;
+    eeprom = given.eeprom;
+    memory = given.memory;
+  }
+  dwell_given n payload (Some fault) none = given
+
+  eeprom_given : (payload : List ℕ) (fault : Option EntryFault) → where_well (first_refused_segment regions (segments_of payload)) None fault ≡ None
+      → SetGiven regions (where_well (record tables { eeprom = segments_of payload }) tables fault)
+  eeprom_given payload None none = record { dwells = given.dwells; eeprom = no_segment_refused regions (segments_of payload) none; memory = given.memory }
+  eeprom_given payload (Some fault) none = given
+
+  memory_given : (payload : List ℕ) (fault : Option EntryFault) → where_well (first_refused_segment regions (segments_of payload)) None fault ≡ None
+      → SetGiven regions (where_well (record tables { memory = segments_of payload }) tables fault)
+  memory_given payload None none = record { dwells = given.dwells; eeprom = given.eeprom; memory = no_segment_refused regions (segments_of payload) none }
+  memory_given payload (Some fault) none = given
+
+  table_given : (kind : TableKind) (payload : List ℕ) → refused_entry regions kind payload ≡ None → SetGiven regions (with_table tables kind payload)
+  table_given (Dwell n) payload none = dwell_given n payload (dwell_fault_of payload) none
+  table_given Eeprom payload none = eeprom_given payload (segments_fault_of payload) none
+  table_given Memory payload none = memory_given payload (segments_fault_of payload) none
+  table_given AppMon payload none = given
+  table_given EventMon payload none = given
+  table_given ExeCount payload none = given
+  table_given MsgActs payload none = given
+  table_given (Ats n) payload none = given
+  table_given (Rts n) payload none = given
+
+  kind_given : (kind : Option TableKind) (payload : List ℕ) → by_kind None (refused_entry regions) kind payload ≡ None → SetGiven regions (by_kind tables (with_table tables) kind payload)
+  kind_given None payload none = given
+  kind_given (Some kind) payload none = table_given kind payload none
 
 -- nothing is said of any file
 said_parts : {A : Type 0} (n : ℕ) (said : Option A) (behind : Option (ℕ × A)) → said_or n said behind ≡ None → (said ≡ None) × (behind ≡ None)
 said_parts n None behind none = (refl, none)
 said_parts n (Some said) behind none = cc
-
--- the tables of further files
-files_given : (regions : List Region) (files : List (List ℕ)) (n : ℕ) (tables : TableSet) → first_said (refused_in regions) n files ≡ None → SetGiven regions tables → SetGiven regions (fold with_file tables files)
-unfolding first_said refused_in
-files_given regions [] n tables none given = given
-files_given regions (file ∷ files) n tables none given =
-    let parts = said_parts n (refused_in regions file) (first_said (refused_in regions) (n + 1) files) none in
-    files_given regions files (n + 1) (with_file tables file) parts.1 (table_given regions (kind_of_file file) (payload_of_file file) tables parts.0 given)
 
 -- blank tables
 blank_entries : (regions : List Region) → AllPass (is_given regions) (replicate 25 blank_entry)
@@ -69,6 +82,13 @@ unfolding blank_tables
 blank_given regions = record { dwells = blank_dwells regions; eeprom = blank_segment_given regions; memory = blank_segment_given regions }
 
 -- the tables of all files
+files_given : (regions : List Region) (files : List (List ℕ)) (n : ℕ) → first_said (refused_in regions) n files ≡ None → SetGiven regions (tables_of files)
+unfolding first_said tables_of by_file
+files_given regions [] n none = blank_given regions
+files_given regions (file ∷ files) n none =
+    let parts = said_parts n (refused_in regions file) (first_said (refused_in regions) (n + 1) files) none in
+    kind_given regions (tables_of files) (files_given regions files (n + 1) parts.1) (kind_of_file file) (payload_of_file file) parts.0
+
 pub given_tables : (regions : List Region) (files : List (List ℕ)) → region_fault regions files ≡ None → SetGiven regions (tables_of files)
-unfolding region_fault tables_of
-given_tables regions files none = files_given regions files 1 blank_tables none (blank_given regions)
+unfolding region_fault
+given_tables regions files none = files_given regions files 1 none

@@ -1,10 +1,9 @@
-pub mod Loading
-pub mod Images
+pub mod Files
 pub mod GivenTables
 pub mod Offers
 pub mod Stamping
 pub mod Lines
 pub mod Upsets
 pub mod Waking
-pub mod Sent
 pub mod Frames
+pub mod Stepping

@@ -1,5 +1,6 @@
 -- Lines that are written one after another.
-use Rattle.std.proofs.Common.{◌≡◌, ℕ, ◌+◌, ◌<◌, List, ◌++◌, length, take, drop, get_or, sym, ◌∙◌, ap, subst}
+use Rattle.std.proofs.Common.{◌≡◌, ℕ, ◌+◌, ◌<◌, List, [], ◌∷◌, ◌++◌, length, take, drop, get_or, refl, sym, ◌∙◌, ap, subst}
+use Rattle.std.specs.Borrow.{Bor}
 use Rattle.std.proofs.lemmas.List.{take-append-drop}
 use Rattle.std.proofs.lemmas.Grind.{flat_map-append}
 use Rattle.std.specs.List.{flat_map}
@@ -35,3 +36,8 @@ lines_cut line xs i x text before middle after within is written same part =
 pub both_texts : {T E : Type 0} (result : Result T E) (first second before middle after : List ℕ) → middle ≡ before ++ first → WritesAll result second middle after → WritesAll result (first ++ second) before after
 both_texts (Ok done) first second before middle after one two = appends_more first second before middle after one two
 both_texts (Err e) first second before middle after one two = appends_part first second before middle after one two
+
+-- the lines of lists of items
+pub in_lists : {A : Type 0} (line : A → List ℕ) (lists : List (Bor (List A))) → flat_map line (flat_map (λ (list : Bor (List A)). list.now) lists) ≡ flat_map (λ (list : Bor (List A)). flat_map line list.now) lists
+in_lists line [] = refl
+in_lists line (list ∷ lists) = flat_map-append line list.now (flat_map (λ (list : Bor (List _)). list.now) lists) ∙ ap (λ (more : List ℕ). flat_map line list.now ++ more) (in_lists line lists)

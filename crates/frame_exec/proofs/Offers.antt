@@ -1,14 +1,17 @@
 -- The packets of items that were sent, offered one item after another.
-use Rattle.std.proofs.Common.{◌≡◌, ℕ, ◌+◌, ◌<◌, List, [], ◌∷◌, ◌++◌, length, take, get_or, sym, ◌∙◌, ap}
+use Rattle.std.proofs.Common.{◌≡◌, ℕ, ◌+◌, ◌<◌, ◌≤◌, List, [], ◌∷◌, ◌++◌, length, take, drop, get_or, refl, sym, ◌∙◌, ap, arith}
+use Rattle.std.specs.Borrow.{Bor}
+use Rattle.std.proofs.lemmas.List.{length-append, take-append-drop}
 use Rattle.std.specs.List.{flat_map}
+use Rattle.std.proofs.lemmas.Grind.{flat_map-append}
 use Rattle.histories.proofs.Fronts.{flat_map_front}
 use Rattle.bus_pipes.specs.Held.{Held, adding}
 use Rattle.bus_pipes.specs.Pipes.{Pipes}
 use Rattle.bus_pipes.specs.Delivery.{after_offer, drop_of, after_offers, drops_from}
 use Rattle.bus_pipes.specs.declared.names.Out.{Out}
 use Rattle.bus_pipes.specs.declared.names.Dropped.{Dropped}
-use Rattle.bus_pipes.proofs.Deliveries.{after_offers_none, after_offers_more, after_offers_both, drops_none, drops_both, drops_one, adding_none, adding_more}
-use Rattle.frame_exec.specs.Sending.{packet_in}
+use Rattle.bus_pipes.proofs.Deliveries.{after_offers_none, after_offers_more, after_offers_both, drops_none, drops_both, drops_one, adding_none, adding_more, items-adding}
+use Rattle.frame_exec.specs.Sending.{packet_in, packets_of, shown}
 
 -- one packet was offered
 pub offers_one : (before now : Pipes) (p : List ℕ) → now ≡ after_offer before p → now ≡ after_offers before (p ∷ [])
@@ -26,21 +29,51 @@ offers_none before = sym (after_offers_none before)
 pub drops_of_none : (before : Pipes) (held : Held Dropped) → held ≡ adding held (drops_from before [])
 drops_of_none before held = sym (ap (λ (more : List Dropped). adding held more) (drops_none before) ∙ adding_none held)
 
--- the front of the items, one longer
-pub offers_front : (pipes before now : Pipes) (items : List Out) (i : ℕ) (item : Out) → i < length items → item ≡ get_or items i item
-    → before ≡ after_offers pipes (flat_map packet_in (take i items)) → now ≡ after_offers before (packet_in item) → now ≡ after_offers pipes (flat_map packet_in (take (i + 1) items))
-offers_front pipes before now items i item within is earlier one =
-    one ∙ ap (λ (at : Pipes). after_offers at (packet_in item)) earlier
-    ∙ sym (after_offers_both pipes (flat_map packet_in (take i items)) (packet_in item))
-    ∙ ap (after_offers pipes) (sym (flat_map_front packet_in items i item within is))
+-- the front of what is offered, one element longer, by the packets of each element
+module _ {A : Type 0} (packets_of : A → List (List ℕ)) where
+  pub offers_front : (pipes before now : Pipes) (items : List A) (i : ℕ) (item : A) → i < length items → item ≡ get_or items i item
+      → before ≡ after_offers pipes (flat_map packets_of (take i items)) → now ≡ after_offers before (packets_of item) → now ≡ after_offers pipes (flat_map packets_of (take (i + 1) items))
+  offers_front pipes before now items i item within is earlier one =
+      one ∙ ap (λ (at : Pipes). after_offers at (packets_of item)) earlier
+      ∙ sym (after_offers_both pipes (flat_map packets_of (take i items)) (packets_of item))
+      ∙ ap (after_offers pipes) (sym (flat_map_front packets_of items i item within is))
 
--- and what was dropped of them
-pub drops_front : (pipes before : Pipes) (start earlier now : Held Dropped) (items : List Out) (i : ℕ) (item : Out) → i < length items → item ≡ get_or items i item
-    → before ≡ after_offers pipes (flat_map packet_in (take i items)) → earlier ≡ adding start (drops_from pipes (flat_map packet_in (take i items)))
-    → now ≡ adding earlier (drops_from before (packet_in item)) → now ≡ adding start (drops_from pipes (flat_map packet_in (take (i + 1) items)))
-drops_front pipes before start earlier now items i item within is at held one =
-    one ∙ ap (λ (h : Held Dropped). adding h (drops_from before (packet_in item))) held
-    ∙ adding_more start (drops_from pipes (flat_map packet_in (take i items))) (drops_from before (packet_in item))
-    ∙ ap (λ (pipe : Pipes). adding start (drops_from pipes (flat_map packet_in (take i items)) ++ drops_from pipe (packet_in item))) at
-    ∙ ap (λ (more : List Dropped). adding start more) (sym (drops_both pipes (flat_map packet_in (take i items)) (packet_in item)))
-    ∙ ap (λ (packets : List (List ℕ)). adding start (drops_from pipes packets)) (sym (flat_map_front packet_in items i item within is))
+  -- and of what was dropped of it
+  pub drops_front : (pipes before : Pipes) (start earlier now : Held Dropped) (items : List A) (i : ℕ) (item : A) → i < length items → item ≡ get_or items i item
+      → before ≡ after_offers pipes (flat_map packets_of (take i items)) → earlier ≡ adding start (drops_from pipes (flat_map packets_of (take i items)))
+      → now ≡ adding earlier (drops_from before (packets_of item)) → now ≡ adding start (drops_from pipes (flat_map packets_of (take (i + 1) items)))
+  drops_front pipes before start earlier now items i item within is at held one =
+      one ∙ ap (λ (h : Held Dropped). adding h (drops_from before (packets_of item))) held
+      ∙ adding_more start (drops_from pipes (flat_map packets_of (take i items))) (drops_from before (packets_of item))
+      ∙ ap (λ (pipe : Pipes). adding start (drops_from pipes (flat_map packets_of (take i items)) ++ drops_from pipe (packets_of item))) at
+      ∙ ap (λ (more : List Dropped). adding start more) (sym (drops_both pipes (flat_map packets_of (take i items)) (packets_of item)))
+      ∙ ap (λ (packets : List (List ℕ)). adding start (drops_from pipes packets)) (sym (flat_map_front packets_of items i item within is))
+
+-- the packets of lists of items
+pub in_lists : (lists : List (Bor (List Out))) → flat_map packet_in (shown lists) ≡ flat_map packets_of lists
+in_lists [] = refl
+in_lists (list ∷ lists) = flat_map-append packet_in list.now (shown lists) ∙ ap (λ (more : List (List ℕ)). flat_map packet_in list.now ++ more) (in_lists lists)
+
+-- what was offered after one list of packets and then another, where nothing was dropped before
+pub offers_two : (pipes middle end : Pipes) (first second : List (List ℕ)) → middle ≡ after_offers pipes first → end ≡ after_offers middle second → end ≡ after_offers pipes (first ++ second)
+offers_two pipes middle end first second one two = two ∙ ap (λ (at : Pipes). after_offers at second) one ∙ sym (after_offers_both pipes first second)
+
+pub drops_two : (pipes middle : Pipes) (none one both : Held Dropped) (first second : List (List ℕ)) → none.items ≡ [] → middle ≡ after_offers pipes first
+    → one ≡ adding none (drops_from pipes first) → both ≡ adding one (drops_from middle second) → both.items ≡ drops_from pipes (first ++ second)
+drops_two pipes middle none one both first second empty at a b =
+    ap (λ (h : Held Dropped). h.items) b ∙ items-adding one (drops_from middle second)
+    ∙ ap (λ (xs : List Dropped). xs ++ drops_from middle second) (ap (λ (h : Held Dropped). h.items) a ∙ items-adding none (drops_from pipes first) ∙ ap (λ (xs : List Dropped). xs ++ drops_from pipes first) empty)
+    ∙ ap (λ (pipe : Pipes). drops_from pipes first ++ drops_from pipe second) at ∙ sym (drops_both pipes first second)
+
+-- what the front of lists of items shows, one list longer
+pub shown_front : (lists : List (Bor (List Out))) (i : ℕ) (list : Bor (List Out)) → i < length lists → list ≡ get_or lists i list → length (shown (take (i + 1) lists)) ≡ length (shown (take i lists)) + length list.now
+shown_front lists i list within is =
+    ap (λ (items : List Out). length items) (flat_map_front (λ (l : Bor (List Out)). l.now) lists i list within is) ∙ length-append (shown (take i lists)) list.now
+
+-- a list of items in its place
+pub shown_within : (lists : List (Bor (List Out))) (i : ℕ) (list : Bor (List Out)) → i < length lists → list ≡ get_or lists i list → length (shown (take i lists)) + length list.now ≤ length (shown lists)
+shown_within lists i list within is =
+    let front = shown_front lists i list within is in
+    let all = ap (λ (ls : List (Bor (List Out))). length (shown ls)) (sym (take-append-drop (i + 1) lists)) ∙ ap (λ (items : List Out). length items) (flat_map-append (λ (l : Bor (List Out)). l.now) (take (i + 1) lists) (drop (i + 1) lists))
+    ∙ length-append (shown (take (i + 1) lists)) (shown (drop (i + 1) lists)) in
+    omega (arith, front, all)

@@ -1,28 +1,31 @@
 -- Items that get their sequence counts, one after another.
-use Rattle.std.proofs.Common.{◌≡◌, ℕ, ◌+◌, ◌<◌, List, [], ◌∷◌, ◌++◌, length, take, get_or, sym, ◌∙◌, ap, subst, append_assoc}
-use Rattle.std.specs.List.{flat_map}
+use Rattle.std.proofs.Common.{◌≡◌, ℕ, ◌+◌, ◌<◌, true, List, [], ◌∷◌, ◌++◌, length, take, drop, get_or, sym, ◌∙◌, ap, subst, append_assoc, arith}
+use Rattle.std.proofs.lemmas.List.{get_or-drop}
+use Rattle.std.specs.List.{AllPass, flat_map}
+use Rattle.std.proofs.lemmas.Grind.{flat_map-append, drop_more_same}
 use Rattle.histories.specs.Words.{along}
-use Rattle.std.proofs.lemmas.Grind.{flat_map-append}
 use Rattle.histories.proofs.Along.{along_more, along_none, along_both, along_same}
 use Rattle.histories.proofs.Fronts.{front_more, flat_map_front}
+use Rattle.bus_pipes.specs.Counted.{is_item_counted}
 use Rattle.bus_pipes.specs.declared.names.Out.{Out}
+use Rattle.packet_log.specs.Sent.{makes, as_sent}
 use Rattle.packet_log.specs.Standing.{Stands as LogStands}
-use Rattle.frame_exec.specs.Sending.{makes, as_sent, sent_of}
+use Rattle.frame_exec.specs.Sending.{sent_of}
 
 -- no items
 pub sent_none : (made : List (List ℕ)) → sent_of made [] ≡ []
 unfolding sent_of
 sent_none made = along_none (λ before item. as_sent (made ++ flat_map makes before) item)
 
--- the front of the items, one longer, behind items that were sent
-pub sent_front : (made : List (List ℕ)) (start items : List Out) (i : ℕ) (item sent : Out) (earlier now : List Out) → i < length items → item ≡ get_or items i item
-    → earlier ≡ start ++ sent_of made (take i items) → sent ≡ as_sent (made ++ flat_map makes (take i items)) item → now ≡ earlier ++ sent ∷ [] → now ≡ start ++ sent_of made (take (i + 1) items)
+-- the front of the items, one longer
+pub sent_front : (made : List (List ℕ)) (items : List Out) (i : ℕ) (item sent : Out) (earlier now : List Out) → i < length items → item ≡ get_or items i item
+    → earlier ≡ sent_of made (take i items) → sent ≡ as_sent (made ++ flat_map makes (take i items)) item → now ≡ earlier ++ sent ∷ [] → now ≡ sent_of made (take (i + 1) items)
 unfolding sent_of
-sent_front made start items i item sent earlier now within is before one more =
-    more ∙ ap (λ (xs : List Out). xs ++ sent ∷ []) before ∙ append_assoc start (along (λ front y. as_sent (made ++ flat_map makes front) y) (take i items)) (sent ∷ [])
-    ∙ ap (λ (xs : List Out). start ++ xs) (ap (λ (x : Out). along (λ front y. as_sent (made ++ flat_map makes front) y) (take i items) ++ x ∷ []) one
+sent_front made items i item sent earlier now within is before one more =
+    more ∙ ap (λ (xs : List Out). xs ++ sent ∷ []) before
+    ∙ ap (λ (x : Out). along (λ front y. as_sent (made ++ flat_map makes front) y) (take i items) ++ x ∷ []) one
     ∙ sym (along_more (λ front y. as_sent (made ++ flat_map makes front) y) (take i items) item)
-    ∙ ap (along (λ front y. as_sent (made ++ flat_map makes front) y)) (sym (front_more items i item within is)))
+    ∙ ap (along (λ front y. as_sent (made ++ flat_map makes front) y)) (sym (front_more items i item within is))
 
 -- the packets that the front of the items makes, one longer
 pub made_front : (made : List (List ℕ)) (items : List Out) (i : ℕ) (item : Out) (counts : List ℕ) → i < length items → item ≡ get_or items i item
@@ -44,17 +47,21 @@ pub made_two : (made : List (List ℕ)) (items more : List Out) (counts : List �
 made_two made items more counts stands =
     subst (λ (packets : List (List ℕ)). LogStands packets counts) (append_assoc made (flat_map makes items) (flat_map makes more) ∙ ap (λ (packets : List (List ℕ)). made ++ packets) (sym (flat_map-append makes items more))) stands
 
--- items that are known by another name
-pub sent_by : (made : List (List ℕ)) (start items others end : List Out) → items ≡ others → end ≡ start ++ sent_of made items → end ≡ start ++ sent_of made others
-sent_by made start items others end same sent = sent ∙ ap (λ (xs : List Out). start ++ sent_of made xs) same
+-- a list of items that was sent, and the lists behind it
+pub sent_then : (made : List (List ℕ)) (items sent more rest : List Out) → sent ≡ sent_of made items → rest ≡ sent_of (made ++ flat_map makes items) more → sent ++ rest ≡ sent_of made (items ++ more)
+sent_then made items sent more rest one others = ap (λ (xs : List Out). xs ++ rest) one ∙ ap (λ (xs : List Out). sent_of made items ++ xs) others ∙ sym (sent_both made items more)
 
-pub log_by : (made : List (List ℕ)) (items others : List Out) (counts : List ℕ) → items ≡ others → LogStands (made ++ flat_map makes items) counts → LogStands (made ++ flat_map makes others) counts
-log_by made items others counts same stands = subst (λ (xs : List Out). LogStands (made ++ flat_map makes xs) counts) same stands
+-- an item in what is left, which is as at the start
+module _ (start now : List Out) (i : ℕ) (same : drop i now ≡ drop i start) where
+  pub left_item : (d : Out) → get_or now i d ≡ get_or start i d
+  left_item d = ap (λ (n : ℕ). get_or now n d) plain ∙ sym (get_or-drop i now 0 d) ∙ ap (λ (xs : List Out). get_or xs 0 d) same ∙ get_or-drop i start 0 d ∙ ap (λ (n : ℕ). get_or start n d) (sym plain)
+    where
+      plain : i ≡ i + 0
+      plain = omega arith
 
--- three lists of items that were sent, one behind the other
-pub sent_three : (made : List (List ℕ)) (first second third none one two three : List Out) → none ≡ [] → one ≡ none ++ sent_of made first → two ≡ one ++ sent_of (made ++ flat_map makes first) second
-    → three ≡ two ++ sent_of ((made ++ flat_map makes first) ++ flat_map makes second) third → three ≡ sent_of made (first ++ (second ++ third))
-sent_three made first second third none one two three a b c d =
-    d ∙ ap (λ (xs : List Out). xs ++ sent_of ((made ++ flat_map makes first) ++ flat_map makes second) third) (c ∙ ap (λ (xs : List Out). xs ++ sent_of (made ++ flat_map makes first) second) (b ∙ ap (λ (xs : List Out). xs ++ sent_of made first) a))
-    ∙ append_assoc (sent_of made first) (sent_of (made ++ flat_map makes first) second) (sent_of ((made ++ flat_map makes first) ++ flat_map makes second) third)
-    ∙ ap (λ (xs : List Out). sent_of made first ++ xs) (sym (sent_both (made ++ flat_map makes first) second third)) ∙ sym (sent_both made first (second ++ third))
+  pub left_more : drop (i + 1) now ≡ drop (i + 1) start
+  left_more = drop_more_same now start i same
+
+-- an item of a list whose items are all counted
+pub counted_at : (items : List Out) (i : ℕ) (item : Out) → AllPass is_item_counted items → i < length items → item ≡ get_or items i item → is_item_counted item ≡ true
+counted_at items i item all within is = ap is_item_counted is ∙ all i item within

@@ -2,5 +2,8 @@ pub mod Tables
 pub mod Sending
 pub mod Runs
 pub mod Standing
-pub mod Slots
+pub mod Wakes
+pub mod Applications
+pub mod Ready
+pub mod Landable
 pub mod Stages

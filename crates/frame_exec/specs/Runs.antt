@@ -1,5 +1,5 @@
 -- A frame, and a run over a list of frames.
-use Rattle.std.specs.Prelude.{ℕ, ◌+◌, Bool, if◌then◌else◌, List, [], ◌∷◌, ◌++◌, fold}
+use Rattle.std.specs.Prelude.{ℕ, ◌+◌, Bool, List, [], ◌∷◌, ◌++◌, fold}
 use Rattle.std.specs.List.{flat_map, list_any}
 use Rattle.histories.specs.Words.{along}
 use Rattle.bus_pipes.specs.Pipes.{Pipes, empty_pipes}
@@ -9,27 +9,31 @@ use Rattle.memory_window.specs.Memory.{Memory, start_memory}
 use Rattle.memory_window.specs.Landing.{land}
 use Rattle.memory_window.specs.declared.regions.Region.{Region}
 use Rattle.memory_window.specs.declared.operations.MemOp.{MemOp}
-use Rattle.mm_core.specs.Output.{Input as MmInput, mm_items, mm_operations}
-use Rattle.cs_slices.specs.Output.{Input as CsInput, cs_items}
+use Rattle.mm_core.specs.Step.{Input as MmInput, mm_operations}
+use Rattle.cs_slices.specs.Wakeups.{Input as CsInput}
 use Rattle.md_dwell.specs.Orders.{Input as MdInput}
-use Rattle.md_dwell.specs.Output.{md_items}
 use Rattle.packet_log.specs.Lines.{drop_line}
 use Rattle.packet_log.specs.Items.{item_line}
 use Rattle.scenario.specs.declared.frame.App.{App}
 use Rattle.scenario.specs.declared.frame.App.TheVariants as apps
 use Rattle.scenario.specs.FrameLists.{Frame}
-use Rattle.frame_exec.specs.Tables.{TableSet}
-use Rattle.frame_exec.specs.Sending.{is_same, upset_by, left_in_pipe, makes, sent_of, packet_in}
+use Rattle.frame_exec.specs.Tables.{TableSet, tables_of}
+use Rattle.frame_exec.specs.Sending.{is_same, upset_by, left_in_pipe, sent_of, packet_in}
+use Rattle.packet_log.specs.Sent.{makes}
+use Rattle.frame_exec.specs.Wakes.{history_after, unless, joined}
+use Rattle.frame_exec.specs.Applications.{cs_gives, mm_gives, md_gives, cs_reads, mm_reads, md_reads}
 
--- what a run begins with: the time of frame 0, the regions of memory, and the tables
+-- what a run begins with: the time of frame 0, the regions of memory, and the named files
 pub record Setup : Type 0 where
   pub epoch : ℕ
   pub regions : List Region
-  pub tables : TableSet
+  pub files : List (List ℕ)
 
--- what a run has come to: how many frames there were, the history of each application, what the pipes hold, the packets made so far, and memory
+-- what a run has come to: how many frames there were, the tables in force, the history of each application, what the pipes hold, the
+-- packets made so far, and memory
 pub record State : Type 0 where
   pub number : ℕ
+  pub tables : TableSet
   pub cs : List CsInput
   pub mm : List MmInput
   pub md : List MdInput
@@ -39,72 +43,56 @@ pub record State : Type 0 where
 
 -- before the first frame
 unfoldable pub beginning : Setup → State
-beginning setup = record { number = 0; cs = []; mm = []; md = []; pipes = empty_pipes; made = []; memory = start_memory setup.regions }
+beginning setup = record { number = 0; tables = tables_of setup.files; cs = []; mm = []; md = []; pipes = empty_pipes; made = []; memory = start_memory setup.regions }
 
 -- whether an application is held in a frame
-unfoldable pub is_held : App → Frame → Bool
+abbrev pub is_held : App → Frame → Bool
 is_held app frame = list_any (is_same app) frame.held
 
 -- the frame's image: memory with the frame's upsets, written in line order
 unfoldable pub image_at : State → Frame → Memory
 image_at s frame = fold upset_by s.memory frame.upsets
 
--- what CS reads in a frame
+-- the frame's time
+abbrev pub time_at : Setup → State → ℕ
+time_at setup s = setup.epoch + s.number
+
+-- what CS, MM and MD read in a frame
 unfoldable pub cs_input_at : Setup → State → Frame → CsInput
-cs_input_at setup s frame = record { time = setup.epoch + s.number; commands = s.pipes.cs; image = image_at s frame }
+cs_input_at setup s frame = cs_reads (time_at setup s) s.pipes.cs (image_at s frame)
 
--- CS's history behind a frame
-unfoldable pub cs_after : Setup → State → Frame → List CsInput
-cs_after setup s frame = if is_held apps.Cs frame then s.cs else (s.cs ++ cs_input_at setup s frame ∷ [])
-
--- what MM reads in a frame
 unfoldable pub mm_input_at : Setup → State → Frame → MmInput
-mm_input_at setup s frame = record { time = setup.epoch + s.number; commands = s.pipes.mm; image = image_at s frame }
+mm_input_at setup s frame = mm_reads (time_at setup s) s.pipes.mm (image_at s frame)
 
--- MM's history behind a frame
-unfoldable pub mm_after : Setup → State → Frame → List MmInput
-mm_after setup s frame = if is_held apps.Mm frame then s.mm else (s.mm ++ mm_input_at setup s frame ∷ [])
-
--- what MD reads in a frame
 unfoldable pub md_input_at : Setup → State → Frame → MdInput
-md_input_at setup s frame = record { time = setup.epoch + s.number; commands = s.pipes.md; image = image_at s frame }
+md_input_at setup s frame = md_reads (time_at setup s) s.pipes.md (image_at s frame)
 
--- MD's history behind a frame
-unfoldable pub md_after : Setup → State → Frame → List MdInput
-md_after setup s frame = if is_held apps.Md frame then s.md else (s.md ++ md_input_at setup s frame ∷ [])
-
--- what each application gives in a frame
-unfoldable pub cs_items_at : Setup → State → Frame → List Out
-cs_items_at setup s frame = if is_held apps.Cs frame then [] else cs_items setup.tables.eeprom setup.tables.memory s.cs (cs_input_at setup s frame)
-
-unfoldable pub mm_items_at : Setup → State → Frame → List Out
-mm_items_at setup s frame = if is_held apps.Mm frame then [] else mm_items s.mm (mm_input_at setup s frame)
-
-unfoldable pub md_items_at : Setup → State → Frame → List Out
-md_items_at setup s frame = if is_held apps.Md frame then [] else md_items setup.tables.dwells s.md (md_input_at setup s frame)
-
--- the items that the applications give, in the order of the applications
-unfoldable pub items_at : Setup → State → Frame → List Out
-items_at setup s frame = cs_items_at setup s frame ++ (mm_items_at setup s frame ++ md_items_at setup s frame)
+-- what the applications give in a frame, a list each, in their order
+unfoldable pub items_at : Setup → State → Frame → List (List Out)
+items_at setup s frame =
+    unless (is_held apps.Cs frame) (cs_gives s.tables s.cs (cs_input_at setup s frame))
+    ∷ unless (is_held apps.Mm frame) (mm_gives s.tables s.mm (mm_input_at setup s frame))
+    ∷ unless (is_held apps.Md frame) (md_gives s.tables s.md (md_input_at setup s frame))
+    ∷ []
 
 -- the memory operations of a frame, in command order
 unfoldable pub operations_at : Setup → State → Frame → List MemOp
-operations_at setup s frame = if is_held apps.Mm frame then [] else mm_operations (mm_input_at setup s frame)
+operations_at setup s frame = unless (is_held apps.Mm frame) (mm_operations (mm_input_at setup s frame))
 
--- what the pipes hold once the applications were woken
-unfoldable pub left_in_pipes : Frame → Pipes → Pipes
-left_in_pipes frame pipes = record {
-  hs = left_in_pipe (is_held apps.Hs frame) pipes.hs;
-  hs_ev = left_in_pipe (is_held apps.Hs frame) pipes.hs_ev;
-  cs = left_in_pipe (is_held apps.Cs frame) pipes.cs;
-  sc = left_in_pipe (is_held apps.Sc frame) pipes.sc;
-  mm = left_in_pipe (is_held apps.Mm frame) pipes.mm;
-  md = left_in_pipe (is_held apps.Md frame) pipes.md;
+-- what the pipes hold once the applications were woken that aren't among those that are held
+unfoldable pub left_by : List App → Pipes → Pipes
+left_by held pipes = record {
+  hs = left_in_pipe (list_any (is_same apps.Hs) held) pipes.hs;
+  hs_ev = left_in_pipe (list_any (is_same apps.Hs) held) pipes.hs_ev;
+  cs = left_in_pipe (list_any (is_same apps.Cs) held) pipes.cs;
+  sc = left_in_pipe (list_any (is_same apps.Sc) held) pipes.sc;
+  mm = left_in_pipe (list_any (is_same apps.Mm) held) pipes.mm;
+  md = left_in_pipe (list_any (is_same apps.Md) held) pipes.md;
 }
 
 -- the items of a frame as they are sent
 unfoldable pub sent_at : Setup → State → Frame → List Out
-sent_at setup s frame = sent_of s.made (items_at setup s frame)
+sent_at setup s frame = sent_of s.made (joined (items_at setup s frame))
 
 -- what is offered to the pipes: the frame's packets, and then the applications'
 unfoldable pub offers_at : Setup → State → Frame → List (List ℕ)
@@ -114,17 +102,18 @@ offers_at setup s frame = frame.sends ++ flat_map packet_in (sent_at setup s fra
 unfoldable pub lines_at : Setup → State → Frame → List ℕ
 lines_at setup s frame =
     flat_map (item_line s.number) (sent_at setup s frame)
-    ++ flat_map (drop_line s.number) (drops_from (left_in_pipes frame s.pipes) (offers_at setup s frame))
+    ++ flat_map (drop_line s.number) (drops_from (left_by frame.held s.pipes) (offers_at setup s frame))
 
 -- what the run has come to after one more frame
 unfoldable pub after_frame : Setup → State → Frame → State
 after_frame setup s frame = record {
   number = s.number + 1;
-  cs = cs_after setup s frame;
-  mm = mm_after setup s frame;
-  md = md_after setup s frame;
-  pipes = after_offers (left_in_pipes frame s.pipes) (offers_at setup s frame);
-  made = s.made ++ flat_map makes (items_at setup s frame);
+  tables = s.tables;
+  cs = history_after (is_held apps.Cs frame) s.cs (cs_input_at setup s frame);
+  mm = history_after (is_held apps.Mm frame) s.mm (mm_input_at setup s frame);
+  md = history_after (is_held apps.Md frame) s.md (md_input_at setup s frame);
+  pipes = after_offers (left_by frame.held s.pipes) (offers_at setup s frame);
+  made = s.made ++ flat_map makes (joined (items_at setup s frame));
   memory = land [] (operations_at setup s frame) (image_at s frame);
 }
 

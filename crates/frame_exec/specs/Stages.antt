@@ -1,20 +1,25 @@
 -- What the stages of a frame change in the bench.
-use Rattle.std.specs.Prelude.{◌≡◌, ℕ, List, [], ◌++◌}
-use Rattle.std.specs.List.{flat_map}
+use Rattle.std.specs.Prelude.{◌≡◌, ℕ, ◌+◌, List, [], ◌∷◌, ◌++◌}
+use Rattle.std.specs.List.{flat_map, fold, list_any}
 use Rattle.bus_pipes.specs.Delivery.{after_offers, drops_from}
 use Rattle.bus_pipes.specs.declared.names.Out.{Out}
-use Rattle.memory_window.specs.Landing.{land}
-use Rattle.mm_core.specs.Standing.{Stands as MmStands}
-use Rattle.cs_slices.specs.Standing.{Stands as CsStands}
-use Rattle.md_dwell.specs.Standing.{Stands as MdStands}
+use Rattle.mm_core.specs.Step.{mm_operations}
 use Rattle.packet_log.specs.Items.{item_line}
 use Rattle.packet_log.specs.Lines.{drop_line}
 use Rattle.packet_log.specs.Standing.{Stands as LogStands}
+use Rattle.scenario.specs.declared.frame.App.{App}
+use Rattle.scenario.specs.declared.frame.App.TheVariants as names
+use Rattle.scenario.specs.declared.frame.Upset.{Upset}
 use Rattle.scenario.specs.FrameLists.{Frame}
 use Rattle.frame_exec.specs.declared.bench.Bench.{Bench}
-use Rattle.frame_exec.specs.Sending.{makes, sent_of, packet_in}
-use Rattle.frame_exec.specs.Slots.{AreSendable, MmFits, KeepsMm}
-use Rattle.frame_exec.specs.Runs.{Setup, State, image_at, cs_after, mm_after, md_after, items_at, operations_at, left_in_pipes, sent_at, offers_at}
+use Rattle.frame_exec.specs.Tables.{TableSet}
+use Rattle.frame_exec.specs.Sending.{is_same, upset_by, sent_of, packet_in}
+use Rattle.packet_log.specs.Sent.{makes}
+use Rattle.frame_exec.specs.Wakes.{joined, unless, AreSendable, HasTaken, IsWoken}
+use Rattle.frame_exec.specs.Applications.{cs_stands, mm_stands, md_stands, cs_gives, mm_gives, md_gives, cs_reads, mm_reads, md_reads}
+use Rattle.frame_exec.specs.Runs.{Setup, State, image_at, items_at, operations_at, left_by, sent_at, offers_at, after_frame}
+use Rattle.frame_exec.specs.Landable.{CanLand}
+use Rattle.frame_exec.specs.Standing.{AppsStand}
 
 -- number, epoch, the mark of failure and the tables stay
 pub record IsSameRun (old new : Bench) : Type 0 where
@@ -23,60 +28,86 @@ pub record IsSameRun (old new : Bench) : Type 0 where
   pub failed : new.failed ≡ old.failed
   pub tables : new.tables ≡ old.tables
 
--- what the applications gave, in the order of the applications
-abbrev pub items_in : Bench → List Out
-items_in b = b.cs.out.items ++ (b.mm.out.items ++ b.md.out.items)
+-- the states of the applications stay
+pub record KeepsApps (old new : Bench) : Type 0 where
+  pub cs : new.cs.state ≡ old.cs.state
+  pub mm : new.mm.state ≡ old.mm.state
+  pub md : new.md.state ≡ old.md.state
+
+-- what the applications gave, a list each, in their order
+abbrev pub items_in : Bench → List (List Out)
+items_in b = b.cs.out.items ∷ b.mm.out.items ∷ b.md.out.items ∷ []
+
+-- the upsets of a frame were written
+pub record IsUpset (upsets : List Upset) (old new : Bench) : Type 0 where
+  pub run : IsSameRun old new
+  pub apps : KeepsApps old new
+  pub pipes : new.bus ≡ old.bus
+  pub log : new.log ≡ old.log
+  pub memory : new.ram ≡ fold upset_by old.ram upsets
+
+-- each application took what its pipes held, unless it was held, and gave nothing yet
+pub record Takes (held : List App) (old new : Bench) : Type 0 where
+  pub run : IsSameRun old new
+  pub apps : KeepsApps old new
+  pub cs : HasTaken (list_any (is_same names.Cs) held) old.bus.cs new.cs.held new.cs.commands new.cs.out.items
+  pub mm : HasTaken (list_any (is_same names.Mm) held) old.bus.mm new.mm.held new.mm.commands new.mm.out.items
+  pub md : HasTaken (list_any (is_same names.Md) held) old.bus.md new.md.held new.md.commands new.md.out.items
+  pub operations : new.ops ≡ []
+  pub pipes : new.bus ≡ left_by held old.bus
+  pub log : new.log ≡ old.log
+  pub memory : new.ram ≡ old.ram
+
+-- no application gave anything yet
+pub record IsClear (b : Bench) : Type 0 where
+  pub cs : b.cs.out.items ≡ []
+  pub mm : b.mm.out.items ≡ []
+  pub md : b.md.out.items ≡ []
+  pub operations : b.ops ≡ []
+
+-- the time of the frame that comes
+abbrev pub time_of : Bench → ℕ
+time_of b = b.epoch + b.number
+
+-- the applications were woken on what they took and on memory, unless they were held
+pub record Steps (old new : Bench) : Type 0 where
+  pub run : IsSameRun old new
+  pub cs : IsWoken (cs_stands old.tables) (cs_gives old.tables) old.cs.held (cs_reads (time_of old) old.cs.commands old.ram) old.cs.state.value new.cs.state.value new.cs.out.items
+  pub mm : (tables : TableSet) → IsWoken (mm_stands tables) (mm_gives tables) old.mm.held (mm_reads (time_of old) old.mm.commands old.ram) old.mm.state.value new.mm.state.value new.mm.out.items
+  pub md : (tables : TableSet) → IsWoken (md_stands tables) (md_gives tables) old.md.held (md_reads (time_of old) old.md.commands old.ram) old.md.state.value new.md.state.value new.md.out.items
+  pub operations : new.ops ≡ unless old.mm.held (mm_operations (mm_reads (time_of old) old.mm.commands old.ram))
+  pub pipes : new.bus ≡ old.bus
+  pub log : new.log ≡ old.log
+  pub memory : new.ram ≡ old.ram
 
 -- What the wakeups leave can be sent, and landed on the frame's image.
 pub record CanSend (b : Bench) : Type 0 where
   pub cs : AreSendable 33 b.cs.out.items
-  pub mm : MmFits b.ram b.mm
+  pub mm : AreSendable 272 b.mm.out.items
   pub md : AreSendable 20 b.md.out.items
-
--- the applications were woken in a frame after s
-pub record WakesIn (setup : Setup) (s : State) (frame : Frame) (b : Bench) : Type 0 where
-  pub cs : CsStands setup.tables.eeprom setup.tables.memory (cs_after setup s frame) b.cs.state.value
-  pub mm : MmStands (mm_after setup s frame) b.mm.state.value
-  pub md : MdStands setup.tables.dwells (md_after setup s frame) b.md.state.value
-  pub items : items_in b ≡ items_at setup s frame
-  pub operations : b.mm.ops ≡ operations_at setup s frame
-  pub pipes : b.bus ≡ left_in_pipes frame s.pipes
-  pub made : LogStands s.made b.log
-  pub memory : b.ram ≡ image_at s frame
+  pub operations : CanLand b.ram b.ops
 
 -- the items were sent behind these packets
 pub record Sends (sends : List (List ℕ)) (old new : Bench) : Type 0 where
   pub run : IsSameRun old new
-  pub sent : (made : List (List ℕ)) → LogStands made old.log → new.sent.items ≡ sent_of made (items_in old)
-  pub made : (made : List (List ℕ)) → LogStands made old.log → LogStands (made ++ flat_map makes (items_in old)) new.log
-  pub pipes : new.bus ≡ after_offers (after_offers old.bus sends) (flat_map packet_in new.sent.items)
-  pub drops : new.drops.items ≡ drops_from old.bus sends ++ drops_from (after_offers old.bus sends) (flat_map packet_in new.sent.items)
-  pub cs : new.cs.state ≡ old.cs.state
-  pub mm : KeepsMm old.mm new.mm
-  pub md : new.md.state ≡ old.md.state
+  pub apps : KeepsApps old new
+  pub operations : new.ops ≡ old.ops
+  pub sent : (made : List (List ℕ)) → LogStands made old.log → joined (items_in new) ≡ sent_of made (joined (items_in old))
+  pub made : (made : List (List ℕ)) → LogStands made old.log → LogStands (made ++ flat_map makes (joined (items_in old))) new.log
+  pub pipes : new.bus ≡ after_offers old.bus (sends ++ flat_map packet_in (joined (items_in new)))
+  pub drops : new.drops.items ≡ drops_from old.bus (sends ++ flat_map packet_in (joined (items_in new)))
   pub memory : new.ram ≡ old.ram
 
 -- The frame was run after s, up to its lines: memory is its image, and its operations haven't landed.
 pub record RunsIn (setup : Setup) (s : State) (frame : Frame) (b : Bench) : Type 0 where
-  pub cs : CsStands setup.tables.eeprom setup.tables.memory (cs_after setup s frame) b.cs.state.value
-  pub mm : MmStands (mm_after setup s frame) b.mm.state.value
-  pub md : MdStands setup.tables.dwells (md_after setup s frame) b.md.state.value
-  pub sent : b.sent.items ≡ sent_at setup s frame
-  pub drops : b.drops.items ≡ drops_from (left_in_pipes frame s.pipes) (offers_at setup s frame)
-  pub pipes : b.bus ≡ after_offers (left_in_pipes frame s.pipes) (offers_at setup s frame)
-  pub made : LogStands (s.made ++ flat_map makes (items_at setup s frame)) b.log
-  pub operations : b.mm.ops ≡ operations_at setup s frame
+  pub apps : AppsStand b (after_frame setup s frame)
+  pub sent : joined (items_in b) ≡ sent_at setup s frame
+  pub drops : b.drops.items ≡ drops_from (left_by frame.held s.pipes) (offers_at setup s frame)
+  pub pipes : b.bus ≡ after_offers (left_by frame.held s.pipes) (offers_at setup s frame)
+  pub made : LogStands (s.made ++ flat_map makes (joined (items_at setup s frame))) b.log
+  pub operations : b.ops ≡ operations_at setup s frame
   pub memory : b.ram ≡ image_at s frame
-
--- the operations that MM left have landed
-pub record IsLanded (old new : Bench) : Type 0 where
-  pub cs : new.cs.state ≡ old.cs.state
-  pub mm : KeepsMm old.mm new.mm
-  pub md : new.md.state ≡ old.md.state
-  pub pipes : new.bus ≡ old.bus
-  pub log : new.log ≡ old.log
-  pub memory : new.ram ≡ land [] old.mm.ops old.ram
 
 -- the lines of what was sent and dropped
 abbrev pub lines_in : Bench → List ℕ
-lines_in b = flat_map (item_line b.number) b.sent.items ++ flat_map (drop_line b.number) b.drops.items
+lines_in b = flat_map (item_line b.number) (joined (items_in b)) ++ flat_map (drop_line b.number) b.drops.items

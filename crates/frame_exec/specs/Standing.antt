@@ -1,43 +1,42 @@
 -- When a bench stands for a list of frames.
-use Rattle.std.specs.Prelude.{◌≡◌, ◌+◌, ◌<◌, true, false, List, length, All}
+use Rattle.std.specs.Prelude.{◌≡◌, ℕ, ◌+◌, ◌<◌, true, false, List, length, All}
 use Rattle.memory_window.specs.Regions.{is_mapped}
-use Rattle.mm_core.specs.Standing.{Stands as MmStands}
 use Rattle.memory_window.specs.Memory.{regions_of}
-use Rattle.cs_slices.specs.Given.{SegmentsGiven}
-use Rattle.cs_slices.specs.Output.{Input as CsInput}
-use Rattle.cs_slices.specs.Standing.{Stands as CsStands}
-use Rattle.md_dwell.specs.Standing.{Stands as MdStands, AllGiven}
+use Rattle.md_dwell.specs.State.{AllGiven}
 use Rattle.packet_log.specs.Standing.{Stands as LogStands}
 use Rattle.scenario.specs.declared.progress.Header.{Header}
 use Rattle.scenario.specs.declared.frame.Upset.{Upset}
 use Rattle.scenario.specs.FrameLists.{Frame}
 use Rattle.frame_exec.specs.declared.bench.Bench.{Bench}
-use Rattle.frame_exec.specs.Tables.{TableSet}
+use Rattle.frame_exec.specs.Applications.{cs_stands, mm_stands, md_stands}
+use Rattle.frame_exec.specs.Ready.{CsIsReady}
 use Rattle.frame_exec.specs.Runs.{Setup, State, image_at, run_of}
 
+-- the state of each application stands for its history
+pub record AppsStand (b : Bench) (s : State) : Type 0 where
+  pub cs : cs_stands s.tables s.cs b.cs.state.value
+  pub mm : mm_stands s.tables s.mm b.mm.state.value
+  pub md : md_stands s.tables s.md b.md.state.value
+
 -- the bench has what a run has come to
-pub record Has (b : Bench) (setup : Setup) (s : State) : Type 0 where
+pub record Has (b : Bench) (s : State) : Type 0 where
   pub number : b.number ≡ s.number
-  pub tables : b.tables ≡ setup.tables
-  pub cs : CsStands setup.tables.eeprom setup.tables.memory s.cs b.cs.state.value
-  pub mm : MmStands s.mm b.mm.state.value
-  pub md : MdStands setup.tables.dwells s.md b.md.state.value
+  pub tables : b.tables ≡ s.tables
+  pub apps : AppsStand b s
   pub pipes : b.bus ≡ s.pipes
   pub made : LogStands s.made b.log
   pub memory : b.ram ≡ s.memory
 
--- Each application can be woken: CS was started on the tables, and memory gives what the tables read.
+-- each application can be woken
 pub record IsReady (b : Bench) : Type 0 where
-  pub started : (history : List CsInput) × CsStands b.tables.eeprom b.tables.memory history b.cs.state.value
-  pub eeprom : SegmentsGiven (regions_of b.ram.areas) b.tables.eeprom
-  pub memory : SegmentsGiven (regions_of b.ram.areas) b.tables.memory
-  pub dwells : AllGiven (regions_of b.ram.areas) b.md.state.value
+  pub cs : CsIsReady (regions_of b.ram.areas) b.tables.eeprom b.tables.memory b.cs.state.value
+  pub md : AllGiven (regions_of b.ram.areas) b.md.state.value
 
 -- the bench stands for these frames, of a scenario with this header
 pub record Stands (b : Bench) (setup : Setup) (frames : List Frame) : Type 0 where
   pub epoch : b.epoch ≡ setup.epoch
   pub well : b.failed ≡ false
-  pub has : Has b setup (run_of setup frames)
+  pub has : Has b (run_of setup frames)
   pub ready : IsReady b
 
 -- A frame behind these frames was interrupted, as its lines couldn't all be written: its upsets are in memory, and none of its operations is.
@@ -49,6 +48,6 @@ pub record CanRun (setup : Setup) (frames : List Frame) (frame : Frame) : Type 0
   pub time : setup.epoch + length frames < 4294967296
   pub upsets : All (λ (u : Upset). is_mapped setup.regions u.at ≡ true) frame.upsets
 
--- what a header and the tables say
-abbrev pub setup_in : Header → TableSet → Setup
-setup_in header tables = record { epoch = header.epoch; regions = header.map; tables = tables }
+-- what a header and the named files say
+abbrev pub setup_in : Header → List (List ℕ) → Setup
+setup_in header files = record { epoch = header.epoch; regions = header.map; files = files }

@@ -1,16 +1,16 @@
--- The tables that files name, and the first fault that their entries have.
-use Rattle.std.specs.Prelude.{◌≡◌, ℕ, ◌+◌, ◌-◌, List, [], ◌∷◌, replicate, slice_set, Option, Some, None, option_map, Result, Ok, Err, fold}
+-- The tables that files name, and what is refused of their entries.
+use Rattle.std.specs.Prelude.{◌≡◌, ℕ, ◌+◌, ◌-◌, Bool, true, false, List, [], ◌∷◌, replicate, slice_set, Option, Some, None, option_map, Result, Ok, Err}
 use Rattle.memory_window.specs.declared.regions.Region.{Region}
 use Rattle.table_files.specs.Headers.{kind_of_file, payload_of_file}
 use Rattle.table_files.specs.declared.fault.EntryFault.{EntryFault}
 use Rattle.table_files.specs.declared.kinds.TableKind.{TableKind}
-use Rattle.table_files.specs.declared.kinds.TableKind.TheVariants.{Dwell, Eeprom, Memory}
+use Rattle.table_files.specs.declared.kinds.TableKind.TheVariants.{AppMon, EventMon, ExeCount, MsgActs, Ats, Rts, Dwell, Eeprom, Memory}
 use Rattle.cs_slices.specs.declared.segments.Segment.{Segment}
 use Rattle.cs_slices.specs.Tables.{blank_segments, segments_of, segments_fault_of}
 use Rattle.cs_slices.specs.Given.{SegmentsGiven, first_refused as first_refused_segment}
 use Rattle.md_dwell.specs.Tables.{DwellTable, blank_table, dwell_of, dwell_fault_of}
 use Rattle.md_dwell.specs.Given.{TablesGiven, first_refused}
-use Rattle.frame_exec.specs.declared.tables.TablesFault.{TablesFault}
+use Rattle.frame_exec.specs.declared.loading.TablesFault.{TablesFault}
 use Rattle.frame_exec.specs.declared.giving.OpenFault.{OpenFault}
 use Rattle.frame_exec.specs.declared.giving.OpenFault.TheVariants.{Region as AtRegion, NoMemory}
 
@@ -24,20 +24,82 @@ pub record TableSet : Type 0 where
 unfoldable pub blank_tables : TableSet
 blank_tables = record { dwells = replicate 4 blank_table; eeprom = blank_segments; memory = blank_segments }
 
--- the tables with that of this kind and payload
-abbrev pub with_table : Option TableKind → List ℕ → TableSet → TableSet
-with_table (Some (Dwell n)) payload tables = record tables { dwells = slice_set tables.dwells (n - 1) (dwell_of payload) }
-with_table (Some Eeprom) payload tables = record tables { eeprom = segments_of payload }
-with_table (Some Memory) payload tables = record tables { memory = segments_of payload }
-with_table _ payload tables = tables
+-- what is said of a table of this kind and payload, or else of what is no table
+abbrev pub by_kind : {A : Type 0} → A → (TableKind → List ℕ → A) → Option TableKind → List ℕ → A
+by_kind none say None payload = none
+by_kind none say (Some kind) payload = say kind payload
 
--- the tables with that of a file
+-- what is said of a file
+unfoldable pub by_file : {A : Type 0} → A → (TableKind → List ℕ → A) → List ℕ → A
+by_file none say file = by_kind none say (kind_of_file file) (payload_of_file file)
+
+-- what is said where the entries have no fault, or else
+abbrev pub where_well : {A : Type 0} → A → A → Option EntryFault → A
+where_well well faulty None = well
+where_well well faulty (Some fault) = faulty
+
+-- whether an application has the tables of this kind
+abbrev pub is_loaded : TableKind → Bool
+is_loaded (Dwell n) = true
+is_loaded Eeprom = true
+is_loaded Memory = true
+is_loaded AppMon = false
+is_loaded EventMon = false
+is_loaded ExeCount = false
+is_loaded MsgActs = false
+is_loaded (Ats n) = false
+is_loaded (Rts n) = false
+
+-- the fault of the entries of a table
+abbrev pub entry_fault : TableKind → List ℕ → Option EntryFault
+entry_fault (Dwell n) payload = dwell_fault_of payload
+entry_fault Eeprom payload = segments_fault_of payload
+entry_fault Memory payload = segments_fault_of payload
+entry_fault AppMon payload = None
+entry_fault EventMon payload = None
+entry_fault ExeCount payload = None
+entry_fault MsgActs payload = None
+entry_fault (Ats n) payload = None
+entry_fault (Rts n) payload = None
+
+-- the tables with one more, where its entries have no fault
+abbrev pub with_table : TableSet → TableKind → List ℕ → TableSet
+with_table tables (Dwell n) payload = where_well (record tables { dwells = slice_set tables.dwells (n - 1) (dwell_of payload) }) tables (dwell_fault_of payload)
+with_table tables Eeprom payload = where_well (record tables { eeprom = segments_of payload }) tables (segments_fault_of payload)
+with_table tables Memory payload = where_well (record tables { memory = segments_of payload }) tables (segments_fault_of payload)
+with_table tables AppMon payload = tables
+with_table tables EventMon payload = tables
+with_table tables ExeCount payload = tables
+with_table tables MsgActs payload = tables
+with_table tables (Ats n) payload = tables
+with_table tables (Rts n) payload = tables
+
+-- the first entry of a table that memory of these regions refuses, where its entries have no fault
+abbrev pub refused_entry : List Region → TableKind → List ℕ → Option ℕ
+refused_entry regions (Dwell n) payload = where_well (first_refused regions (dwell_of payload).entries) None (dwell_fault_of payload)
+refused_entry regions Eeprom payload = where_well (first_refused_segment regions (segments_of payload)) None (segments_fault_of payload)
+refused_entry regions Memory payload = where_well (first_refused_segment regions (segments_of payload)) None (segments_fault_of payload)
+refused_entry regions AppMon payload = None
+refused_entry regions EventMon payload = None
+refused_entry regions ExeCount payload = None
+refused_entry regions MsgActs payload = None
+refused_entry regions (Ats n) payload = None
+refused_entry regions (Rts n) payload = None
+
+-- the same of files
+abbrev pub entry_fault_in : List ℕ → Option EntryFault
+entry_fault_in file = by_file None entry_fault file
+
 abbrev pub with_file : TableSet → List ℕ → TableSet
-with_file tables file = with_table (kind_of_file file) (payload_of_file file) tables
+with_file tables file = by_file tables (with_table tables) file
 
--- the tables that files name
+abbrev pub refused_in : List Region → List ℕ → Option ℕ
+refused_in regions file = by_file None (refused_entry regions) file
+
+-- the tables that files name: the first file of a kind counts
 unfoldable pub tables_of : List (List ℕ) → TableSet
-tables_of files = fold with_file blank_tables files
+tables_of [] = blank_tables
+tables_of (file ∷ files) = with_file (tables_of files) file
 
 -- what was said of file n, or else what was said behind it
 abbrev pub said_or : {A : Type 0} → ℕ → Option A → Option (ℕ × A) → Option (ℕ × A)
@@ -48,17 +110,6 @@ said_or n (Some said) behind = Some (n, said)
 unfoldable pub first_said : {A : Type 0} → (List ℕ → Option A) → ℕ → List (List ℕ) → Option (ℕ × A)
 first_said say n [] = None
 first_said say n (file ∷ files) = said_or n (say file) (first_said say (n + 1) files)
-
--- the fault of the entries of a table of this kind and payload
-abbrev pub entry_fault : Option TableKind → List ℕ → Option EntryFault
-entry_fault (Some (Dwell n)) payload = dwell_fault_of payload
-entry_fault (Some Eeprom) payload = segments_fault_of payload
-entry_fault (Some Memory) payload = segments_fault_of payload
-entry_fault _ payload = None
-
--- the fault of the entries of a file
-unfoldable pub entry_fault_in : List ℕ → Option EntryFault
-entry_fault_in file = entry_fault (kind_of_file file) (payload_of_file file)
 
 -- the fault of the entries of file n
 abbrev pub fault_at : ℕ × EntryFault → TablesFault
@@ -72,17 +123,6 @@ tables_fault files = option_map fault_at (first_said entry_fault_in 1 files)
 pub record AreLoaded (files : List (List ℕ)) (tables : TableSet) : Type 0 where
   pub well : tables_fault files ≡ None
   pub named : tables ≡ tables_of files
-
--- the first entry of a table of this kind and payload that memory of these regions refuses
-abbrev pub refused_entry : List Region → Option TableKind → List ℕ → Option ℕ
-refused_entry regions (Some (Dwell n)) payload = first_refused regions (dwell_of payload).entries
-refused_entry regions (Some Eeprom) payload = first_refused_segment regions (segments_of payload)
-refused_entry regions (Some Memory) payload = first_refused_segment regions (segments_of payload)
-refused_entry regions _ payload = None
-
--- the first entry of a file that memory of these regions refuses
-unfoldable pub refused_in : List Region → List ℕ → Option ℕ
-refused_in regions file = refused_entry regions (kind_of_file file) (payload_of_file file)
 
 -- the first file with an entry that memory of these regions refuses, and its first such entry
 unfoldable pub region_fault : List Region → List (List ℕ) → Option (ℕ × ℕ)

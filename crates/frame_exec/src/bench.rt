@@ -2,26 +2,28 @@
 
 ghost use Rattle.std.specs.Prelude.{◌≡◌};
 
-use crate::cs_slot::CsSlot;
+use crate::cs_slot::{CsReads, CsSlot};
 use crate::giving::{OpenFault, refused_place};
-use crate::md_slot::MdSlot;
-use crate::mm_slot::MmSlot;
+use crate::md_slot::{MdReads, MdSlot};
+use crate::mm_slot::{MmReads, MmSlot};
+use crate::slot::Slot;
 use crate::stages::{
-    deliver_sent, is_held, put_drops, put_items, stamp_all, take_others, upset_all,
+    deliver_all, in_order, is_held, put_drops, put_lists, stamp_all, take_unless, upset_all,
 };
 use crate::tables::Tables;
-use bus_pipes::{Batch, Bus, Drops, Outbox};
+use bus_pipes::{Batch, Bus, Drops, PipeName};
+use cs_slices::Cs;
 use fsw_outside::{Failed, Gate, NoMemory, Sink};
-use memory_window::Ram;
-use packet_log::Log;
-use scenario::{App, FrameInput, Header};
+use md_dwell::Md;
+use memory_window::{Ops, Ram};
+use mm_core::Mm;
+use packet_log::{Line, Log, head_of};
+use scenario::{App, FrameInput, Header, Upset};
 use std::alloc::Global;
 use std::thread::Threads;
 use table_files::Files;
 
-/// How many items all applications give in a frame at most.
-const ITEMS: u32 = 1461;
-/// How many packets are dropped in a frame at most.
+/// How many packets are dropped in a frame at most: all that are sent and all that the applications give.
 const DROPS: u32 = 1525;
 
 /// The bench, after some frames. It takes all its memory as it is opened.
@@ -35,13 +37,13 @@ pub struct Bench {
     cs: CsSlot,
     mm: MmSlot,
     md: MdSlot,
-    sent: Outbox,
+    ops: Ops,
     drops: Drops,
-    commands: Batch,
+    // what is taken for the applications that give nothing yet
+    others: Batch,
     bus: Bus,
     log: Log,
     ram: Ram,
-    ghost sent_room: { sent.room ≡ 1461 },
     ghost drops_room: { drops.room ≡ 1525 },
 }
 
@@ -53,12 +55,13 @@ impl Bench {
     ghost use Rattle.memory_window.specs.Regions.{is_mapped};
     ghost use Rattle.memory_window.specs.Memory.{regions_of};
     ghost use Rattle.scenario.specs.declared.frame.Upset.{Upset};
+    ghost use Rattle.scenario.specs.declared.frame.App.{App};
     ghost use Rattle.scenario.specs.FrameLists.{Frame};
     ghost use Rattle.frame_exec.specs.Runs.{Setup, State, frame_lines};
     ghost use Rattle.frame_exec.specs.Standing.{Has, IsReady, Stands, IsInterrupted, CanRun, setup_in};
     ghost use Rattle.frame_exec.specs.Tables.{SetGiven, AreLoaded, Opens, region_fault};
-    ghost use Rattle.frame_exec.specs.Slots.{CanLand};
-    ghost use Rattle.frame_exec.specs.Stages.{IsSameRun, WakesIn, CanSend, Sends, RunsIn, lines_in};
+    ghost use Rattle.frame_exec.specs.Landable.{CanLand};
+    ghost use Rattle.frame_exec.specs.Stages.{IsSameRun, IsUpset, Takes, IsClear, Steps, CanSend, Sends, RunsIn, lines_in};
 
     /// A bench with the tables that were loaded from these files and the memory of the header's map, which stands for no
     /// frames; the number of workers is from 1 to 16. `Region` comes exactly where that memory refuses the read of a dwell
@@ -73,38 +76,38 @@ impl Bench {
     ) -> Result<Bench, OpenFault>
         requires workers { (1 ≤ workers) × (workers ≤ 16) }
         requires loaded { AreLoaded files.now tables }
-        ensures stands { IfOk result (λ bench. Stands bench (setup_in header.now tables) []) }
+        ensures stands { IfOk result (λ bench. Stands bench (setup_in header.now files.now) []) }
         ensures refused { Opens (region_fault header.now.map files.now) result }
     {
         let _ = workers;
-        match refused_place(&header.map, files) {
-            Some(place) => Err(OpenFault::Region {
+        if let Some(place) = refused_place(&header.map, files) {
+            return Err(OpenFault::Region {
                 file: place.file,
                 entry: place.entry,
-            }),
-            None => match Bench::begin(alloc, &tables, header) {
-                Ok(bench) => Ok(bench),
-                Err(_) => Err(OpenFault::NoMemory),
-            },
+            });
+        }
+        match Bench::begin(alloc, &tables, header) {
+            Ok(bench) => Ok(bench),
+            Err(NoMemory) => Err(OpenFault::NoMemory),
         }
     }
 
-    // A bench that stands for no frames.
+    // A bench that stands for no frames, on tables whose reads the header's map gives.
     fn begin(alloc: Global, tables: &Tables, header: &Header) -> Result<Bench, NoMemory>
         requires given { SetGiven header.now.map tables.now }
-        ensures { IfOk result (λ bench. Stands bench (setup_in header.now tables.now) []) }
+        ensures { (files : List (List ℕ)) → AreLoaded files tables.now → IfOk result (λ bench. Stands bench (setup_in header.now files) []) }
     {
         Ok(Bench {
             epoch: header.epoch,
             number: 0,
             failed: false,
             tables: *tables,
-            cs: CsSlot::open(alloc, tables.eeprom(), tables.memory())?,
-            mm: MmSlot::open(alloc)?,
-            md: MdSlot::open(alloc, tables.dwells())?,
-            sent: Outbox::open(alloc, ITEMS)?,
+            cs: Slot::open(alloc, Cs::start(tables.eeprom(), tables.memory()))?,
+            mm: Slot::open(alloc, Mm::start())?,
+            md: Slot::open(alloc, Md::start(tables.dwells()))?,
+            ops: Ops::new(),
             drops: Drops::open(alloc, DROPS)?,
-            commands: Batch::new(),
+            others: Batch::new(),
             bus: Bus::open(alloc)?,
             log: Log::start(),
             ram: Ram::new(alloc, header.map)?,
@@ -139,7 +142,7 @@ impl Bench {
         self.run(input);
         match self.write(sink) {
             Ok(()) => {
-                self.ram.land(self.mm.ops.items());
+                self.ram.land(self.ops.items());
                 self.number += 1;
                 Ok(())
             }
@@ -150,43 +153,56 @@ impl Bench {
         }
     }
 
-    // Writes the frame's upsets, and wakes the applications on its image.
-    fn wake(&mut self, input: &FrameInput)
+    // Writes the frame's upsets.
+    fn upset(&mut self, upsets: &[Upset])
+        requires { All (λ (u : Upset). is_mapped (regions_of self.old.ram.areas) u.at ≡ true) upsets.now }
+        ensures { IsUpset upsets.now self.old self.new }
+    {
+        upset_all(&mut self.ram, upsets);
+    }
+
+    // Each application takes what its pipes hold, unless it is held.
+    fn take(&mut self, held: &[App])
+        ensures { Takes held.now self.old self.new }
+    {
+        let hs_held = is_held(App::Hs, held);
+        take_unless(&mut self.bus, PipeName::Hs, hs_held, &mut self.others);
+        take_unless(&mut self.bus, PipeName::HsEv, hs_held, &mut self.others);
+        self.cs
+            .take(&mut self.bus, PipeName::Cs, is_held(App::Cs, held));
+        take_unless(
+            &mut self.bus,
+            PipeName::Sc,
+            is_held(App::Sc, held),
+            &mut self.others,
+        );
+        self.mm
+            .take(&mut self.bus, PipeName::Mm, is_held(App::Mm, held));
+        self.md
+            .take(&mut self.bus, PipeName::Md, is_held(App::Md, held));
+        self.ops.clear();
+    }
+
+    // Wakes the applications on what they took, and on the frame's image.
+    fn step(&mut self)
         requires time { self.old.epoch + self.old.number < 4294967296 }
-        requires upsets { All (λ (u : Upset). is_mapped (regions_of self.old.ram.areas) u.at ≡ true) input.now.upsets }
+        requires clear { IsClear self.old }
         requires ready { IsReady self.old }
-        ensures wakes { (setup : Setup) (s : State) → self.old.epoch ≡ setup.epoch → Has self.old setup s → WakesIn setup s input.now self.new }
-        ensures run { IsSameRun self.old self.new }
+        ensures steps { Steps self.old self.new }
         ensures can_send { CanSend self.new }
         ensures ready { IsReady self.new }
     {
-        upset_all(&mut self.ram, input.upsets());
-        let now = self.epoch + self.number as u32;
-        let held = input.held();
-        self.cs.wake(
-            is_held(App::Cs, held),
-            self.tables.eeprom(),
-            self.tables.memory(),
-            &mut self.bus,
-            &mut self.commands,
-            self.ram.window(),
-            now,
-        );
-        self.mm.wake(
-            is_held(App::Mm, held),
-            &mut self.bus,
-            &mut self.commands,
-            self.ram.window(),
-            now,
-        );
-        self.md.wake(
-            is_held(App::Md, held),
-            &mut self.bus,
-            &mut self.commands,
-            self.ram.window(),
-            now,
-        );
-        take_others(&mut self.bus, held, &mut self.commands);
+        let time = self.epoch + self.number as u32;
+        let window = self.ram.window();
+        let cs = CsReads {
+            eeprom: self.tables.eeprom(),
+            memory: self.tables.memory(),
+            window,
+            time,
+        };
+        self.cs.step(cs, &mut ());
+        self.mm.step(MmReads { window, time }, &mut self.ops);
+        self.md.step(MdReads { window, time }, &mut ());
     }
 
     // Gives the items their counts, and offers the frame's packets and theirs to the pipes.
@@ -194,27 +210,39 @@ impl Bench {
         requires { CanSend self.old }
         ensures { Sends input.now.sends self.old self.new }
     {
-        self.sent.clear();
-        stamp_all(&mut self.log, self.cs.out.items(), &mut self.sent);
-        stamp_all(&mut self.log, self.mm.out.items(), &mut self.sent);
-        stamp_all(&mut self.log, self.md.out.items(), &mut self.sent);
+        stamp_all(&mut self.log, &mut self.cs.out);
+        stamp_all(&mut self.log, &mut self.mm.out);
+        stamp_all(&mut self.log, &mut self.md.out);
         self.drops.clear();
         self.bus.deliver(input.sends(), &mut self.drops);
-        deliver_sent(&mut self.bus, self.sent.items(), &mut self.drops);
+        deliver_all(&mut self.bus, &self.cs, &self.mm, &self.md, &mut self.drops);
     }
 
-    // Runs a frame up to its lines.
+    // Runs a frame up to its lines: writes its upsets, wakes the applications on its image, and sends what they gave.
     fn run(&mut self, input: &FrameInput)
         requires time { self.old.epoch + self.old.number < 4294967296 }
         requires upsets { All (λ (u : Upset). is_mapped (regions_of self.old.ram.areas) u.at ≡ true) input.now.upsets }
         requires ready { IsReady self.old }
-        ensures runs { (setup : Setup) (s : State) → self.old.epoch ≡ setup.epoch → Has self.old setup s → RunsIn setup s input.now self.new }
+        ensures runs { (setup : Setup) (s : State) → self.old.epoch ≡ setup.epoch → Has self.old s → RunsIn setup s input.now self.new }
         ensures run { IsSameRun self.old self.new }
-        ensures can_land { CanLand self.new.ram self.new.mm.ops }
+        ensures can_land { CanLand self.new.ram self.new.ops }
         ensures ready { IsReady self.new }
     {
-        self.wake(input);
+        self.upset(input.upsets());
+        self.take(input.held());
+        self.step();
         self.send(input);
+    }
+
+    // Whether nothing was sent nor dropped in the frame that was run.
+    #[inline(always)]
+    fn is_silent(&self) -> bool
+        ensures { result ≡ true → lines_in self.now ≡ [] }
+    {
+        self.cs.out.is_empty()
+            && self.mm.out.is_empty()
+            && self.md.out.is_empty()
+            && self.drops.is_empty()
     }
 
     // Writes the lines of the frame that was run.
@@ -223,10 +251,24 @@ impl Bench {
         ensures content { WhereTold (O.held sink.old) (O.held sink.new) (WritesAll result (lines_in self.now)) }
         ensures cause { HasCause (O.held sink.new) (O.faults sink.old) (O.faults sink.new) result }
     {
-        let number = self.number as u32;
-        match put_items(sink, number, self.sent.items()) {
-            Ok(()) => put_drops(sink, number, self.drops.items()),
-            Err(failed) => Err(failed),
+        if self.is_silent() {
+            return Ok(());
         }
+        self.write_lines(sink)
+    }
+
+    // Writes the lines of the frame that was run, which are some.
+    fn write_lines<O: Sink>(&self, sink: &mut O) -> Result<(), Failed>
+        requires { self.now.number < 4294967296 }
+        ensures content { WhereTold (O.held sink.old) (O.held sink.new) (WritesAll result (lines_in self.now)) }
+        ensures cause { HasCause (O.held sink.new) (O.faults sink.old) (O.faults sink.new) result }
+    {
+        let mut line = Line::new();
+        let head = head_of(self.number as u32);
+        let lists = in_order(&self.cs, &self.mm, &self.md);
+        let Ok(()) = put_lists(sink, &mut line, head.bytes(), &lists) else {
+            return Err(Failed);
+        };
+        put_drops(sink, &mut line, head.bytes(), self.drops.items())
     }
 }

@@ -1,17 +1,21 @@
 //! A frame of the bench: upsets, wakeups, items in order, pipes, landing, lines.
 #![tactic(auto)]
 
+mod application;
 mod bench;
 mod cs_slot;
 mod giving;
+mod loading;
 mod md_slot;
 mod mm_slot;
+mod slot;
 mod stages;
 mod tables;
 
 pub use bench::Bench;
 pub use giving::OpenFault;
-pub use tables::{Tables, TablesFault};
+pub use loading::TablesFault;
+pub use tables::Tables;
 
 #[cfg(test)]
 mod tests;

@@ -1,72 +1,64 @@
-//! MM in the bench: its state, and what it gives in a frame.
+//! MM as the bench wakes it.
 
-ghost use Rattle.std.specs.Prelude.{◌≡◌, List, [], length, All, IfOk};
+ghost use Rattle.std.specs.Prelude.{◌≡◌, []};
 ghost use Rattle.memory_window.specs.Window.{seen};
-ghost use Rattle.frame_exec.specs.Sending.{taken};
-ghost use Rattle.mm_core.specs.Standing.{Stands, input_of};
+ghost use Rattle.mm_core.specs.Step.{Input, input_of, mm_operations};
+ghost use Rattle.frame_exec.specs.Tables.{TableSet};
+ghost use Rattle.frame_exec.specs.Applications.{mm_stands, mm_gives};
+ghost use Rattle.frame_exec.specs.Landable.{CanLand};
 
-use bus_pipes::{Batch, Bus, Outbox, PipeName};
-use fsw_outside::NoMemory;
+use crate::application::Application;
+use crate::slot::Slot;
+use bus_pipes::Outbox;
 use memory_window::{Ops, Window};
 use mm_core::Mm;
-use std::alloc::Global;
+use packet_forms::Packet;
 
 /// How many items MM gives in a frame at most.
-const ITEMS: u32 = 272;
+pub(crate) const MM_ITEMS: u32 = 272;
 
-/// MM's state, and the items and operations that it gave in the last frame.
-#[derive(Drop)]
-pub struct MmSlot {
-    pub(crate) state: Box<Mm>,
-    // the place of the state after the frame: the two places take turns, so that a state is copied once a frame
-    next: Box<Mm>,
-    pub(crate) out: Outbox,
-    pub(crate) ops: Ops,
-    ghost roomy: { out.room ≡ 272 },
+pub(crate) type MmSlot = Slot<Mm, MM_ITEMS>;
+
+/// What MM reads in a frame beside its packets: the frame's image, and its time.
+#[derive(Clone, Copy, Drop)]
+pub(crate) struct MmReads<'a> {
+    pub(crate) window: Window<'a>,
+    pub(crate) time: u32,
 }
 
-impl MmSlot {
-    ghost use Rattle.frame_exec.specs.Slots.{WakesMm, MmFits};
+impl<'a> Application<MmReads<'a>, Ops> for Mm {
+    ghost Setup = { TableSet };
 
-    /// MM before the first frame.
-    pub(crate) fn open(alloc: Global) -> Result<MmSlot, NoMemory>
-        ensures { IfOk result (λ slot. Stands [] slot.state.value) }
-    {
-        Ok(MmSlot {
-            state: Box::new(alloc, Mm::start())?,
-            next: Box::new(alloc, Mm::start())?,
-            out: Outbox::open(alloc, ITEMS)?,
-            ops: Ops::new(),
-        })
+    ghost Input = { Input };
+
+    ghost stands = { mm_stands };
+
+    ghost items = { mm_gives };
+
+    ghost most = { 272 };
+
+    ghost belongs = { λ setup reads. Unit {0} };
+
+    ghost input = { λ reads commands. input_of reads.time commands reads.window };
+
+    ghost can_step = { λ reads mm. Unit {0} };
+
+    ghost is_clear = { λ ops. ops ≡ [] };
+
+    ghost fills = { λ reads commands ops. (ops ≡ mm_operations (input_of reads.time commands reads.window)) × CanLand (seen reads.window) ops };
+
+    fn is_idle(&self, reads: MmReads<'a>, commands: &[Packet]) -> bool {
+        let _ = reads;
+        self.is_idle(commands)
     }
 
-    /// Wakes MM on the packets of its pipe and on the frame's image, unless it is held.
-    pub(crate) fn wake(
+    fn advance(
         &mut self,
-        held: bool,
-        bus: &mut Bus,
-        batch: &mut Batch,
-        window: Window<'_>,
-        now: u32,
-    )
-        ensures wakes { WakesMm held (input_of now bus.old.mm window.entry) self.old self.new }
-        ensures pipes { bus.new ≡ taken PipeName.Mm held bus.old }
-        ensures fits { MmFits (seen window.entry) self.new }
-    {
-        self.out.clear();
-        self.ops.clear();
-        if held {
-            return;
-        }
-        bus.take_all(PipeName::Mm, batch);
-        self.state.step(
-            batch.packets(),
-            window,
-            now,
-            &mut self.next,
-            &mut self.out,
-            &mut self.ops,
-        );
-        std::mem::swap(&mut self.state, &mut self.next);
+        reads: MmReads<'a>,
+        commands: &[Packet],
+        out: &mut Outbox,
+        beside: &mut Ops,
+    ) {
+        self.advance(commands, reads.window, reads.time, out, beside);
     }
 }

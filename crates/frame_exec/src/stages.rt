@@ -1,7 +1,7 @@
 //! The loops of a frame, over the parts of the bench.
 
-ghost use Rattle.std.specs.Prelude.{◌≡◌, ℕ, ◌+◌, ◌≤◌, ◌++◌, true, List, [], length, All};
-ghost use Rattle.std.specs.List.{flat_map, fold, list_any};
+ghost use Rattle.std.specs.Prelude.{◌≡◌, ℕ, ◌+◌, ◌≤◌, ◌++◌, true, List, [], ◌∷◌, length, All, decimal};
+ghost use Rattle.std.specs.List.{AllPass, flat_map, fold, list_any};
 ghost use Rattle.fsw_outside.specs.Told.{WhereTold};
 ghost use Rattle.fsw_outside.specs.Causes.{HasCause};
 ghost use Rattle.fsw_outside.specs.Written.{WritesAll};
@@ -12,26 +12,30 @@ ghost use Rattle.memory_window.specs.Regions.{is_mapped};
 ghost use Rattle.memory_window.specs.Memory.{regions_of};
 ghost use Rattle.packet_log.specs.Items.{item_line};
 ghost use Rattle.packet_log.specs.Lines.{drop_line};
+ghost use Rattle.packet_log.specs.Sent.{makes};
 ghost use Rattle.packet_log.specs.Standing.{Stands as LogStands};
-ghost use Rattle.frame_exec.specs.Sending.{is_same, left_in_pipe, taken, upset_by, makes, as_sent, sent_of, packet_in};
+ghost use Rattle.frame_exec.specs.Wakes.{joined};
+ghost use Rattle.frame_exec.specs.Sending.{place_of, is_same, taken, upset_by, sent_of, packet_in, shown};
 
+use crate::cs_slot::CsSlot;
+use crate::md_slot::MdSlot;
+use crate::mm_slot::MmSlot;
 use bus_pipes::{Batch, Bus, Dropped, Drops, Out, Outbox, PipeName};
 use fsw_outside::{Failed, Sink};
 use memory_window::Ram;
-use packet_log::{Log, drop_line, item_line, put_text};
+use packet_log::{Line, Log, put_bytes, write_drop, write_item};
 use scenario::{App, Upset};
 
-/// Whether two names are one application's.
-fn is_same(one: App, other: App) -> bool
-    ensures { result ≡ is_same one other }
+// The place of an application in the order of the applications.
+fn place_of(app: App) -> u8
+    ensures { result ≡ place_of app }
 {
-    match (one, other) {
-        (App::Hs, App::Hs) => true,
-        (App::Cs, App::Cs) => true,
-        (App::Sc, App::Sc) => true,
-        (App::Mm, App::Mm) => true,
-        (App::Md, App::Md) => true,
-        _ => false,
+    match app {
+        App::Hs => 0,
+        App::Cs => 1,
+        App::Sc => 2,
+        App::Mm => 3,
+        App::Md => 4,
     }
 }
 
@@ -39,31 +43,17 @@ fn is_same(one: App, other: App) -> bool
 pub(crate) fn is_held(app: App, held: &[App]) -> bool
     ensures { result ≡ list_any (is_same app) held.now }
 {
-    held.iter().any(|other| is_same(app, *other))
+    held.iter().any(|other| place_of(app) == place_of(*other))
 }
 
 /// Takes all packets of a pipe, unless its application is held.
-fn take_unless(bus: &mut Bus, pipe: PipeName, held: bool, batch: &mut Batch)
+pub(crate) fn take_unless(bus: &mut Bus, pipe: PipeName, held: bool, batch: &mut Batch)
     ensures { bus.new ≡ taken pipe held bus.old }
 {
     if held {
         return;
     }
     bus.take_all(pipe, batch);
-}
-
-/// Takes all packets of the applications that give nothing yet, unless they are held.
-pub(crate) fn take_others(bus: &mut Bus, held: &[App], batch: &mut Batch)
-    ensures { bus.new ≡ record bus.old {
-      hs = left_in_pipe (list_any (is_same App.Hs) held.now) bus.old.hs;
-      hs_ev = left_in_pipe (list_any (is_same App.Hs) held.now) bus.old.hs_ev;
-      sc = left_in_pipe (list_any (is_same App.Sc) held.now) bus.old.sc;
-    } }
-{
-    let hs_held = is_held(App::Hs, held);
-    take_unless(bus, PipeName::Hs, hs_held, batch);
-    take_unless(bus, PipeName::HsEv, hs_held, batch);
-    take_unless(bus, PipeName::Sc, is_held(App::Sc, held), batch);
 }
 
 /// Writes the frame's upsets, in line order.
@@ -76,32 +66,16 @@ pub(crate) fn upset_all(ram: &mut Ram, upsets: &[Upset])
     }
 }
 
-/// An item as it is sent: what was made gets its sequence count.
-fn stamp(log: &mut Log, item: &Out) -> Out
-    requires { is_item_counted item.now ≡ true }
-    ensures sent { (made : List (List ℕ)) → LogStands made log.old → result ≡ as_sent made item.now }
-    ensures stands { (made : List (List ℕ)) → LogStands made log.old → LogStands (made ++ makes item.now) log.new }
+/// Makes of the items what is sent, where they stand.
+pub(crate) fn stamp_all(log: &mut Log, out: &mut Outbox)
+    requires counted { AllPass is_item_counted out.old.items }
+    ensures sent { (made : List (List ℕ)) → LogStands made log.old → out.new.items ≡ sent_of made out.old.items }
+    ensures stands { (made : List (List ℕ)) → LogStands made log.old → LogStands (made ++ flat_map makes out.old.items) log.new }
+    ensures few { length out.new.items ≡ length out.old.items }
+    ensures room { out.new.room ≡ out.old.room }
 {
-    match item {
-        Out::Made(packet) => Out::Made(log.stamp(*packet)),
-        Out::Stored(packet) => Out::Stored(*packet),
-        Out::Reset => Out::Reset,
-        Out::Restart(name) => Out::Restart(*name),
-        Out::Delete(name) => Out::Delete(*name),
-    }
-}
-
-/// Puts the items as they are sent behind those that were sent.
-pub(crate) fn stamp_all(log: &mut Log, items: &[Out], sent: &mut Outbox)
-    requires room { length sent.old.items + length items.now ≤ sent.old.room }
-    requires counted { All (λ item. is_item_counted item ≡ true) items.now }
-    ensures sent { (made : List (List ℕ)) → LogStands made log.old → sent.new.items ≡ sent.old.items ++ sent_of made items.now }
-    ensures stands { (made : List (List ℕ)) → LogStands made log.old → LogStands (made ++ flat_map makes items.now) log.new }
-    ensures few { length sent.new.items ≡ length sent.old.items + length items.now }
-    ensures room { sent.new.room ≡ sent.old.room }
-{
-    'items: for item in items {
-        sent.push(stamp(log, item));
+    'items: for i in 0..out.len() {
+        log.stamp_item(out.item_mut(i));
     }
 }
 
@@ -114,8 +88,8 @@ fn deliver_one(bus: &mut Bus, item: &Out, drops: &mut Drops)
     ensures room { drops.new.room ≡ drops.old.room }
 {
     match item {
-        Out::Made(packet) => bus.route(*packet, drops),
-        Out::Stored(packet) => bus.route(*packet, drops),
+        Out::Made(packet) => bus.route(packet, drops),
+        Out::Stored(packet) => bus.route(packet, drops),
         Out::Reset => {}
         Out::Restart(_) => {}
         Out::Delete(_) => {}
@@ -123,10 +97,11 @@ fn deliver_one(bus: &mut Bus, item: &Out, drops: &mut Drops)
 }
 
 /// Offers the packets of items that were sent to their pipes, in order.
-pub(crate) fn deliver_sent(bus: &mut Bus, items: &[Out], drops: &mut Drops)
+fn deliver_items(bus: &mut Bus, items: &[Out], drops: &mut Drops)
     requires { length drops.old.items + length items.now ≤ drops.old.room }
     ensures after { bus.new ≡ after_offers bus.old (flat_map packet_in items.now) }
     ensures drops { drops.new ≡ adding drops.old (drops_from bus.old (flat_map packet_in items.now)) }
+    ensures few { length drops.new.items ≤ length drops.old.items + length items.now }
     ensures room { drops.new.room ≡ drops.old.room }
 {
     'items: for item in items {
@@ -134,26 +109,89 @@ pub(crate) fn deliver_sent(bus: &mut Bus, items: &[Out], drops: &mut Drops)
     }
 }
 
-/// Writes the lines of items that were sent.
-pub(crate) fn put_items<O: Sink>(sink: &mut O, number: u32, items: &[Out]) -> Result<(), Failed>
-    ensures content { WhereTold (O.held sink.old) (O.held sink.new) (WritesAll result (flat_map (item_line number) items.now)) }
+/// What the applications gave, a list each, in their order.
+pub(crate) fn in_order<'a>(cs: &'a CsSlot, mm: &'a MmSlot, md: &'a MdSlot) -> [&'a [Out]; 3]
+    ensures shown { shown result ≡ joined (cs.now.out.items ∷ mm.now.out.items ∷ md.now.out.items ∷ []) }
+    ensures three { length result ≡ 3 }
+{
+    [cs.out.items(), mm.out.items(), md.out.items()]
+}
+
+/// Offers the packets of what the applications sent to their pipes, in the order of the applications.
+pub(crate) fn deliver_all(bus: &mut Bus, cs: &CsSlot, mm: &MmSlot, md: &MdSlot, drops: &mut Drops)
+    requires { length drops.old.items + length (joined (cs.now.out.items ∷ mm.now.out.items ∷ md.now.out.items ∷ [])) ≤ drops.old.room }
+    ensures after { bus.new ≡ after_offers bus.old (flat_map packet_in (joined (cs.now.out.items ∷ mm.now.out.items ∷ md.now.out.items ∷ []))) }
+    ensures drops { drops.new ≡ adding drops.old (drops_from bus.old (flat_map packet_in (joined (cs.now.out.items ∷ mm.now.out.items ∷ md.now.out.items ∷ [])))) }
+    ensures room { drops.new.room ≡ drops.old.room }
+{
+    deliver_lists(bus, &in_order(cs, mm, md), drops);
+}
+
+/// Offers the packets of lists of items that were sent to their pipes, one list after another.
+fn deliver_lists(bus: &mut Bus, lists: &[&[Out]], drops: &mut Drops)
+    requires { length drops.old.items + length (shown lists.now) ≤ drops.old.room }
+    ensures after { bus.new ≡ after_offers bus.old (flat_map packet_in (shown lists.now)) }
+    ensures drops { drops.new ≡ adding drops.old (drops_from bus.old (flat_map packet_in (shown lists.now))) }
+    ensures room { drops.new.room ≡ drops.old.room }
+{
+    'lists: for list in lists {
+        deliver_items(bus, list, drops);
+    }
+}
+
+/// Writes the lines of items that were sent. `head` is the frame's number in decimal.
+fn put_items<O: Sink>(
+    sink: &mut O,
+    line: &mut Line,
+    head: &[u8],
+    items: &[Out],
+) -> Result<(), Failed>
+    requires { length head.now ≤ 40 }
+    ensures content { (frame : ℕ) → head.now ≡ decimal frame → WhereTold (O.held sink.old) (O.held sink.new) (WritesAll result (flat_map (item_line frame) items.now)) }
     ensures cause { HasCause (O.held sink.new) (O.faults sink.old) (O.faults sink.new) result }
 {
     'items: for item in items {
-        let Ok(()) = put_text(sink, item_line(number, item).as_str()) else {
+        write_item(line, head, item);
+        let Ok(()) = put_bytes(sink, line.bytes()) else {
             return Err(Failed);
         };
     }
     Ok(())
 }
 
-/// Writes the lines of packets that were dropped.
-pub(crate) fn put_drops<O: Sink>(sink: &mut O, number: u32, drops: &[Dropped]) -> Result<(), Failed>
-    ensures content { WhereTold (O.held sink.old) (O.held sink.new) (WritesAll result (flat_map (drop_line number) drops.now)) }
+/// Writes the lines of lists of items that were sent, one list after another.
+pub(crate) fn put_lists<O: Sink>(
+    sink: &mut O,
+    line: &mut Line,
+    head: &[u8],
+    lists: &[&[Out]],
+) -> Result<(), Failed>
+    requires { length head.now ≤ 40 }
+    ensures content { (frame : ℕ) → head.now ≡ decimal frame → WhereTold (O.held sink.old) (O.held sink.new) (WritesAll result (flat_map (item_line frame) (shown lists.now))) }
+    ensures cause { HasCause (O.held sink.new) (O.faults sink.old) (O.faults sink.new) result }
+{
+    'lists: for list in lists {
+        let Ok(()) = put_items(sink, line, head, list) else {
+            return Err(Failed);
+        };
+    }
+    Ok(())
+}
+
+/// Writes the lines of packets that were dropped. `head` is the frame's number in decimal.
+pub(crate) fn put_drops<O: Sink>(
+    sink: &mut O,
+    line: &mut Line,
+    head: &[u8],
+    drops: &[Dropped],
+) -> Result<(), Failed>
+    requires { length head.now ≤ 40 }
+    ensures content { (frame : ℕ) → head.now ≡ decimal frame → WhereTold (O.held sink.old) (O.held sink.new) (WritesAll result (flat_map (drop_line frame) drops.now)) }
     ensures cause { HasCause (O.held sink.new) (O.faults sink.old) (O.faults sink.new) result }
 {
     'drops: for lost in drops {
-        let Ok(()) = put_text(sink, drop_line(number, lost).as_str()) else {
+        write_drop(line, head, lost);
+        let Ok(()) = put_bytes(sink, line.bytes()) else {
             return Err(Failed);
         };
     }

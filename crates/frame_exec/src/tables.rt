@@ -1,24 +1,17 @@
 //! The tables of the applications, by the files that name them.
 
-ghost use Rattle.std.specs.Prelude.{◌≡◌, ℕ, ◌≤◌, ◌-◌, List, length, slice_set, None, Some, IfOk, IfErr, IfSome};
+ghost use Rattle.std.specs.Prelude.{◌≡◌, ℕ, ◌≤◌, List, length, None, Some, IfOk, IfErr};
 ghost use Rattle.table_files.specs.Headers.{Shows};
+ghost use Rattle.table_files.specs.Kinds.{IsTable};
+ghost use Rattle.table_files.specs.declared.kinds.TableKind.{TableKind};
 ghost use Rattle.cs_slices.specs.Tables.{segments_of, segments_fault_of};
-ghost use Rattle.md_dwell.specs.Tables.{dwell_of, dwell_fault_of};
-ghost use Rattle.frame_exec.specs.Tables.{with_file, entry_fault_in, tables_fault};
+ghost use Rattle.frame_exec.specs.Tables.{where_well, with_table, with_file, tables_fault};
 
+use crate::loading::{TablesFault, first_fault};
 use cs_slices::{Segments, load_segments};
 use md_dwell::{Dwell, load_dwell};
 use std::marker::Model;
-use table_files::{EntryFault, FileImage, Files, TableKind};
-
-/// Why the entries of the files are refused: the first faulty file, counted from 1, and in it the entry and the reason that
-/// its loader answers.
-#[derive(Clone, Copy, Debug, PartialEq, Eq)]
-pub struct TablesFault {
-    pub file: u32,
-    pub entry: u32,
-    pub reason: u8,
-}
+use table_files::{FileImage, Files, TableKind};
 
 /// The tables of the applications.
 #[derive(Clone, Copy)]
@@ -56,24 +49,31 @@ impl Tables {
         }
     }
 
-    /// The tables that the files name; a table that isn't named has all its bytes 0. It takes no memory.
+    /// The tables that the files name, or the first fault that their entries have. A table that isn't named has all its bytes 0, and
+    /// of files of one kind the first counts. It takes no memory.
     pub fn load(files: &Files) -> Result<Tables, TablesFault>
         ensures tables { IfOk result (λ tables. tables ≡ tables_of files.now) }
         ensures well { IfOk result (λ tables. tables_fault files.now ≡ None) }
         ensures fault { IfErr result (λ fault. tables_fault files.now ≡ Some fault) }
         ensures small { IfErr result (λ fault. fault.reason ≤ 3) }
     {
-        let mut tables = Tables::blank();
-        for i in 0..files.len() {
-            if let Some(fault) = tables.put(files.get(i + 1)) {
-                return Err(TablesFault {
-                    file: i + 1,
-                    entry: fault.entry,
-                    reason: fault.reason,
-                });
-            }
+        match first_fault(files) {
+            Some(fault) => Err(fault),
+            None => Ok(Tables::named(files)),
         }
-        Ok(tables)
+    }
+
+    // The tables that the files name; the entries of none of them have a fault.
+    fn named(files: &Files) -> Tables
+        ensures { result ≡ tables_of files.now }
+    {
+        let mut tables = Tables::blank();
+        let mut left = files.len();
+        'files: while left > 0 {
+            tables.put_file(files.get(left));
+            left -= 1;
+        }
+        tables
     }
 
     /// The four dwell tables.
@@ -98,70 +98,55 @@ impl Tables {
         &self.memory
     }
 
-    /// Puts the table of a file in its place, or answers the fault of its entries.
-    fn put(&mut self, image: FileImage<'_>) -> Option<EntryFault>
+    // Puts the table of a file in its place, if it is one.
+    fn put_file(&mut self, image: FileImage<'_>)
         requires { (file : List ℕ) × Shows file image }
-        ensures fault { (file : List ℕ) → Shows file image.entry → result ≡ entry_fault_in file }
-        ensures tables { (file : List ℕ) → Shows file image.entry → result ≡ None → self.new ≡ with_file self.old file }
-        ensures small { IfSome result (λ fault. fault.reason ≤ 3) }
+        ensures { (file : List ℕ) → Shows file image.entry → self.new ≡ with_file self.old file }
     {
         match image {
-            FileImage::Load { .. } => None,
-            FileImage::Table { kind, payload } => match kind {
-                TableKind::Dwell(n) => self.put_dwell(n, payload),
-                TableKind::Eeprom => self.put_eeprom(payload),
-                TableKind::Memory => self.put_memory(payload),
-                _ => None,
-            },
+            FileImage::Load { .. } => {}
+            FileImage::Table { kind, payload } => self.put(kind, payload),
         }
     }
 
-    /// Puts dwell table n, from 1 to 4, in its place, or answers the fault of its entries.
-    fn put_dwell(&mut self, n: u8, payload: &[u8]) -> Option<EntryFault>
+    // Puts a table in its place.
+    fn put(&mut self, kind: TableKind, payload: &[u8])
+        requires { IsTable kind (length payload.now) }
+        ensures { self.new ≡ with_table self.old kind payload.now }
+    {
+        match kind {
+            TableKind::Dwell(n) => self.put_dwell(n, payload),
+            TableKind::Eeprom => put_segments(&mut self.eeprom, payload),
+            TableKind::Memory => put_segments(&mut self.memory, payload),
+            TableKind::AppMon => {}
+            TableKind::EventMon => {}
+            TableKind::ExeCount => {}
+            TableKind::MsgActs => {}
+            TableKind::Ats(_) => {}
+            TableKind::Rts(_) => {}
+        }
+    }
+
+    // Puts dwell table n, from 1 to 4, in its place.
+    fn put_dwell(&mut self, n: u8, payload: &[u8])
         requires number { (1 ≤ n) × (n ≤ 4) }
         requires size { length payload.now ≡ 204 }
-        ensures fault { result ≡ dwell_fault_of payload.now }
-        ensures small { IfSome result (λ fault. fault.reason ≤ 3) }
-        ensures table { result ≡ None → self.new ≡ record self.old { dwells = slice_set self.old.dwells (n - 1) (dwell_of payload.now) } }
+        ensures { self.new ≡ with_table self.old (TableKind.Dwell n) payload.now }
     {
         match load_dwell(payload) {
-            Ok(table) => {
-                self.dwells[n as usize - 1] = table;
-                None
-            }
-            Err(fault) => Some(fault),
+            Ok(table) => self.dwells[n as usize - 1] = table,
+            Err(_) => {}
         }
     }
+}
 
-    /// Puts the EEPROM table of CS in its place, or answers the fault of its entries.
-    fn put_eeprom(&mut self, payload: &[u8]) -> Option<EntryFault>
-        requires size { length payload.now ≡ 192 }
-        ensures fault { result ≡ segments_fault_of payload.now }
-        ensures small { IfSome result (λ fault. fault.reason ≤ 3) }
-        ensures table { result ≡ None → self.new ≡ record self.old { eeprom = segments_of payload.now } }
-    {
-        match load_segments(payload) {
-            Ok(table) => {
-                self.eeprom = table;
-                None
-            }
-            Err(fault) => Some(fault),
-        }
-    }
-
-    /// Puts the memory table of CS in its place, or answers the fault of its entries.
-    fn put_memory(&mut self, payload: &[u8]) -> Option<EntryFault>
-        requires size { length payload.now ≡ 192 }
-        ensures fault { result ≡ segments_fault_of payload.now }
-        ensures small { IfSome result (λ fault. fault.reason ≤ 3) }
-        ensures table { result ≡ None → self.new ≡ record self.old { memory = segments_of payload.now } }
-    {
-        match load_segments(payload) {
-            Ok(table) => {
-                self.memory = table;
-                None
-            }
-            Err(fault) => Some(fault),
-        }
+// Puts a checksum table in a place.
+fn put_segments(place: &mut Segments, payload: &[u8])
+    requires { length payload.now ≡ 192 }
+    ensures { place.new ≡ where_well (segments_of payload.now) place.old (segments_fault_of payload.now) }
+{
+    match load_segments(payload) {
+        Ok(table) => *place = table,
+        Err(_) => {}
     }
 }

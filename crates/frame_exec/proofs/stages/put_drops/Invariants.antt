@@ -1,4 +1,4 @@
-use Rattle.std.proofs.Common.{◌≡◌, ◌++◌, take}
+use Rattle.std.proofs.Common.{◌≡◌, ℕ, ◌++◌, take, decimal}
 use Rattle.std.specs.List.{flat_map}
 use Rattle.fsw_outside.specs.Told.{WhereTold}
 use Rattle.packet_log.specs.Lines.{drop_line}
@@ -9,6 +9,6 @@ abbrev pub invariant-drops : goal.invariant-drops
 invariant-drops g l =
     let sink = g.O.Sink in
     record {
-      appended : WhereTold (sink.held l.initial.sink) (sink.held l.sink) (λ before after. after ≡ before ++ flat_map (drop_line l.number) (take l.lost-index l.drops));
+      appended : (frame : ℕ) → l.head ≡ decimal frame → WhereTold (sink.held l.initial.sink) (sink.held l.sink) (λ before after. after ≡ before ++ flat_map (drop_line frame) (take l.lost-index l.drops));
       well : sink.faults l.sink ≡ sink.faults l.initial.sink;
     }

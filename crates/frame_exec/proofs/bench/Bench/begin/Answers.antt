@@ -1,16 +1,21 @@
 use Rattle.std.proofs.Common.{List, [], refl, sym, subst}
+use Rattle.cs_slices.specs.declared.segments.Segment.{Segment}
 use Rattle.md_dwell.specs.Given.{TablesGiven}
-use Rattle.md_dwell.specs.Standing.{Stands as MdStands}
+use Rattle.md_dwell.specs.State.{Stands as MdStands, AllGiven}
 use Rattle.md_dwell.specs.Tables.{DwellTable}
+use Rattle.cs_slices.specs.State.{Stands as CsStands}
+use Rattle.mm_core.specs.State.{Stands as MmStands}
 use Rattle.frame_exec.proofs.Frames.{stands_opened}
-use Rattle.frame_exec.proofs.Waking.{started_by}
 use Rattle.frame_exec.proofs.bench.Bench.begin.Goals as goal
 
 pub returns : goal.returns
-returns c =
+returns c = λ files loaded.
     let tables = c.args.tables.now in
-    stands_opened _ _ refl refl refl refl (started_by _ _ tables.eeprom tables.memory [] _ c.eeprom.ensures c.memory.ensures c.in_ok-open.ensures) c.in_ok-open-2.ensures
-    (subst (λ (dwells : List DwellTable). MdStands dwells [] c.in_ok-open-3.field-0.state.value) c.dwells.ensures.dwells c.in_ok-open-3.ensures.stands)
-    c.requires.given.eeprom c.requires.given.memory
-    (c.in_ok-open-3.ensures.given c.args.header.now.map (subst (λ (dwells : List DwellTable). TablesGiven c.args.header.now.map dwells) (sym c.dwells.ensures.dwells) c.requires.given.dwells))
-    c.in_ok-open-6.ensures c.start.ensures c.in_ok-new.ensures.start
+    let regions = c.args.header.now.map in
+    let dwells = c.start-3.ensures.given regions (subst (TablesGiven regions) (sym c.dwells.ensures.dwells) c.requires.given.dwells) in
+    stands_opened _ _ refl refl refl loaded.named
+    (subst (CsStands tables.eeprom tables.memory []) (sym c.in_ok-open.ensures)
+    (subst (λ (memory : List Segment). CsStands tables.eeprom memory [] c.start.result) c.memory.ensures (subst (λ (eeprom : List Segment). CsStands eeprom c.memory.result.now [] c.start.result) c.eeprom.ensures c.start.ensures)))
+    (subst (MmStands []) (sym c.in_ok-open-2.ensures) c.start-2.ensures)
+    (subst (MdStands tables.dwells []) (sym c.in_ok-open-3.ensures) (subst (λ (ts : List DwellTable). MdStands ts [] c.start-3.result) c.dwells.ensures.dwells c.start-3.ensures.stands))
+    c.requires.given (subst (AllGiven regions) (sym c.in_ok-open-3.ensures) dwells) c.in_ok-open-5.ensures c.start-4.ensures c.in_ok-new.ensures.start

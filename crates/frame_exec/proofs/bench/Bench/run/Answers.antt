@@ -1,47 +1,29 @@
-use Rattle.std.proofs.Common.{ap, List, ◌++◌, sym, ◌∙◌, subst, Box, Global}
-use Rattle.std.specs.List.{flat_map}
-use Rattle.bus_pipes.specs.declared.names.Out.{Out}
+use Rattle.std.proofs.Common.{◌≡◌, List, true, All, sym, ◌∙◌, ap, subst}
+use Rattle.memory_window.specs.Regions.{is_mapped}
 use Rattle.memory_window.specs.Memory.{Memory, regions_of}
-use Rattle.frame_exec.specs.Slots.{CanLand}
-use Rattle.memory_window.specs.declared.operations.MemOp.{MemOp}
-use Rattle.mm_core.specs.Standing.{Stands as MmStands}
-use Rattle.cs_slices.specs.declared.step.Cs.{Cs}
-use Rattle.cs_slices.specs.Standing.{Stands as CsStands}
-use Rattle.md_dwell.specs.declared.step.Md.{Md}
-use Rattle.md_dwell.specs.Standing.{Stands as MdStands}
-use Rattle.frame_exec.proofs.Frames.{ready_by}
+use Rattle.scenario.specs.declared.frame.Upset.{Upset}
 use Rattle.packet_log.specs.Standing.{Stands as LogStands}
-use Rattle.frame_exec.specs.Sending.{makes}
-use Rattle.frame_exec.specs.Stages.{items_in}
-use Rattle.frame_exec.specs.Runs.{cs_after, mm_after, md_after}
-use Rattle.mm_core.specs.declared.step.Mm.{Mm}
-use Rattle.frame_exec.proofs.Sent.{sent_is, offered_is, dropped_is}
+use Rattle.scenario.specs.declared.frame.App.{App}
+use Rattle.frame_exec.specs.Stages.{Takes}
+use Rattle.frame_exec.proofs.Frames.{apps_kept, ready_by, regions_same}
+use Rattle.frame_exec.proofs.Waking.{image_is}
+use Rattle.frame_exec.proofs.Stepping.{ran}
 use Rattle.frame_exec.proofs.bench.Bench.run.Goals as goal
+
+pub upset-requires : goal.upset-requires
+upset-requires c = subst (λ (upsets : List Upset). All (λ (u : Upset). is_mapped (regions_of c.args.self.now.ram.areas) u.at ≡ true) upsets) (sym c.upsets.ensures.value) c.requires.upsets
+
+pub step-requires-clause-ready : goal.step-requires-clause-ready
+step-requires-clause-ready c =
+    let old = c.args.self.now in
+    let upset = ready_by old c.upset.new.self (regions_same old.ram c.upset.new.self.ram c.upsets.result.now c.upset.ensures.memory) c.upset.ensures.run.tables c.upset.ensures.apps c.requires.ready in
+    ready_by c.upset.new.self c.take.new.self (ap (λ (m : Memory). regions_of m.areas) c.take.ensures.memory) c.take.ensures.run.tables c.take.ensures.apps upset
 
 pub returns-clause-runs : goal.returns-clause-runs
 returns-clause-runs c = λ setup s epoch has.
-    let w = c.wake.ensures.wakes setup s epoch has in
-    let d = c.send.ensures in
-    let sent = sent_is setup s c.args.input.now (items_in c.wake.new.self) c.send.new.self.sent.items w.items (d.sent s.made w.made) in
-    record {
-      cs = subst (λ (state : Box Cs Global). CsStands setup.tables.eeprom setup.tables.memory (cs_after setup s c.args.input.now) state.value) (sym d.cs) w.cs;
-      mm = subst (λ (state : Box Mm Global). MmStands (mm_after setup s c.args.input.now) state.value) (sym d.mm.state) w.mm;
-      md = subst (λ (state : Box Md Global). MdStands setup.tables.dwells (md_after setup s c.args.input.now) state.value) (sym d.md) w.md;
-      sent = sent;
-      drops = dropped_is setup s c.args.input.now c.wake.new.self.bus c.send.new.self.sent.items c.send.new.self.drops.items w.pipes sent d.drops;
-      pipes = offered_is setup s c.args.input.now c.wake.new.self.bus c.send.new.self.bus c.send.new.self.sent.items w.pipes sent d.pipes;
-      made = subst (λ (items : List Out). LogStands (s.made ++ flat_map makes items) c.send.new.self.log) w.items (d.made s.made w.made);
-      operations = d.mm.ops ∙ w.operations;
-      memory = d.memory ∙ w.memory;
-    }
-
-pub returns-clause-can_land : goal.returns-clause-can_land
-returns-clause-can_land c =
-    let d = c.send.ensures in
-    subst (λ (image : Memory). CanLand image c.send.new.self.mm.ops) (sym d.memory)
-    (subst (λ (ops : List MemOp). CanLand c.wake.new.self.ram ops) (sym d.mm.ops) c.wake.ensures.can_send.mm.landable)
-
-pub returns-clause-ready : goal.returns-clause-ready
-returns-clause-ready c =
-    let d = c.send.ensures in
-    ready_by c.wake.new.self c.send.new.self (ap (λ (image : Memory). regions_of image.areas) d.memory) d.run.tables d.cs d.md c.wake.ensures.ready
+    let old = c.args.self.now in
+    let frame = c.args.input.now in
+    let upset = c.upset.ensures in
+    ran setup s frame c.upset.new.self c.take.new.self c.step.new.self (upset.run.epoch ∙ epoch) (upset.run.number ∙ has.number) (upset.run.tables ∙ has.tables) (upset.pipes ∙ has.pipes)
+    (image_is s frame old.ram c.upset.new.self.ram c.upsets.result.now has.memory c.upsets.ensures.value upset.memory) (apps_kept old c.upset.new.self s upset.apps has.apps)
+    (subst (λ (held : List App). Takes held c.upset.new.self c.take.new.self) c.held.ensures.value c.take.ensures) c.step.ensures.steps c.send.new.self (subst (LogStands s.made) (sym upset.log) has.made) c.send.ensures

@@ -1,0 +1,109 @@
+-- The applications of the bench, woken in a frame.
+use Rattle.std.proofs.Common.{◌≡◌, ℕ, ◌+◌, List, ◌++◌, ◌∙◌, ap, subst, sym, refl}
+use Rattle.std.specs.List.{flat_map}
+use Rattle.bus_pipes.specs.Delivery.{after_offers, drops_from}
+use Rattle.bus_pipes.specs.declared.names.Out.{Out}
+use Rattle.packet_log.specs.Sent.{makes}
+use Rattle.packet_log.specs.Standing.{Stands as LogStands}
+use Rattle.frame_exec.specs.Sending.{packet_in, sent_of}
+use Rattle.bus_pipes.specs.Pipes.{Pipes}
+use Rattle.memory_window.specs.Memory.{Memory}
+use Rattle.mm_core.specs.Step.{mm_operations}
+use Rattle.scenario.specs.declared.frame.App.TheVariants as names
+use Rattle.scenario.specs.FrameLists.{Frame}
+use Rattle.frame_exec.specs.declared.bench.Bench.{Bench}
+use Rattle.frame_exec.specs.Tables.{TableSet}
+use Rattle.frame_exec.specs.Applications.{cs_stands, mm_stands, md_stands, cs_gives, mm_gives, md_gives, cs_reads, mm_reads, md_reads}
+use Rattle.frame_exec.specs.Wakes.{HasTaken, IsWoken, unless, joined}
+use Rattle.frame_exec.specs.Runs.{Setup, State, is_held, time_at, image_at, cs_input_at, mm_input_at, md_input_at, items_at, operations_at, left_by, sent_at, offers_at, after_frame}
+use Rattle.frame_exec.specs.Standing.{AppsStand}
+use Rattle.frame_exec.specs.Stages.{Takes, Steps, Sends, RunsIn, time_of, items_in}
+use Rattle.frame_exec.proofs.Frames.{apps_kept}
+use Rattle.frame_exec.proofs.Waking.{woken_state, woken_items, woken_beside, moved}
+
+-- A bench that has what a run has come to but for the frame's upsets, which are written; then what the applications took, and then that
+-- they were woken.
+module _ (setup : Setup) (s : State) (frame : Frame) (start took stepped : Bench) (epoch : start.epoch ≡ setup.epoch) (number : start.number ≡ s.number) (tables : start.tables ≡ s.tables) (pipes : start.bus ≡ s.pipes)
+    (image : start.ram ≡ image_at s frame) (apps : AppsStand start s) (takes : Takes frame.held start took) (steps : Steps took stepped) where
+  same_tables : took.tables ≡ s.tables
+  same_tables = takes.run.tables ∙ tables
+
+  same_time : time_of took ≡ time_at setup s
+  same_time = ap (λ (e : ℕ). e + took.number) (takes.run.epoch ∙ epoch) ∙ ap (λ (n : ℕ). setup.epoch + n) (takes.run.number ∙ number)
+
+  same_image : took.ram ≡ image_at s frame
+  same_image = takes.memory ∙ image
+
+  stand : AppsStand took s
+  stand = apps_kept start took s takes.apps apps
+
+  cs_took : HasTaken (is_held names.Cs frame) s.pipes.cs took.cs.held took.cs.commands took.cs.out.items
+  cs_took = subst (λ (p : Pipes). HasTaken (is_held names.Cs frame) p.cs took.cs.held took.cs.commands took.cs.out.items) pipes takes.cs
+
+  mm_took : HasTaken (is_held names.Mm frame) s.pipes.mm took.mm.held took.mm.commands took.mm.out.items
+  mm_took = subst (λ (p : Pipes). HasTaken (is_held names.Mm frame) p.mm took.mm.held took.mm.commands took.mm.out.items) pipes takes.mm
+
+  md_took : HasTaken (is_held names.Md frame) s.pipes.md took.md.held took.md.commands took.md.out.items
+  md_took = subst (λ (p : Pipes). HasTaken (is_held names.Md frame) p.md took.md.held took.md.commands took.md.out.items) pipes takes.md
+
+  cs_woken : IsWoken (cs_stands s.tables) (cs_gives s.tables) took.cs.held (cs_reads (time_at setup s) took.cs.commands (image_at s frame)) took.cs.state.value stepped.cs.state.value stepped.cs.out.items
+  cs_woken = moved (λ (t : TableSet) (n : ℕ) (m : Memory). IsWoken (cs_stands t) (cs_gives t) took.cs.held (cs_reads n took.cs.commands m) took.cs.state.value stepped.cs.state.value stepped.cs.out.items)
+      took.tables s.tables (time_of took) (time_at setup s) took.ram (image_at s frame) same_tables same_time same_image steps.cs
+
+  mm_woken : IsWoken (mm_stands s.tables) (mm_gives s.tables) took.mm.held (mm_reads (time_at setup s) took.mm.commands (image_at s frame)) took.mm.state.value stepped.mm.state.value stepped.mm.out.items
+  mm_woken = moved (λ (t : TableSet) (n : ℕ) (m : Memory). IsWoken (mm_stands t) (mm_gives t) took.mm.held (mm_reads n took.mm.commands m) took.mm.state.value stepped.mm.state.value stepped.mm.out.items)
+      took.tables s.tables (time_of took) (time_at setup s) took.ram (image_at s frame) same_tables same_time same_image (steps.mm took.tables)
+
+  md_woken : IsWoken (md_stands s.tables) (md_gives s.tables) took.md.held (md_reads (time_at setup s) took.md.commands (image_at s frame)) took.md.state.value stepped.md.state.value stepped.md.out.items
+  md_woken = moved (λ (t : TableSet) (n : ℕ) (m : Memory). IsWoken (md_stands t) (md_gives t) took.md.held (md_reads n took.md.commands m) took.md.state.value stepped.md.state.value stepped.md.out.items)
+      took.tables s.tables (time_of took) (time_at setup s) took.ram (image_at s frame) same_tables same_time same_image (steps.md took.tables)
+
+  pub apps_after : AppsStand stepped (after_frame setup s frame)
+  unfolding after_frame cs_input_at mm_input_at md_input_at
+  apps_after = record {
+    cs = woken_state (cs_stands s.tables) (cs_gives s.tables) (λ commands. cs_reads (time_at setup s) commands (image_at s frame)) _ took.cs.held s.pipes.cs took.cs.commands took.cs.out.items stepped.cs.out.items took.cs.state.value
+        stepped.cs.state.value s.cs cs_took cs_woken stand.cs;
+    mm = woken_state (mm_stands s.tables) (mm_gives s.tables) (λ commands. mm_reads (time_at setup s) commands (image_at s frame)) _ took.mm.held s.pipes.mm took.mm.commands took.mm.out.items stepped.mm.out.items took.mm.state.value
+        stepped.mm.state.value s.mm mm_took mm_woken stand.mm;
+    md = woken_state (md_stands s.tables) (md_gives s.tables) (λ commands. md_reads (time_at setup s) commands (image_at s frame)) _ took.md.held s.pipes.md took.md.commands took.md.out.items stepped.md.out.items took.md.state.value
+        stepped.md.state.value s.md md_took md_woken stand.md;
+  }
+
+  pub items_after : items_in stepped ≡ items_at setup s frame
+  unfolding items_at cs_input_at mm_input_at md_input_at
+  items_after =
+      let cs = woken_items (cs_stands s.tables) (cs_gives s.tables) (λ commands. cs_reads (time_at setup s) commands (image_at s frame)) _ took.cs.held s.pipes.cs took.cs.commands took.cs.out.items stepped.cs.out.items
+      took.cs.state.value stepped.cs.state.value s.cs cs_took cs_woken stand.cs in
+      let mm = woken_items (mm_stands s.tables) (mm_gives s.tables) (λ commands. mm_reads (time_at setup s) commands (image_at s frame)) _ took.mm.held s.pipes.mm took.mm.commands took.mm.out.items stepped.mm.out.items
+      took.mm.state.value stepped.mm.state.value s.mm mm_took mm_woken stand.mm in
+      let md = woken_items (md_stands s.tables) (md_gives s.tables) (λ commands. md_reads (time_at setup s) commands (image_at s frame)) _ took.md.held s.pipes.md took.md.commands took.md.out.items stepped.md.out.items
+      took.md.state.value stepped.md.state.value s.md md_took md_woken stand.md in
+      rw (cs, mm, md) refl
+
+  pub operations_after : stepped.ops ≡ operations_at setup s frame
+  unfolding operations_at mm_input_at
+  operations_after =
+      woken_beside (λ commands. mm_operations (mm_reads (time_at setup s) commands (image_at s frame))) _ took.mm.held s.pipes.mm took.mm.commands took.mm.out.items stepped.ops mm_took
+      (moved (λ (t : TableSet) (n : ℕ) (m : Memory). stepped.ops ≡ unless took.mm.held (mm_operations (mm_reads n took.mm.commands m))) took.tables s.tables (time_of took) (time_at setup s) took.ram (image_at s frame) same_tables
+      same_time same_image steps.operations)
+
+  -- what the pipes hold then
+  left : stepped.bus ≡ left_by frame.held s.pipes
+  left = steps.pipes ∙ takes.pipes ∙ ap (left_by frame.held) pipes
+
+  -- and once the items were sent, what of the frame remains to be written and to land
+  pub ran : (end : Bench) → LogStands s.made start.log → Sends frame.sends stepped end → RunsIn setup s frame end
+  unfolding sent_at offers_at
+  ran end stood sends =
+      let log : LogStands s.made stepped.log = subst (LogStands s.made) (sym (steps.log ∙ takes.log)) stood in
+      let sent : joined (items_in end) ≡ sent_of s.made (joined (items_at setup s frame)) = sends.sent s.made log ∙ ap (λ (lists : List (List Out)). sent_of s.made (joined lists)) items_after in
+      let offers : frame.sends ++ flat_map packet_in (joined (items_in end)) ≡ offers_at setup s frame = ap (λ (items : List Out). frame.sends ++ flat_map packet_in items) sent in
+      record {
+        apps = apps_kept stepped end (after_frame setup s frame) sends.apps apps_after;
+        sent = sent;
+        drops = sends.drops ∙ ap (λ (p : Pipes). drops_from p (frame.sends ++ flat_map packet_in (joined (items_in end)))) left ∙ ap (drops_from (left_by frame.held s.pipes)) offers;
+        pipes = sends.pipes ∙ ap (λ (p : Pipes). after_offers p (frame.sends ++ flat_map packet_in (joined (items_in end)))) left ∙ ap (after_offers (left_by frame.held s.pipes)) offers;
+        made = subst (λ (lists : List (List Out)). LogStands (s.made ++ flat_map makes (joined lists)) end.log) items_after (sends.made s.made log);
+        operations = sends.operations ∙ operations_after;
+        memory = sends.memory ∙ steps.memory ∙ same_image;
+      }

@@ -1,0 +1,11 @@
+use Rattle.std.proofs.Common.{None, subst, ◌∙◌}
+use Rattle.table_files.specs.Headers.{Shows}
+use Rattle.frame_exec.specs.Tables.{entry_fault}
+use Rattle.frame_exec.proofs.Files.{of_table, of_load}
+use Rattle.frame_exec.proofs.loading.fault_in.Goals as goal
+
+pub returns-in-Load-clause-fault : goal.returns-in-Load-clause-fault
+returns-in-Load-clause-fault c = λ file shows. of_load None entry_fault file c.in-Load.bytes.now c.in-Load.at (subst (Shows file) c.in-Load.is shows)
+
+pub returns-in-Table-clause-fault : goal.returns-in-Table-clause-fault
+returns-in-Table-clause-fault c = λ file shows. c.fault_of.ensures.fault ∙ of_table None entry_fault file c.in-Table.payload.now c.in-Table.kind (subst (Shows file) c.in-Table.is shows)
