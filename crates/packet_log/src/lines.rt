@@ -50,7 +50,8 @@ impl Line {
 
     /// The bytes of the line.
     pub fn bytes(&self) -> &[u8]
-        ensures { result.now ≡ self.now }
+        ensures value { result.now ≡ self.now }
+        ensures few { length result.now ≤ 640 }
     {
         &self.places[..self.len]
     }
