@@ -1,3 +1,5 @@
+//! A shelf over memory.
+
 ghost use Rattle.std.specs.Prelude.{◌≡◌, ◌≢◌, ℕ, ◌+◌, ◌-◌, ◌*◌, ◌^◌, ◌<◌, ◌≤◌, min, Bool, List, [], ◌∷◌, ◌++◌, length, take, drop, Option, Some, None, is_some, is_ok, not, ◌&&◌, IsTrue, IsFalse, IfOk, OnOk, OnErr, IfSome, MatchOption};
 ghost use Rattle.std.specs.Option.{ForSome};
 ghost use Rattle.fsw_outside.specs.Files.{file_named};
@@ -181,7 +183,7 @@ impl Shelf for MemShelf {
     }
 }
 
-// The place of the first file of this name.
+/// The place of the first file of this name.
 fn place_of(files: &[StoredFile], name: &str) -> Option<usize>
     ensures { IsPlaceOf files.now name.now result }
 {
@@ -193,14 +195,14 @@ fn place_of(files: &[StoredFile], name: &str) -> Option<usize>
     None
 }
 
-// Whether the call of this number is to fail.
+/// Whether the call of this number is to fail.
 pub(crate) fn is_listed_call(fails: &[u32], call: u64) -> bool
     ensures { result ≡ is_listed fails.now call }
 {
     fails.iter().any(|number| u64::from(*number) == call)
 }
 
-// Puts the bytes from a place on at the front of the buffer, as many as may be.
+/// Puts the bytes from a place on at the front of the buffer, as many as may be.
 fn hand_out(bytes: &[u8], at: usize, most: usize, buf: &mut [u8]) -> usize
     ensures count { result ≡ min most (min (length (drop at bytes.now)) (length buf.old)) }
     ensures within { result ≤ length bytes.now - at }

@@ -1,3 +1,5 @@
+//! A sink over memory.
+
 ghost use Rattle.std.specs.Prelude.{◌≡◌, ℕ, ◌+◌, ◌-◌, ◌^◌, ◌<◌, ◌≤◌, min, List, [], length, Option, Some, None, is_ok, not, ◌&&◌, nat_lt, IfOk, vec_len, vec_capacity};
 ghost use Rattle.fsw_outside.specs.Memory.{is_listed};
 

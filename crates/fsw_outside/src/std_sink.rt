@@ -1,3 +1,5 @@
+//! A sink over a writer of std.
+
 ghost use Rattle.std.specs.Prelude.{◌≡◌, ℕ, ◌+◌, ◌-◌, ◌^◌, ◌<◌, ◌≤◌, min, List, length, take, Option, None, is_ok, if◌then◌else◌, IfOk};
 ghost use Rattle.std.specs.Io.KnownBytes.{Appends};
 ghost use Rattle.fsw_outside.specs.Told.{WhereTold};
@@ -8,7 +10,7 @@ ghost use Rattle.fsw_outside.specs.StdSink.{writer_of, fault_count};
 use crate::traits::{Failed, Sink};
 use std::io::Write;
 
-/// A sink that hands its bytes to a writer. It tells no bytes.
+/// A sink that hands its bytes to a writer, and flushes it behind each piece. It tells no bytes.
 #[derive(Drop)]
 pub struct StdSink<W: Write + Drop> {
     writer: W,

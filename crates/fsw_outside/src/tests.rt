@@ -1,5 +1,8 @@
+//! The objects of the outside, each once.
+
 use crate::{Failed, FileShelf, Gate, MemShelf, MemSink, OpenGate, Shelf, Sink, StdSink};
 use std::fs;
+use std::io::{self, ErrorKind, Write};
 use std::test::Fail;
 
 #[test]
@@ -67,4 +70,56 @@ fn std_sink_fails_where_its_writer_is_full(rt: HostRuntime) {
     assert_eq!(rt; sink.write(b"cd"), Ok(1));
     assert_eq!(rt; sink.write(b"d"), Err(Failed));
     OpenGate.enter(0);
+}
+
+/// A writer that takes each piece whole, counts its flushes, and refuses the flush of this number, counted from 0.
+#[derive(Drop)]
+struct Flushed {
+    flushes: u32,
+    refused: u32,
+    pieces: u32,
+}
+
+impl Write for Flushed {
+    fn write(&mut self, buf: &[u8]) -> io::Result<usize> {
+        self.pieces = self.pieces.saturating_add(1);
+        Ok(buf.len())
+    }
+
+    fn flush(&mut self) -> io::Result<()> {
+        let refused = self.flushes == self.refused;
+        self.flushes = self.flushes.saturating_add(1);
+        if refused {
+            return Err(io::Error::from(ErrorKind::BrokenPipe));
+        }
+        Ok(())
+    }
+}
+
+#[test]
+fn std_sink_flushes_behind_each_piece(rt: HostRuntime) {
+    let mut writer = Flushed {
+        flushes: 0,
+        refused: 5,
+        pieces: 0,
+    };
+    for count in 1..4 {
+        let mut sink = StdSink::new(&mut writer);
+        assert_eq!(rt; sink.write(b"ab"), Ok(2));
+        assert_eq!(rt; writer.pieces, count);
+        assert_eq!(rt; writer.flushes, count);
+    }
+}
+
+#[test]
+fn std_sink_fails_where_a_flush_is_refused(rt: HostRuntime) {
+    let mut writer = Flushed {
+        flushes: 0,
+        refused: 1,
+        pieces: 0,
+    };
+    let mut sink = StdSink::new(&mut writer);
+    assert_eq!(rt; sink.write(b"ab"), Ok(2));
+    assert_eq!(rt; sink.write(b"ab"), Err(Failed));
+    assert_eq!(rt; sink.write(b"ab"), Ok(2));
 }

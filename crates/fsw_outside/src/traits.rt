@@ -1,3 +1,5 @@
+//! What a bench asks of the outside.
+
 ghost use Rattle.std.specs.Prelude.{◌≡◌, ℕ, ◌<◌, ◌≤◌, Bool, List, [], length, Option, Some, IsTrue, IsFalse, IfOk, is_ok};
 ghost use Rattle.fsw_outside.specs.Told.{WhereTold};
 ghost use Rattle.fsw_outside.specs.Causes.{HasCause};
