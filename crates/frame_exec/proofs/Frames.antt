@@ -15,6 +15,7 @@ use Rattle.memory_window.specs.declared.regions.Region.{Region}
 use Rattle.memory_window.specs.declared.operations.MemOp.{MemOp}
 use Rattle.memory_window.specs.Landing.{land}
 use Rattle.memory_window.proofs.Areas.{regions-changed, regions-cut}
+use Rattle.packet_log.specs.Blocks.{empty_block}
 use Rattle.packet_log.specs.Items.{item_line}
 use Rattle.packet_log.specs.Lines.{drop_line}
 use Rattle.packet_log.specs.Standing.{Stands as LogStands}
@@ -132,27 +133,29 @@ has_after before b setup s frame kept pipes log memory number tables ran = recor
   memory = memory ∙ ap (λ (xs : List MemOp). land [] xs before.ram) ran.operations ∙ ap (λ (m : Memory). land [] (operations_at setup s frame) m) ran.memory;
 }
 
--- a bench stands for one more frame, once its operations have landed
-pub stands_after : (before b : Bench) (setup : Setup) (frames : List Frame) (frame : Frame) → b.epoch ≡ setup.epoch → b.failed ≡ false → b.number ≡ (run_of setup frames).number + 1
+-- a bench stands for one more frame, once its lines were written and its operations have landed
+pub stands_after : (before b : Bench) (setup : Setup) (frames : List Frame) (frame : Frame) → b.epoch ≡ setup.epoch → b.failed ≡ false → b.block ≡ empty_block → b.number ≡ (run_of setup frames).number + 1
     → KeepsApps before b → b.bus ≡ before.bus → b.log ≡ before.log → b.ram ≡ land [] before.ops before.ram → b.tables ≡ before.tables → before.tables ≡ (run_of setup frames).tables
     → IsReady before → RunsIn setup (run_of setup frames) frame before → Stands b setup (frames ++ frame ∷ [])
-stands_after before b setup frames frame epoch well number kept pipes log memory same tables ready ran = record {
+stands_after before b setup frames frame epoch well waits number kept pipes log memory same tables ready ran = record {
   epoch = epoch;
   well = well;
+  waits = waits;
   has = subst (Has b) (sym (run_more setup frames frame)) (has_after before b setup (run_of setup frames) frame kept pipes log memory number (same ∙ tables) ran);
   ready = ready_by before b (ap (λ (m : Memory). regions_of m.areas) memory ∙ regions-changed _ before.ram.areas) same kept ready;
 }
 
 -- a bench that was opened stands for no frames
-pub stands_opened : (b : Bench) (setup : Setup) → b.epoch ≡ setup.epoch → b.failed ≡ false → b.number ≡ 0 → b.tables ≡ tables_of setup.files
+pub stands_opened : (b : Bench) (setup : Setup) → b.epoch ≡ setup.epoch → b.failed ≡ false → b.block ≡ empty_block → b.number ≡ 0 → b.tables ≡ tables_of setup.files
     → cs_stands b.tables [] b.cs.state.value → mm_stands b.tables [] b.mm.state.value → md_stands b.tables [] b.md.state.value
     → SetGiven setup.regions b.tables → AllGiven setup.regions b.md.state.value → b.bus ≡ empty_pipes → LogStands [] b.log → b.ram ≡ start_memory setup.regions → Stands b setup []
 unfolding run_of beginning
-stands_opened b setup epoch well number tables cs mm md given dwells pipes made memory =
+stands_opened b setup epoch well waits number tables cs mm md given dwells pipes made memory =
     let same : regions_of b.ram.areas ≡ setup.regions = ap (λ (m : Memory). regions_of m.areas) memory ∙ regions-cut setup.regions _ in
     record {
       epoch = epoch;
       well = well;
+      waits = waits;
       has = record {
         number = number;
         tables = tables;

@@ -3,6 +3,7 @@ pub mod GivenTables
 pub mod Offers
 pub mod Stamping
 pub mod Lines
+pub mod Handing
 pub mod Upsets
 pub mod Waking
 pub mod Frames

@@ -1,20 +1,17 @@
--- Lines that are written one after another.
-use Rattle.std.proofs.Common.{◌≡◌, ℕ, ◌+◌, ◌<◌, List, [], ◌∷◌, ◌++◌, length, take, drop, get_or, refl, sym, ◌∙◌, ap, subst}
+-- Lines that are put behind those that wait, one after another.
+use Rattle.std.proofs.Common.{◌≡◌, ℕ, ◌+◌, ◌<◌, List, [], ◌∷◌, ◌++◌, length, take, drop, get_or, Option, refl, sym, ◌∙◌, ap, subst, append-nil}
 use Rattle.std.specs.Borrow.{Bor}
+use Rattle.std.specs.Prelude.{Ok, Err}
 use Rattle.std.proofs.lemmas.List.{take-append-drop}
 use Rattle.std.proofs.lemmas.Grind.{flat_map-append}
 use Rattle.std.specs.List.{flat_map}
 use Rattle.histories.proofs.Fronts.{flat_map_front}
-use Rattle.std.specs.Prelude.{Result, Ok, Err}
-use Rattle.fsw_outside.specs.Written.{AppendsPart, WritesAll}
-use Rattle.fsw_outside.proofs.Pieces.{appends_more, appends_part, part_of_more}
+use Rattle.packet_log.specs.Blocks.{Waiting, Puts}
+use Rattle.packet_log.proofs.Blocks.{puts_whole, puts_then, puts_part}
 
--- one line more was written
-pub lines_more : {A : Type 0} (line : A → List ℕ) (xs : List A) (i : ℕ) (x : A) (text before middle after : List ℕ) → i < length xs → x ≡ get_or xs i x
-    → middle ≡ before ++ flat_map line (take i xs) → text ≡ line x → after ≡ middle ++ text → after ≡ before ++ flat_map line (take (i + 1) xs)
-lines_more line xs i x text before middle after within is written same more =
-    appends_more (flat_map line (take i xs)) text before middle after written more
-    ∙ ap (λ (bytes : List ℕ). before ++ bytes) (ap (λ (bytes : List ℕ). flat_map line (take i xs) ++ bytes) same ∙ sym (flat_map_front line xs i x within is))
+-- nothing is put
+pub nothing_put : {E : Type 0} (block : Waiting) (held : Option (List ℕ)) → Puts {E = E} (Ok tt) [] block block held held
+nothing_put block held = puts_whole block block [] held (ap (λ (bytes : List ℕ). let b : Waiting = record { bytes = bytes; taken = block.taken; ends = block.ends } in b) (sym (append-nil block.bytes)))
 
 -- all lines, as those up to one, that one, and those behind it
 parts : {A : Type 0} (line : A → List ℕ) (xs : List A) (i : ℕ) (x : A) → i < length xs → x ≡ get_or xs i x
@@ -23,19 +20,19 @@ parts line xs i x within is =
     ap (λ (bytes : List ℕ). bytes ++ flat_map line (drop (i + 1) xs)) (sym (flat_map_front line xs i x within is))
     ∙ sym (flat_map-append line (take (i + 1) xs) (drop (i + 1) xs)) ∙ ap (flat_map line) (take-append-drop (i + 1) xs)
 
--- a part of one line more was written
-pub lines_cut : {A : Type 0} (line : A → List ℕ) (xs : List A) (i : ℕ) (x : A) (text before middle after : List ℕ) → i < length xs → x ≡ get_or xs i x
-    → middle ≡ before ++ flat_map line (take i xs) → text ≡ line x → AppendsPart text middle after → AppendsPart (flat_map line xs) before after
-lines_cut line xs i x text before middle after within is written same part =
-    let cut : AppendsPart (line x) middle after = subst (λ (bytes : List ℕ). AppendsPart bytes middle after) same part in
-    subst (λ (bytes : List ℕ). AppendsPart bytes before after) (parts line xs i x within is)
-    (part_of_more (flat_map line (take i xs) ++ line x) (flat_map line (drop (i + 1) xs)) before after
-    (appends_part (flat_map line (take i xs)) (line x) before middle after written cut))
+module _ {A E : Type 0} (line : A → List ℕ) (xs : List A) (i : ℕ) (x : A) (within : i < length xs) (is : x ≡ get_or xs i x) (text : List ℕ) (same : text ≡ line x) (old middle new : Waiting) (start between end : Option (List ℕ))
+    (front : Puts {E = E} (Ok tt) (flat_map line (take i xs)) old middle start between) where
+  -- one line more was put
+  pub lines_more : Puts {E = E} (Ok tt) text middle new between end → Puts {E = E} (Ok tt) (flat_map line (take (i + 1) xs)) old new start end
+  lines_more more =
+      subst (λ (bytes : List ℕ). Puts {E = E} (Ok tt) bytes old new start end) (ap (λ (bytes : List ℕ). flat_map line (take i xs) ++ bytes) same ∙ sym (flat_map_front line xs i x within is))
+      (puts_then (Ok tt) (flat_map line (take i xs)) text old middle new start between end front more)
 
--- one text whole, and then another whole or cut
-pub both_texts : {T E : Type 0} (result : Result T E) (first second before middle after : List ℕ) → middle ≡ before ++ first → WritesAll result second middle after → WritesAll result (first ++ second) before after
-both_texts (Ok done) first second before middle after one two = appends_more first second before middle after one two
-both_texts (Err e) first second before middle after one two = appends_part first second before middle after one two
+  -- a part of one line more was put
+  pub lines_cut : (error : E) → Puts {E = E} (Err error) text middle new between end → Puts {E = E} (Err error) (flat_map line xs) old new start end
+  lines_cut error more =
+      subst (λ (bytes : List ℕ). Puts {E = E} (Err error) bytes old new start end) (ap (λ (bytes : List ℕ). (flat_map line (take i xs) ++ bytes) ++ flat_map line (drop (i + 1) xs)) same ∙ parts line xs i x within is)
+      (puts_part error (flat_map line (take i xs) ++ text) (flat_map line (drop (i + 1) xs)) old new start end (puts_then (Err error) (flat_map line (take i xs)) text old middle new start between end front more))
 
 -- the lines of lists of items
 pub in_lists : {A : Type 0} (line : A → List ℕ) (lists : List (Bor (List A))) → flat_map line (flat_map (λ (list : Bor (List A)). list.now) lists) ≡ flat_map (λ (list : Bor (List A)). flat_map line list.now) lists

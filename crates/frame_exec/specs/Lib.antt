@@ -7,3 +7,4 @@ pub mod Applications
 pub mod Ready
 pub mod Landable
 pub mod Stages
+pub mod Rows

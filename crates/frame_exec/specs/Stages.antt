@@ -21,8 +21,9 @@ use Rattle.frame_exec.specs.Runs.{Setup, State, image_at, items_at, operations_a
 use Rattle.frame_exec.specs.Landable.{CanLand}
 use Rattle.frame_exec.specs.Standing.{AppsStand}
 
--- number, epoch, the mark of failure and the tables stay
+-- number, epoch, the mark of failure, the tables and the lines that wait stay
 pub record IsSameRun (old new : Bench) : Type 0 where
+  pub waits : new.block ≡ old.block
   pub epoch : new.epoch ≡ old.epoch
   pub number : new.number ≡ old.number
   pub failed : new.failed ≡ old.failed
@@ -107,6 +108,18 @@ pub record RunsIn (setup : Setup) (s : State) (frame : Frame) (b : Bench) : Type
   pub made : LogStands (s.made ++ flat_map makes (joined (items_at setup s frame))) b.log
   pub operations : b.ops ≡ operations_at setup s frame
   pub memory : b.ram ≡ image_at s frame
+
+-- all that a frame makes of the bench stays, but for the lines that wait
+pub record IsSameFrame (old new : Bench) : Type 0 where
+  pub epoch : new.epoch ≡ old.epoch
+  pub number : new.number ≡ old.number
+  pub failed : new.failed ≡ old.failed
+  pub tables : new.tables ≡ old.tables
+  pub apps : KeepsApps old new
+  pub pipes : new.bus ≡ old.bus
+  pub log : new.log ≡ old.log
+  pub operations : new.ops ≡ old.ops
+  pub memory : new.ram ≡ old.ram
 
 -- the lines of what was sent and dropped
 abbrev pub lines_in : Bench → List ℕ

@@ -3,6 +3,7 @@ use Rattle.std.specs.Prelude.{◌≡◌, ℕ, ◌+◌, ◌<◌, true, false, Lis
 use Rattle.memory_window.specs.Regions.{is_mapped}
 use Rattle.memory_window.specs.Memory.{regions_of}
 use Rattle.md_dwell.specs.State.{AllGiven}
+use Rattle.packet_log.specs.Blocks.{empty_block}
 use Rattle.packet_log.specs.Standing.{Stands as LogStands}
 use Rattle.scenario.specs.declared.progress.Header.{Header}
 use Rattle.scenario.specs.declared.frame.Upset.{Upset}
@@ -36,6 +37,7 @@ pub record IsReady (b : Bench) : Type 0 where
 pub record Stands (b : Bench) (setup : Setup) (frames : List Frame) : Type 0 where
   pub epoch : b.epoch ≡ setup.epoch
   pub well : b.failed ≡ false
+  pub waits : b.block ≡ empty_block
   pub has : Has b (run_of setup frames)
   pub ready : IsReady b
 

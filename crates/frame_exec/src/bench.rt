@@ -7,9 +7,7 @@ use crate::giving::{OpenFault, refused_place};
 use crate::md_slot::{MdReads, MdSlot};
 use crate::mm_slot::{MmReads, MmSlot};
 use crate::slot::Slot;
-use crate::stages::{
-    deliver_all, in_order, is_held, put_drops, put_lists, stamp_all, take_unless, upset_all,
-};
+use crate::stages::{deliver_all, in_order, is_held, put_frame, stamp_all, take_unless, upset_all};
 use crate::tables::Tables;
 use bus_pipes::{Batch, Bus, Drops, PipeName};
 use cs_slices::Cs;
@@ -17,7 +15,7 @@ use fsw_outside::{Failed, Gate, NoMemory, Sink};
 use md_dwell::Md;
 use memory_window::{Ops, Ram};
 use mm_core::Mm;
-use packet_log::{Line, Log, head_of};
+use packet_log::{Block, Log};
 use scenario::{App, FrameInput, Header, Upset};
 use std::alloc::Global;
 use std::thread::Threads;
@@ -44,6 +42,8 @@ pub struct Bench {
     bus: Bus,
     log: Log,
     ram: Ram,
+    // the lines of a frame, until its end
+    block: Block,
     ghost drops_room: { drops.room ≡ 1525 },
 }
 
@@ -54,6 +54,7 @@ impl Bench {
     ghost use Rattle.fsw_outside.specs.Written.{WritesAll};
     ghost use Rattle.memory_window.specs.Regions.{is_mapped};
     ghost use Rattle.memory_window.specs.Memory.{regions_of};
+    ghost use Rattle.packet_log.specs.Blocks.{empty_block};
     ghost use Rattle.scenario.specs.declared.frame.Upset.{Upset};
     ghost use Rattle.scenario.specs.declared.frame.App.{App};
     ghost use Rattle.scenario.specs.FrameLists.{Frame};
@@ -61,7 +62,7 @@ impl Bench {
     ghost use Rattle.frame_exec.specs.Standing.{Has, IsReady, Stands, IsInterrupted, CanRun, setup_in};
     ghost use Rattle.frame_exec.specs.Tables.{SetGiven, AreLoaded, Opens, region_fault};
     ghost use Rattle.frame_exec.specs.Landable.{CanLand};
-    ghost use Rattle.frame_exec.specs.Stages.{IsSameRun, IsUpset, Takes, IsClear, Steps, CanSend, Sends, RunsIn, lines_in};
+    ghost use Rattle.frame_exec.specs.Stages.{IsSameRun, IsUpset, Takes, IsClear, Steps, CanSend, Sends, RunsIn, IsSameFrame, lines_in};
 
     /// A bench with the tables that were loaded from these files and the memory of the header's map, which stands for no
     /// frames; the number of workers is from 1 to 16. `Region` comes exactly where that memory refuses the read of a dwell
@@ -111,6 +112,7 @@ impl Bench {
             bus: Bus::open(alloc)?,
             log: Log::start(),
             ram: Ram::new(alloc, header.map)?,
+            block: Block::open(alloc)?,
         })
     }
 
@@ -234,6 +236,31 @@ impl Bench {
         self.send(input);
     }
 
+    // Writes the lines of the frame that was run, all at once.
+    fn write<O: Sink>(&mut self, sink: &mut O) -> Result<(), Failed>
+        requires number { self.old.number < 4294967296 }
+        requires none { self.old.block ≡ empty_block }
+        ensures content { WhereTold (O.held sink.old) (O.held sink.new) (WritesAll result (lines_in self.old)) }
+        ensures cause { HasCause (O.held sink.new) (O.faults sink.old) (O.faults sink.new) result }
+        ensures same { IsSameFrame self.old self.new }
+        ensures handed { OnOk result (self.new.block ≡ empty_block) }
+    {
+        if self.is_silent() {
+            return Ok(());
+        }
+        let lists = in_order(&self.cs, &self.mm, &self.md);
+        let Ok(()) = put_frame(
+            &mut self.block,
+            sink,
+            self.number as u32,
+            &lists,
+            self.drops.items(),
+        ) else {
+            return Err(Failed);
+        };
+        self.block.flush(sink)
+    }
+
     // Whether nothing was sent nor dropped in the frame that was run.
     #[inline(always)]
     fn is_silent(&self) -> bool
@@ -243,32 +270,5 @@ impl Bench {
             && self.mm.out.is_empty()
             && self.md.out.is_empty()
             && self.drops.is_empty()
-    }
-
-    // Writes the lines of the frame that was run.
-    fn write<O: Sink>(&self, sink: &mut O) -> Result<(), Failed>
-        requires { self.now.number < 4294967296 }
-        ensures content { WhereTold (O.held sink.old) (O.held sink.new) (WritesAll result (lines_in self.now)) }
-        ensures cause { HasCause (O.held sink.new) (O.faults sink.old) (O.faults sink.new) result }
-    {
-        if self.is_silent() {
-            return Ok(());
-        }
-        self.write_lines(sink)
-    }
-
-    // Writes the lines of the frame that was run, which are some.
-    fn write_lines<O: Sink>(&self, sink: &mut O) -> Result<(), Failed>
-        requires { self.now.number < 4294967296 }
-        ensures content { WhereTold (O.held sink.old) (O.held sink.new) (WritesAll result (lines_in self.now)) }
-        ensures cause { HasCause (O.held sink.new) (O.faults sink.old) (O.faults sink.new) result }
-    {
-        let mut line = Line::new();
-        let head = head_of(self.number as u32);
-        let lists = in_order(&self.cs, &self.mm, &self.md);
-        let Ok(()) = put_lists(sink, &mut line, head.bytes(), &lists) else {
-            return Err(Failed);
-        };
-        put_drops(sink, &mut line, head.bytes(), self.drops.items())
     }
 }

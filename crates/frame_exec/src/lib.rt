@@ -5,6 +5,7 @@ mod application;
 mod bench;
 mod cs_slot;
 mod giving;
+pub mod laws;
 mod loading;
 mod md_slot;
 mod mm_slot;

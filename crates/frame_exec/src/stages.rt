@@ -1,15 +1,14 @@
 //! The loops of a frame, over the parts of the bench.
 
-ghost use Rattle.std.specs.Prelude.{◌≡◌, ℕ, ◌+◌, ◌≤◌, ◌++◌, true, List, [], ◌∷◌, length, All, decimal};
+ghost use Rattle.std.specs.Prelude.{◌≡◌, ℕ, ◌+◌, ◌<◌, ◌≤◌, ◌++◌, true, OnErr, List, [], ◌∷◌, length, All, decimal};
 ghost use Rattle.std.specs.List.{AllPass, flat_map, fold, list_any};
-ghost use Rattle.fsw_outside.specs.Told.{WhereTold};
 ghost use Rattle.fsw_outside.specs.Causes.{HasCause};
-ghost use Rattle.fsw_outside.specs.Written.{WritesAll};
 ghost use Rattle.bus_pipes.specs.Held.{adding};
 ghost use Rattle.bus_pipes.specs.Counted.{is_item_counted};
 ghost use Rattle.bus_pipes.specs.Delivery.{after_offers, drops_from};
 ghost use Rattle.memory_window.specs.Regions.{is_mapped};
 ghost use Rattle.memory_window.specs.Memory.{regions_of};
+ghost use Rattle.packet_log.specs.Blocks.{Puts};
 ghost use Rattle.packet_log.specs.Items.{item_line};
 ghost use Rattle.packet_log.specs.Lines.{drop_line};
 ghost use Rattle.packet_log.specs.Sent.{makes};
@@ -23,7 +22,7 @@ use crate::mm_slot::MmSlot;
 use bus_pipes::{Batch, Bus, Dropped, Drops, Out, Outbox, PipeName};
 use fsw_outside::{Failed, Sink};
 use memory_window::Ram;
-use packet_log::{Line, Log, put_bytes, write_drop, write_item};
+use packet_log::{Block, Line, Log, head_of, write_drop, write_item};
 use scenario::{App, Upset};
 
 // The place of an application in the order of the applications.
@@ -139,61 +138,87 @@ fn deliver_lists(bus: &mut Bus, lists: &[&[Out]], drops: &mut Drops)
     }
 }
 
-/// Writes the lines of items that were sent. `head` is the frame's number in decimal.
+/// Puts the lines of items that were sent behind those that wait. `head` is the frame's number in decimal.
 fn put_items<O: Sink>(
+    block: &mut Block,
     sink: &mut O,
     line: &mut Line,
     head: &[u8],
     items: &[Out],
 ) -> Result<(), Failed>
     requires { length head.now ≤ 40 }
-    ensures content { (frame : ℕ) → head.now ≡ decimal frame → WhereTold (O.held sink.old) (O.held sink.new) (WritesAll result (flat_map (item_line frame) items.now)) }
+    ensures puts { (frame : ℕ) → head.now ≡ decimal frame → Puts result (flat_map (item_line frame) items.now) block.old block.new (O.held sink.old) (O.held sink.new) }
+    ensures left { OnErr result (0 < length block.new.bytes) }
     ensures cause { HasCause (O.held sink.new) (O.faults sink.old) (O.faults sink.new) result }
 {
     'items: for item in items {
         write_item(line, head, item);
-        let Ok(()) = put_bytes(sink, line.bytes()) else {
+        let Ok(()) = block.write(sink, line.bytes()) else {
             return Err(Failed);
         };
     }
     Ok(())
 }
 
-/// Writes the lines of lists of items that were sent, one list after another.
-pub(crate) fn put_lists<O: Sink>(
+/// Puts the lines of lists of items that were sent behind those that wait, one list after another.
+fn put_lists<O: Sink>(
+    block: &mut Block,
     sink: &mut O,
     line: &mut Line,
     head: &[u8],
     lists: &[&[Out]],
 ) -> Result<(), Failed>
     requires { length head.now ≤ 40 }
-    ensures content { (frame : ℕ) → head.now ≡ decimal frame → WhereTold (O.held sink.old) (O.held sink.new) (WritesAll result (flat_map (item_line frame) (shown lists.now))) }
+    ensures puts { (frame : ℕ) → head.now ≡ decimal frame → Puts result (flat_map (item_line frame) (shown lists.now)) block.old block.new (O.held sink.old) (O.held sink.new) }
+    ensures left { OnErr result (0 < length block.new.bytes) }
     ensures cause { HasCause (O.held sink.new) (O.faults sink.old) (O.faults sink.new) result }
 {
     'lists: for list in lists {
-        let Ok(()) = put_items(sink, line, head, list) else {
+        let Ok(()) = put_items(block, sink, line, head, list) else {
             return Err(Failed);
         };
     }
     Ok(())
 }
 
-/// Writes the lines of packets that were dropped. `head` is the frame's number in decimal.
-pub(crate) fn put_drops<O: Sink>(
+/// Puts the lines of packets that were dropped behind those that wait. `head` is the frame's number in decimal.
+fn put_drops<O: Sink>(
+    block: &mut Block,
     sink: &mut O,
     line: &mut Line,
     head: &[u8],
     drops: &[Dropped],
 ) -> Result<(), Failed>
     requires { length head.now ≤ 40 }
-    ensures content { (frame : ℕ) → head.now ≡ decimal frame → WhereTold (O.held sink.old) (O.held sink.new) (WritesAll result (flat_map (drop_line frame) drops.now)) }
+    ensures puts { (frame : ℕ) → head.now ≡ decimal frame → Puts result (flat_map (drop_line frame) drops.now) block.old block.new (O.held sink.old) (O.held sink.new) }
+    ensures left { OnErr result (0 < length block.new.bytes) }
     ensures cause { HasCause (O.held sink.new) (O.faults sink.old) (O.faults sink.new) result }
 {
     'drops: for lost in drops {
         write_drop(line, head, lost);
-        let Ok(()) = put_bytes(sink, line.bytes()) else {
+        let Ok(()) = block.write(sink, line.bytes()) else {
             return Err(Failed);
         };
     }
     Ok(())
+}
+
+/// Puts the lines of a frame behind those that wait: of what the applications sent, in their order, and of what was dropped.
+pub(crate) fn put_frame<O: Sink>(
+    block: &mut Block,
+    sink: &mut O,
+    number: u32,
+    lists: &[&[Out]],
+    drops: &[Dropped],
+) -> Result<(), Failed>
+    ensures puts { Puts result (flat_map (item_line number) (shown lists.now) ++ flat_map (drop_line number) drops.now) block.old block.new (O.held sink.old) (O.held sink.new) }
+    ensures left { OnErr result (0 < length block.new.bytes) }
+    ensures cause { HasCause (O.held sink.new) (O.faults sink.old) (O.faults sink.new) result }
+{
+    let mut line = Line::new();
+    let head = head_of(number);
+    let Ok(()) = put_lists(block, sink, &mut line, head.bytes(), lists) else {
+        return Err(Failed);
+    };
+    put_drops(block, sink, &mut line, head.bytes(), drops)
 }

@@ -13,7 +13,7 @@ returns c = λ files loaded.
     let tables = c.args.tables.now in
     let regions = c.args.header.now.map in
     let dwells = c.start-3.ensures.given regions (subst (TablesGiven regions) (sym c.dwells.ensures.dwells) c.requires.given.dwells) in
-    stands_opened _ _ refl refl refl loaded.named
+    stands_opened _ _ refl refl c.in_ok-open-6.ensures.empty refl loaded.named
     (subst (CsStands tables.eeprom tables.memory []) (sym c.in_ok-open.ensures)
     (subst (λ (memory : List Segment). CsStands tables.eeprom memory [] c.start.result) c.memory.ensures (subst (λ (eeprom : List Segment). CsStands eeprom c.memory.result.now [] c.start.result) c.eeprom.ensures c.start.ensures)))
     (subst (MmStands []) (sym c.in_ok-open-2.ensures) c.start-2.ensures)

@@ -17,7 +17,7 @@ returns c =
     let sends = c.sends.ensures.value in
     let offered = c.deliver.ensures.after ∙ ap (after_offers old.bus) sends in
     record {
-      run = record { epoch = refl; number = refl; failed = refl; tables = refl };
+      run = record { waits = refl; epoch = refl; number = refl; failed = refl; tables = refl };
       apps = record { cs = refl; mm = refl; md = refl };
       operations = refl;
       sent = λ made stands.

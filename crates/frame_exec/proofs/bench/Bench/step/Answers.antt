@@ -12,7 +12,7 @@ returns-clause-steps c =
     let time = old.epoch + old.number in
     let seen = c.window-window.ensures.window in
     record {
-      run = record { epoch = refl; number = refl; failed = refl; tables = refl };
+      run = record { waits = refl; epoch = refl; number = refl; failed = refl; tables = refl };
       cs = subst (λ (m : Memory). IsWoken (cs_stands old.tables) (cs_gives old.tables) old.cs.held (cs_reads time old.cs.commands m) old.cs.state.value c.step.new.self.state.value c.step.new.self.out.items) seen
           (c.step.ensures.wakes old.tables (c.eeprom.ensures, c.memory.ensures));
       mm = λ tables. subst (λ (m : Memory). IsWoken (mm_stands tables) (mm_gives tables) old.mm.held (mm_reads time old.mm.commands m) old.mm.state.value c.step-2.new.self.state.value c.step-2.new.self.out.items) seen

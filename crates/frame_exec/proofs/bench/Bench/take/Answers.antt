@@ -10,7 +10,7 @@ returns c =
     let md = ap (λ (p : Pipes). p.md) c.take-2.ensures.pipes ∙ ap (λ (p : Pipes). p.md) c.take_unless-3.ensures ∙ ap (λ (p : Pipes). p.md) c.take.ensures.pipes ∙ ap (λ (p : Pipes). p.md) c.take_unless-2.ensures
     ∙ ap (λ (p : Pipes). p.md) c.take_unless.ensures in
     record {
-      run = record { epoch = refl; number = refl; failed = refl; tables = refl };
+      run = record { waits = refl; epoch = refl; number = refl; failed = refl; tables = refl };
       apps = record { cs = c.take.ensures.state; mm = c.take-2.ensures.state; md = c.take-3.ensures.state };
       cs = taken_by _ _ _ _ _ _ _ c.is_held.ensures cs c.take.ensures.takes;
       mm = taken_by _ _ _ _ _ _ _ c.is_held-3.ensures mm c.take-2.ensures.takes;

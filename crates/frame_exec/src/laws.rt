@@ -1,0 +1,30 @@
+//! Laws of the definitions, as contracts of functions that do nothing.
+
+ghost use Rattle.std.specs.Prelude.{◌≡◌, ℕ, List, [], ◌∷◌, ◌++◌, true, length, codes};
+ghost use Rattle.memory_window.specs.declared.regions.Region.{Region};
+ghost use Rattle.memory_window.specs.declared.regions.Kind.TheVariants.{Ram};
+ghost use Rattle.scenario.specs.FrameLists.{Frame};
+ghost use Rattle.table_files.specs.Kinds.{IsKnown};
+ghost use Rattle.table_files.specs.declared.kinds.TableKind.{TableKind};
+ghost use Rattle.frame_exec.specs.Runs.{Setup, beginning, after_frame, run_of, frame_lines, log_of};
+ghost use Rattle.frame_exec.specs.Rows.{noop_sent, quiet, noop_setup, noop_line};
+ghost use Rattle.frame_exec.specs.Tables.{is_loaded};
+
+/// A run and its log without frames, and at one frame more.
+pub fn runs_go_on()
+    ensures none { (setup : Setup) → log_of setup [] ≡ [] }
+    ensures more { (setup : Setup) (frames : List Frame) (frame : Frame) → log_of setup (frames ++ frame ∷ []) ≡ log_of setup frames ++ frame_lines setup frames frame }
+    ensures start { (setup : Setup) → run_of setup [] ≡ beginning setup }
+    ensures state { (setup : Setup) (frames : List Frame) (frame : Frame) → run_of setup (frames ++ frame ∷ []) ≡ after_frame setup (run_of setup frames) frame }
+    ensures number { (setup : Setup) (frames : List Frame) → (run_of setup frames).number ≡ length frames }
+{}
+
+/// Each kind of table that is known by a name has an application that loads it.
+pub fn known_tables_are_loaded()
+    ensures { (kind : TableKind) → IsKnown kind → is_loaded kind ≡ true }
+{}
+
+/// A run of two frames in which MM alone is woken, and the first of which sends it a no-op: its log is the event that answers it, byte by byte.
+pub fn worked_run()
+    ensures { log_of noop_setup (noop_sent ∷ quiet ∷ []) ≡ noop_line }
+{}
