@@ -1,6 +1,7 @@
 //! A short run of bytes that an operation carries with it.
-ghost use Rattle.std.specs.Prelude.{◌≡◌, ◌-◌, ◌<◌, ◌≤◌, ◌++◌, length, replicate};
+ghost use Rattle.std.specs.Prelude.{◌≡◌, ◌<◌, ◌≤◌, length};
 
+use packet_forms::ByteList;
 use std::marker::Model;
 
 const MOST_BYTES: usize = 200;
@@ -8,31 +9,19 @@ const MOST_BYTES: usize = 200;
 /// 1 to 200 bytes.
 #[derive(Clone, Copy, Debug)]
 pub struct Chunk {
-    // Zeros stand behind the bytes.
-    bytes: [u8; MOST_BYTES],
-    len: u8,
+    list: ByteList<MOST_BYTES>,
 }
 
 impl Model for Chunk {
-    ghost use Rattle.std.specs.Prelude.{◌≡◌, ℕ, ◌-◌, ◌<◌, ◌≤◌, ◌++◌, List, length, take, replicate};
+    ghost use Rattle.std.specs.Prelude.{◌<◌, List, ℕ, length};
 
     ghost Value = { List ℕ };
 
-    ghost view = { λ c. take c.len c.bytes };
+    ghost view = { λ c. c.list };
 
-    ghost invariant = { λ c. (0 < c.len) × (c.len ≤ 200) × (length c.bytes ≡ 200) × (c.bytes ≡ take c.len c.bytes ++ replicate (200 - c.len) 0) };
+    ghost invariant = { λ c. 0 < length c.list };
 
-    ghost inverse = { λ xs. record { bytes = xs ++ replicate (200 - length xs) 0; len = length xs } };
-}
-
-// The bytes, and zeros up to the last place.
-fn padded(bytes: &[u8]) -> [u8; MOST_BYTES]
-    requires { length bytes.now ≤ 200 }
-    ensures { result ≡ bytes.now ++ replicate (200 - length bytes.now) 0 }
-{
-    let mut kept = [0; MOST_BYTES];
-    kept[..bytes.len()].copy_from_slice(bytes);
-    kept
+    ghost inverse = { λ xs. record { list = xs } };
 }
 
 impl Chunk {
@@ -42,8 +31,7 @@ impl Chunk {
         ensures { result ≡ bytes.now }
     {
         Chunk {
-            bytes: padded(bytes),
-            len: bytes.len() as u8,
+            list: ByteList::copy_of(bytes),
         }
     }
 
@@ -51,7 +39,7 @@ impl Chunk {
     pub fn len(&self) -> u32
         ensures { result ≡ length self.now }
     {
-        u32::from(self.len)
+        self.list.len() as u32
     }
 
     /// The bytes.
@@ -60,6 +48,6 @@ impl Chunk {
         ensures some { 0 < length self.now }
         ensures few { length self.now ≤ 200 }
     {
-        &self.bytes[..self.len as usize]
+        self.list.bytes()
     }
 }
