@@ -1,7 +1,8 @@
 //! The kinds of tables: their names, and how many bytes their payloads have.
-ghost use Rattle.std.specs.Prelude.{◌≡◌, ◌==◌, map};
-ghost use Rattle.std.specs.List.{list_all};
+ghost use Rattle.std.specs.Prelude.{◌≡◌, map};
 ghost use Rattle.table_files.specs.Kinds.{fits_kind, is_padded, known_by, kind_among, named_kind};
+
+use packet_forms::are_zeros;
 
 /// Which table a file holds. A number tells tables of one sort apart.
 #[derive(Clone, Copy, Debug, PartialEq, Eq)]
@@ -110,10 +111,4 @@ fn is_padded(name: &str, field: &[u8]) -> bool
         return false;
     }
     are_zeros(&field[name.len()..])
-}
-
-fn are_zeros(bytes: &[u8]) -> bool
-    ensures { result ≡ list_all (λ b. b == 0) bytes.now }
-{
-    bytes.iter().all(|byte| *byte == 0)
 }
