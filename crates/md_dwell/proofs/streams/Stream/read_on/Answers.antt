@@ -53,7 +53,7 @@ returns-then-self-eq0-clause-items c = λ since r past some_delay held.
     let last = c.gather.ensures.last list (since + r * delays list) past refl held.within held.read in
     let round = round_over since r past image c.args.self.now c.gather.new.self c.list.result.now some_delay held c.list.ensures.list c.gather.ensures.plan c.if-self-list.false read last in
     c.push.ensures.after
-    ∙ ap (λ (p : List ℕ). adding c.args.out.now (Made p ∷ [])) (c.dwell_packet.ensures ∙ ap (λ (b : List ℕ). dwell_packet c.args.now c.args.table b) c.bytes.ensures.bytes)
+    ∙ ap (λ (p : List ℕ). adding c.args.out.now (Made p ∷ [])) (c.dwell_packet.ensures ∙ ap (λ (b : List ℕ). dwell_packet c.args.now c.args.table b) c.bytes.ensures.value)
     ∙ sym (ap (λ (o : Option (List ℕ)). adding c.args.out.now (dwell_items c.args.now c.args.table o)) round.due)
 
 pub returns-else-self-eq0-clause-stands : goal.returns-else-self-eq0-clause-stands
@@ -75,7 +75,7 @@ returns-else-self-eq0-clause-items c = λ since r past some_delay held.
     let last = c.gather.ensures.last list (since + r * delays list) past refl held.within held.read in
     let round = round_over since r past image c.args.self.now c.gather.new.self c.list.result.now some_delay held c.list.ensures.list c.gather.ensures.plan c.if-self-list.false read last in
     c.push.ensures.after
-    ∙ ap (λ (p : List ℕ). adding c.args.out.now (Made p ∷ [])) (c.dwell_packet.ensures ∙ ap (λ (b : List ℕ). dwell_packet c.args.now c.args.table b) c.bytes.ensures.bytes)
+    ∙ ap (λ (p : List ℕ). adding c.args.out.now (Made p ∷ [])) (c.dwell_packet.ensures ∙ ap (λ (b : List ℕ). dwell_packet c.args.now c.args.table b) c.bytes.ensures.value)
     ∙ sym (ap (λ (o : Option (List ℕ)). adding c.args.out.now (dwell_items c.args.now c.args.table o)) round.due)
 
 pub returns-then-self-eq0-clause-counted : goal.returns-then-self-eq0-clause-counted
