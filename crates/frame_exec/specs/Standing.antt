@@ -1,5 +1,5 @@
 -- When a bench stands for a list of frames.
-use Rattle.std.specs.Prelude.{◌≡◌, ℕ, ◌+◌, ◌<◌, true, false, List, length, All}
+use Rattle.std.specs.Prelude.{◌≡◌, ℕ, Bool, ◌+◌, ◌<◌, true, false, List, length, All}
 use Rattle.memory_window.specs.Regions.{is_mapped}
 use Rattle.memory_window.specs.Memory.{regions_of}
 use Rattle.md_dwell.specs.State.{AllGiven}
@@ -33,10 +33,14 @@ pub record IsReady (b : Bench) : Type 0 where
   pub cs : CsIsReady (regions_of b.ram.areas) b.tables.eeprom b.tables.memory b.cs.state.value
   pub md : AllGiven (regions_of b.ram.areas) b.md.state.value
 
+-- whether a frame of the bench failed
+abbrev pub has_failed : Bench → Bool
+has_failed b = b.failed
+
 -- the bench stands for these frames, of a scenario with this header
 pub record Stands (b : Bench) (setup : Setup) (frames : List Frame) : Type 0 where
   pub epoch : b.epoch ≡ setup.epoch
-  pub well : b.failed ≡ false
+  pub well : has_failed b ≡ false
   pub waits : b.block ≡ empty_block
   pub has : Has b (run_of setup frames)
   pub ready : IsReady b

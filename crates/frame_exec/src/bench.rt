@@ -59,7 +59,7 @@ impl Bench {
     ghost use Rattle.scenario.specs.declared.frame.App.{App};
     ghost use Rattle.scenario.specs.FrameLists.{Frame};
     ghost use Rattle.frame_exec.specs.Runs.{Setup, State, frame_lines};
-    ghost use Rattle.frame_exec.specs.Standing.{Has, IsReady, Stands, IsInterrupted, CanRun, setup_in};
+    ghost use Rattle.frame_exec.specs.Standing.{Has, has_failed, IsReady, Stands, IsInterrupted, CanRun, setup_in};
     ghost use Rattle.frame_exec.specs.Tables.{SetGiven, AreLoaded, Opens, region_fault};
     ghost use Rattle.frame_exec.specs.Landable.{CanLand};
     ghost use Rattle.frame_exec.specs.Stages.{IsSameRun, IsUpset, Takes, IsClear, Steps, CanSend, Sends, RunsIn, IsSameFrame, lines_in};
@@ -118,7 +118,7 @@ impl Bench {
 
     /// Whether a frame of this bench failed.
     pub fn failed(&self) -> bool
-        ensures { result ≡ self.now.failed }
+        ensures { result ≡ has_failed self.now }
     {
         self.failed
     }
@@ -137,7 +137,7 @@ impl Bench {
         ensures stands { (setup : Setup) (frames : List Frame) → Stands self.old setup frames → OnOk result (Stands self.new setup (frames ++ input.now ∷ [])) }
         ensures interrupted { (setup : Setup) (frames : List Frame) → Stands self.old setup frames → OnErr result (IsInterrupted self.new setup frames input.now) }
         ensures cause { HasCause (O.held sink.new) (O.faults sink.old) (O.faults sink.new) result }
-        ensures failed { self.new.failed ≡ is_err result }
+        ensures failed { has_failed self.new ≡ is_err result }
     {
         let _ = rt;
         let _ = gate;
