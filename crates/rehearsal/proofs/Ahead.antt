@@ -10,6 +10,7 @@ use Rattle.scenario.specs.Texts.{Text, Given, Head, Whole, Reading, Bad, reading
 use Rattle.scenario.specs.Standing.{Stands}
 use Rattle.scenario.proofs.TextLaws.{texts_grow, given_are_good, items_have_stops, stops_stay}
 use Rattle.rehearsal.specs.declared.report.Report.{Report}
+use Rattle.rehearsal.specs.declared.report.Status.TheVariants as statuses
 use Rattle.rehearsal.specs.Reading.{StopsAt}
 use Rattle.rehearsal.specs.Outcome.{frames_of, ReadsAhead}
 
@@ -68,3 +69,19 @@ cut_ahead now got rest f pending end frames same items count number stop few =
     let index : frames + 1 ≡ length got = omega (arith, count, number) in
     let size = length-append now.bytes pending in
     rw index (omega (arith, stays, stop, size, few))
+
+-- the header was read, and at most a piece past its end
+pub header_ahead : (now : Text) (item : Given) (rest : List Given) (pending : List ℕ) (end : Bool) → (now.closed ≡ true → (pending ≡ []) × (end ≡ true))
+    → (reading now).items ≡ (item ∷ []) ++ rest → StopsAt now 0 → length pending ≤ 4096
+    → length (now.bytes ++ pending) ≤ slice_index (reading (record { bytes = now.bytes ++ pending; closed = end })).stops 0 + 4096
+header_ahead now item rest pending end same items stop few =
+    let all = ap length items in
+    let stops = (items_have_stops now).items in
+    let within : 0 < length (reading now).stops = omega (arith, all, stops) in
+    let stays = stop_stays now pending end 0 same within in
+    let size = length-append now.bytes pending in
+    omega (arith, stays, stop, size, few)
+
+-- nothing was read
+pub nothing_ahead : (report : Report) (end : Bool) → report ≡ record { status = statuses.NoMemory; file = 0; line = 0; reason = 0; frames = 0 } → ReadsAhead report (record { bytes = []; closed = end })
+nothing_ahead report end is = ahead_by report _ (record { bytes = []; closed = end }) is (omega arith)

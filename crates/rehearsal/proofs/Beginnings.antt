@@ -1,5 +1,6 @@
 -- How a scenario's reading begins.
-use Rattle.std.proofs.Common.{◌≡◌, ℕ, ◌<◌, Bool, false, List, [], ◌∷◌, ◌++◌, length, refl, sym, ◌∙◌, ap, append-nil, arith, Option, Some, None, Err, IsTrue}
+use Rattle.std.proofs.Common.{◌≡◌, ℕ, ◌+◌, ◌<◌, ◌≤◌, Bool, false, List, [], ◌∷◌, ◌++◌, length, refl, sym, ◌∙◌, ap, append-nil, arith, Option, Some, None, Err, IsTrue}
+use Rattle.std.specs.Prelude.{slice_index}
 use Rattle.fsw_outside.specs.Files.{Stored, Content, file_named}
 use Rattle.memory_window.specs.declared.regions.Region.{Region}
 use Rattle.scenario.specs.declared.reader.Reader.{Reader}
@@ -105,16 +106,11 @@ pub text_by : (is_open : Bool) (before start faults : ℕ) (stored files : List 
     → IsText is_open start faults (file_named files word) rest text → IsText is_open before faults (file_named stored name) rest text
 text_by is_open before start faults stored files name word rest text a b c is = rw (← a, ← b, ← c) is
 
--- nothing of an open file was handed out
-pub nothing_handed_out : (is_open : Bool) (before faults : ℕ) (file : Option (List ℕ)) (rest : List ℕ) → file ≡ Some rest → IsText is_open before faults file rest (whole_of unread [] (is_closed rest before faults))
-nothing_handed_out is_open before faults file rest is = record { front = λ opened. is; nothing = λ shut. refl; closed = refl }
-
--- no tables are named where there are no files
-pub no_tables_fault : (files : List (List ℕ)) (fault : TablesFault) → files ≡ [] → tables_fault files ≡ Some fault → ⊥
+-- there are files where a table of theirs isn't in order
+pub some_faulty : (files : List (List ℕ)) (fault : TablesFault) → tables_fault files ≡ Some fault → 0 < length files
 unfolding tables_fault first_said
-no_tables_fault files fault none is =
-    let nothing : tables_fault files ≡ None = rw none refl in
-    cc
+some_faulty [] fault is = let wrong : ⊥ = cc in absurd wrong
+some_faulty (file ∷ files) fault is = omega arith
 
 -- a bench isn't opened
 pub not_opened : (files : List (List ℕ)) (report : Report) (whole : Text) (fault : OpenFault) (refused : Option (ℕ × ℕ)) (held : List ℕ) → report ≡ fault_report fault → Opens {B = Bench} refused (Err fault)
@@ -122,7 +118,7 @@ pub not_opened : (files : List (List ℕ)) (report : Report) (whole : Text) (fau
 not_opened files report whole (faults.Region file entry) refused held is opens all = read_refused files report whole file entry held is (all ∙ opens)
 not_opened files report whole faults.NoMemory refused held is opens all = out_of_memory files report whole held is
 
--- nothing is asked ahead of it
-pub not_opened_ahead : (report : Report) (whole : Text) (fault : OpenFault) → report ≡ fault_report fault → ReadsAhead report whole
-not_opened_ahead report whole (faults.Region file entry) is = rw is tt
-not_opened_ahead report whole faults.NoMemory is = rw is tt
+-- at most a piece was read past the header's end
+pub not_opened_ahead : (report : Report) (whole : Text) (fault : OpenFault) → report ≡ fault_report fault → length whole.bytes ≤ slice_index (reading whole).stops 0 + 4096 → ReadsAhead report whole
+not_opened_ahead report whole (faults.Region file entry) is few = rw is few
+not_opened_ahead report whole faults.NoMemory is few = rw is few

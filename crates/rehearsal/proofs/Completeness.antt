@@ -17,7 +17,7 @@ use Rattle.rehearsal.specs.AcceptedWords.{Asked}
 use Rattle.rehearsal.specs.FileWords.{refusal_behind, refusal_after, first_refusal, AreTaken}
 use Rattle.rehearsal.specs.Gathering.{RefusesFile, EndsAtFileBy}
 use Rattle.frame_exec.specs.Tables.{tables_fault}
-use Rattle.rehearsal.specs.Outcome.{IsText, refused_read, GivesReads, OutcomeOf, Outcome, Rehearses, Completes}
+use Rattle.rehearsal.specs.Outcome.{IsText, refused_read, GivesReads, OutcomeOf, Outcome, Seen, Rehearses, Completes}
 use Rattle.rehearsal.proofs.Gathered.{none_before}
 use Rattle.rehearsal.proofs.Outcomes.{tells_some, reading_whole, items_whole, refused_append, refused_some}
 use Rattle.rehearsal.proofs.Endings.{not_open_at_bad}
@@ -139,44 +139,45 @@ none_of_front before (file ∷ files) (suc n) none =
     rw parts.0 (none_of_front (before ++ file ∷ []) files n parts.1)
 
 -- a FILE that is refused isn't one of files that are taken
-refused_taken : (report : Report) (stored : List Stored) (names files : List (List ℕ)) → RefusesFile report stored names → AreTaken stored names files → ⊥
+refused_taken : (report : Report) (stored : List Stored) (names files : List (List ℕ)) (rest : List ℕ) → RefusesFile report stored names rest → AreTaken stored names files → ⊥
 unfolding first_refusal
-refused_taken report stored names files refuses taken =
-    let front : refuses.files ≡ take report.file files = front_named stored report.file names files refuses.files taken.named refuses.named in
-    let none : refusal_after [] refuses.files ≡ None = ap (refusal_after []) front ∙ none_of_front [] files report.file taken.taken in
+refused_taken report stored names files rest refuses taken =
+    let read : List (List ℕ) = refuses.before ++ refuses.bytes ∷ [] in
+    let front : read ≡ take report.file files = front_named stored report.file names files read taken.named refuses.named in
+    let none : refusal_after [] read ≡ None = ap (refusal_after []) front ∙ none_of_front [] files report.file taken.taken in
     let is = refuses.refused in
     cc
 
 -- an end at a FILE is want of memory, where the files are taken and the shelf didn't fail
-ends_complete : (status : Status) (report : Report) (stored : List Stored) (names files : List (List ℕ)) (count : ℕ) (text : Text) (old new : List ℕ) → report.status ≡ status → EndsAtFileBy status report stored names count
+ends_complete : (status : Status) (report : Report) (stored : List Stored) (names files : List (List ℕ)) (count : ℕ) (is_open : Bool) (rest : List ℕ) (text : Text) (old new : List ℕ) → report.status ≡ status → EndsAtFileBy status report stored names count is_open rest
     → AreTaken stored names files → (status ≡ statuses.ReadFailed → ⊥) → new ≡ old → Completes report files text old new
-ends_complete statuses.Done report stored names files count text old new same ends taken read unwritten = absurd ends
-ends_complete statuses.WordsRefused report stored names files count text old new same ends taken read unwritten = absurd ends
-ends_complete statuses.FileRefused report stored names files count text old new same ends taken read unwritten = absurd (refused_taken report stored names files ends.0 taken)
-ends_complete statuses.ScenarioRefused report stored names files count text old new same ends taken read unwritten = absurd ends
-ends_complete statuses.ReadFailed report stored names files count text old new same ends taken read unwritten = absurd (read refl)
-ends_complete statuses.WriteFailed report stored names files count text old new same ends taken read unwritten = absurd ends
-ends_complete statuses.NoMemory report stored names files count text old new same ends taken read unwritten = inr (same, ends.frames, unwritten)
+ends_complete statuses.Done report stored names files count is_open rest text old new same ends taken read unwritten = absurd ends
+ends_complete statuses.WordsRefused report stored names files count is_open rest text old new same ends taken read unwritten = absurd ends
+ends_complete statuses.FileRefused report stored names files count is_open rest text old new same ends taken read unwritten = absurd (refused_taken report stored names files rest ends.0 taken)
+ends_complete statuses.ScenarioRefused report stored names files count is_open rest text old new same ends taken read unwritten = absurd ends
+ends_complete statuses.ReadFailed report stored names files count is_open rest text old new same ends taken read unwritten = absurd (read refl)
+ends_complete statuses.WriteFailed report stored names files count is_open rest text old new same ends taken read unwritten = absurd ends
+ends_complete statuses.NoMemory report stored names files count is_open rest text old new same ends taken read unwritten = inr (same, ends.frames, unwritten)
 
 -- A rehearsal without faults of files that can be taken and of a scenario that ends well is complete.
-pub rehearses_complete : (report : Report) (asked : Asked) (is_open : Bool) (before faults : ℕ) (held now : Option (List ℕ)) (start after : Content) (files : List (List ℕ)) (bytes : List ℕ)
-    → Rehearses report asked is_open before faults held now start after → AreTaken start.files asked.files files → file_named start.files asked.scenario ≡ Some bytes
+pub rehearses_complete : (report : Report) (asked : Asked) (seen : Seen) (start after : Content) (files : List (List ℕ)) (bytes : List ℕ)
+    → Rehearses report asked seen start after → AreTaken start.files asked.files files → file_named start.files asked.scenario ≡ Some bytes
     → tables_fault files ≡ None → (reading (record { bytes = bytes; closed = true })).ending ≡ Ended → GivesReads files (reading (record { bytes = bytes; closed = true })) → (report.status ≡ statuses.ReadFailed → ⊥)
-    → ((report.status ≡ statuses.ReadFailed → ⊥) → (report.status ≡ statuses.NoMemory → ⊥) → IsTrue is_open) → ((new : List ℕ) → now ≡ Some new → report.status ≡ statuses.WriteFailed → ⊥)
-    → WhereTold held now (Completes report files (record { bytes = bytes; closed = true }))
-rehearses_complete report asked is_open before faults held now start after files bytes (inl ends) taken file loaded ended given read opened write =
-    told_map ends.unwritten (λ old new unwritten. ends_complete report.status report start.files asked.files files ends.count (record { bytes = bytes; closed = true }) old new refl ends.ends taken read unwritten)
-rehearses_complete report asked is_open before faults held now start after files bytes (inr (inl ends)) taken file loaded ended given read opened write =
+    → ((report.status ≡ statuses.ReadFailed → ⊥) → (report.status ≡ statuses.NoMemory → ⊥) → IsTrue seen.is_open) → ((new : List ℕ) → seen.held_now ≡ Some new → report.status ≡ statuses.WriteFailed → ⊥)
+    → WhereTold seen.held_before seen.held_now (Completes report files (record { bytes = bytes; closed = true }))
+rehearses_complete report asked seen start after files bytes (inl ends) taken file loaded ended given read opened write =
+    told_map ends.unwritten (λ old new unwritten. ends_complete report.status report start.files asked.files files ends.count seen.is_open after.rest (record { bytes = bytes; closed = true }) old new refl ends.ends taken read unwritten)
+rehearses_complete report asked seen start after files bytes (inr (inl ends)) taken file loaded ended given read opened write =
     let same : ends.files ≡ files = same_named start.files asked.files ends.files files ends.taken.named taken.named in
     let none : tables_fault ends.files ≡ None = ap tables_fault same ∙ loaded in
     let is = ends.refuses.is in
     let wrong : ⊥ = cc in
     absurd wrong
-rehearses_complete report asked is_open before faults held now start after files bytes (inr (inr reads)) taken file loaded ended given read opened write = λ new tells.
+rehearses_complete report asked seen start after files bytes (inr (inr reads)) taken file loaded ended given read opened write = λ new tells.
     let inner = reads.outcome new tells in
     let same : reads.files ≡ files = same_named start.files asked.files reads.files files reads.taken.named taken.named in (
       inner.0,
       inner.1,
       subst (λ (fs : List (List ℕ)). Completes report fs (record { bytes = bytes; closed = true }) inner.0 new) same
-          (completes reads.files report is_open before faults bytes after.rest (file_named start.files asked.scenario) reads.text inner.0 new file reads.is_text ended (subst (λ (fs : List (List ℕ)). GivesReads fs (reading (record { bytes = bytes; closed = true }))) (sym same) given) read opened (write new tells) inner.2),
+          (completes reads.files report seen.is_open seen.faults_before seen.faults_now bytes after.rest (file_named start.files asked.scenario) reads.text inner.0 new file reads.is_text ended (subst (λ (fs : List (List ℕ)). GivesReads fs (reading (record { bytes = bytes; closed = true }))) (sym same) given) read opened (write new tells) inner.2),
     )

@@ -1,8 +1,8 @@
 -- What the FILEs taken so far come to with one more.
-use Rattle.std.proofs.Common.{◌≡◌, ℕ, suc, ◌+◌, ◌-◌, ◌<◌, List, [], ◌∷◌, ◌++◌, length, map, take, drop, refl, sym, ◌∙◌, ap, arith, append_assoc, length-append, add-zero, add-one, append-nil, slice_index_or, Option, Some, None, Err}
+use Rattle.std.proofs.Common.{◌≡◌, ℕ, Bool, suc, ◌+◌, ◌-◌, ◌<◌, List, [], ◌∷◌, ◌++◌, length, map, take, refl, sym, ◌∙◌, ap, subst, arith, append_assoc, length-append, add-zero, add-one, append-nil, slice_index_or, Option, Some, None, Err}
 use Rattle.std.proofs.Math.ListN.{get_or-append}
 use Rattle.std.proofs.Math.Seq.{take-suc, get_or-append_seam}
-use Rattle.std.proofs.lemmas.List.{map-append, get_or-drop}
+use Rattle.std.proofs.lemmas.List.{map-append, take_all}
 use Rattle.fsw_outside.specs.Files.{Stored, Content, file_named}
 use Rattle.rehearsal.specs.Asking.{AsksFor, OpensOnce, noted_name}
 use Rattle.rehearsal.specs.FileWords.{Refusal, refused_or, refusal_behind, refusal_after, first_refusal, AreTaken}
@@ -58,13 +58,18 @@ taken_more stored names files now file within taken is good grown =
     let size : length now ≡ length files + 1 = omega (arith, ap length grown, length-append files (file ∷ [])) in
     rw (size, grown) (record { named = named_more stored names files file within taken.named is; taken = first_more files file None taken.taken good })
 
+-- all FILEs were taken
+pub taken_all : (stored : List Stored) (names files : List (List ℕ)) → length files ≡ length names → AreTaken stored (take (length files) names) files → AreTaken stored names files
+taken_all stored names files all taken = subst (λ (front : List (List ℕ)). AreTaken stored front files) (ap (λ (n : ℕ). take n names) all ∙ take_all (length names) names (omega arith)) taken
+
 -- the next FILE isn't taken
-pub stops_at : (stored : List Stored) (names files : List (List ℕ)) (why : Stop) (now : List (List ℕ)) → length files < length names → AreTaken stored (take (length files) names) files
-    → Takes (Err why) (file_named stored (slice_index_or names (length files) [])) files now → EndsAtFile (stop_report why (length files + 1)) stored names (length files + 1)
-stops_at stored names files stops.Failed now within taken why = (
+pub stops_at : (stored : List Stored) (names files : List (List ℕ)) (why : Stop) (is_open : Bool) (rest : List ℕ) (now : List (List ℕ)) → length files < length names → AreTaken stored (take (length files) names) files
+    → Takes (Err why) is_open (file_named stored (slice_index_or names (length files) [])) rest files now → EndsAtFile (stop_report why (length files + 1)) stored names (length files + 1) is_open rest
+stops_at stored names files stops.Failed is_open rest now within taken why = (
   record {
     before = files;
     taken = taken;
+    part = why;
     file = refl;
     within = omega (arith, within);
     line = refl;
@@ -73,17 +78,19 @@ stops_at stored names files stops.Failed now within taken why = (
   },
   refl,
 )
-stops_at stored names files (stops.Refused reason) now within taken why = (
+stops_at stored names files (stops.Refused reason) is_open rest now within taken why = (
   record {
-    files = files ++ why.0 ∷ [];
+    before = files;
+    bytes = why.0;
     named = named_more stored names files why.0 within taken.named why.1;
     refused = first_more files why.0 (Some reason) taken.taken why.2;
+    left = why.3;
     line = refl;
     frames = refl;
   },
   refl,
 )
-stops_at stored names files stops.NoMemory now within taken why = record { file = refl; line = refl; reason = refl; frames = refl }
+stops_at stored names files stops.NoMemory is_open rest now within taken why = record { file = refl; line = refl; reason = refl; frames = refl }
 
 -- nothing was asked for
 pub asks_none : (words files : List (List ℕ)) (content : Content) → files ≡ [] → AsksFor words (length files) content content
@@ -102,10 +109,6 @@ asks_more words count name before middle after within is asked opens = record {
   where
     count_is : (n : ℕ) → n ≡ n + 1 - 1
     count_is n = omega arith
-
--- the word at a place, among the words from another place on
-pub word_at : (words : List (List ℕ)) (from place count : ℕ) (word : List ℕ) → word ≡ slice_index_or words place [] → from + count ≡ place → word ≡ slice_index_or (drop from words) count []
-word_at words from place count word is at = is ∙ ap (λ (k : ℕ). slice_index_or words k []) (sym at) ∙ sym (get_or-drop from words count [])
 
 -- the words before the last were asked for
 pub asks_front : (names : List (List ℕ)) (last : List ℕ) (count : ℕ) (before after : Content) → AsksFor names count before after → AsksFor (names ++ last ∷ []) count before after

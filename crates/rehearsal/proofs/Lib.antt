@@ -6,5 +6,6 @@ pub mod Beginnings
 pub mod WordLists
 pub mod Completeness
 pub mod Ahead
+pub mod Fetched
 pub mod Gathered
 pub mod Stages

@@ -1,11 +1,9 @@
 -- The words that are accepted, by their places.
-use Rattle.std.proofs.Common.{◌≡◌, ℕ, zero, suc, ◌+◌, ◌-◌, ◌<◌, ◌≤◌, Bool, true, false, List, [], ◌∷◌, length, drop, refl, sym, ◌∙◌, ap, arith, add-one, length-drop, slice_index_or, Option, Some, None}
-use Rattle.std.specs.Prelude.{not, nat_le, IfNone, IfSome}
-use Rattle.std.proofs.lemmas.Option.{IfSome_then}
+use Rattle.std.proofs.Common.{◌≡◌, ℕ, zero, suc, ◌+◌, ◌-◌, ◌<◌, ◌≤◌, Bool, true, false, List, [], ◌∷◌, ◌++◌, length, drop, append_assoc, append-nil, refl, sym, ◌∙◌, ap, arith, add-one, length-drop, slice_index_or, Option, Some, None}
+use Rattle.std.specs.Prelude.{not, nat_le}
 use Rattle.std.specs.List.{list_all}
 use Rattle.std.proofs.lemmas.Bool.Decides.{nat_tests}
-use Rattle.rehearsal.specs.declared.accepting.Plan.{Plan}
-use Rattle.rehearsal.specs.AcceptedWords.{Asked, accepted_words, asked_for, asked_with_workers, asked_by, are_file_names, is_dashed, is_scenario, is_workers, workers_in, IsPlan}
+use Rattle.rehearsal.specs.AcceptedWords.{accepted_words, asked_for, asked_with_workers, are_file_names, is_dashed, is_scenario, is_workers, workers_in}
 
 -- the words from a place on: the word there, and those behind it
 pub drop_first : (words : List (List ℕ)) (place : ℕ) → place < length words → drop place words ≡ slice_index_or words place [] ∷ drop (place + 1) words
@@ -24,10 +22,22 @@ drop_last (word ∷ words) zero past = absurd (omega arith)
 drop_last (word ∷ words) (suc place) past = drop_last words place (omega arith)
 
 -- SCENARIO and the FILEs at their places
-pub asked_at : (words : List (List ℕ)) (place workers : ℕ) → place < length words → is_scenario (slice_index_or words place []) ≡ true → are_file_names (drop (place + 1) words) ≡ true
-    → asked_for workers (drop place words) ≡ Some (asked_by words (record { workers = workers; scenario = place }))
+pub asked_at : (words : List (List ℕ)) (place workers : ℕ) (scenario : List ℕ) (files : List (List ℕ)) → place < length words → is_scenario (slice_index_or words place []) ≡ true → are_file_names (drop (place + 1) words) ≡ true
+    → scenario ≡ slice_index_or words place [] → files ≡ drop (place + 1) words → asked_for workers (drop place words) ≡ Some (record { workers = workers; scenario = scenario; files = files })
 unfolding asked_for
-asked_at words place workers within named files = rw (drop_first words place within, named, files) refl
+asked_at words place workers scenario files within named undashed is behind = rw (is, behind, drop_first words place within, named, undashed) refl
+
+-- one word more was copied
+pub copied_more : (words copy : List (List ℕ)) (from place : ℕ) (word : List ℕ) → place < length words → word ≡ slice_index_or words place [] → copy ++ drop place words ≡ drop from words
+    → (copy ++ word ∷ []) ++ drop (place + 1) words ≡ drop from words
+copied_more words copy from place word within is so_far =
+    append_assoc copy (word ∷ []) (drop (place + 1) words)
+    ∙ ap (λ (rest : List (List ℕ)). copy ++ rest) (ap (λ (w : List ℕ). w ∷ drop (place + 1) words) is ∙ sym (drop_first words place within))
+    ∙ so_far
+
+-- all words were copied
+pub copied_all : (words copy : List (List ℕ)) (from place : ℕ) → length words ≤ place → copy ++ drop place words ≡ drop from words → copy ≡ drop from words
+copied_all words copy from place past so_far = sym (ap (λ (rest : List (List ℕ)). copy ++ rest) (drop_last words place past) ∙ append-nil copy) ∙ so_far
 
 -- a word that names no scenario
 pub unnamed_at : (words : List (List ℕ)) (place workers : ℕ) → place < length words → is_scenario (slice_index_or words place []) ≡ false → asked_for workers (drop place words) ≡ None
@@ -79,10 +89,6 @@ few_names words from undashed few is =
     let holds : nat_le (length (drop from words)) 100 ≡ true = grind (arith, nat_tests, size, few) in
     rw holds is
 
-none_then : {X : Type 0} (o : Option X) (P Q : Type 0) → (P → Q) → IfNone o P → IfNone o Q
-none_then None P Q step h = step h
-none_then (Some x) P Q step h = tt
-
 -- no words
 pub no_words : (words : List (List ℕ)) → length words ≡ 0 → accepted_words words ≡ None
 unfolding accepted_words
@@ -116,16 +122,6 @@ unfolding accepted_words asked_with_workers
 numbered [] workers some is number = absurd (omega arith)
 numbered (word ∷ []) workers some is number = absurd (omega arith)
 numbered (word ∷ next ∷ words) workers some is number = rw (is, number) refl
-
--- what a plan from a place on says of all words
-pub refused_from : (words : List (List ℕ)) (plan : Option Plan) (from : Option Asked) → accepted_words words ≡ from → IfNone plan (from ≡ None) → IfNone plan (accepted_words words ≡ None)
-refused_from words plan from is refused = none_then plan (from ≡ None) (accepted_words words ≡ None) (λ none. is ∙ none) refused
-
--- the plan carries out what the words ask for
-pub accepted_from : (words : List (List ℕ)) (plan : Option Plan) (from : Option Asked) (place workers : ℕ) → accepted_words words ≡ from → 1 ≤ workers → workers ≤ 16
-    → IfSome plan (λ p. (p.workers ≡ workers) × (p.scenario < length words) × (length words ≤ p.scenario + 101) × (from ≡ Some (asked_by words p)))
-    → IfSome plan (IsPlan words)
-accepted_from words plan from place workers is some few accepted = IfSome_then plan accepted (λ p h. record { place = h.1; few_files = h.2; some = rw h.0 some; few = rw h.0 few; asked = is ∙ h.3 })
 
 some_words : (words : List (List ℕ)) → (length words ≡ 0 → ⊥) → 0 < length words
 some_words [] some = absurd (some refl)

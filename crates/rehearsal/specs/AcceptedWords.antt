@@ -1,9 +1,8 @@
 -- Which words the program accepts.
-use Rattle.std.specs.Prelude.{◌≡◌, ℕ, ◌+◌, ◌<◌, ◌≤◌, List, [], ◌∷◌, ◌++◌, length, Bool, not, ◌&&◌, Option, Some, None, option_and_then, nat_le, nat_eq, if◌then◌else◌, is_some, codes, drop, slice_index_or}
+use Rattle.std.specs.Prelude.{ℕ, List, [], ◌∷◌, ◌++◌, length, Bool, not, ◌&&◌, Option, Some, None, option_and_then, nat_le, nat_eq, if◌then◌else◌, is_some, codes, drop}
 use Rattle.std.specs.Str.{bytes_eq}
 use Rattle.std.specs.List.{starts_with, list_all}
 use Rattle.scenario.specs.Words.{digits}
-use Rattle.rehearsal.specs.declared.accepting.Plan.{Plan}
 
 -- what accepted words ask for: a number of workers, the name of the scenario's file, and the names of the FILEs
 pub record Asked : Type 0 where
@@ -58,15 +57,3 @@ accepted_words (word ∷ words) = if is_workers word then asked_with_workers wor
 -- the words to open: the FILEs in order, and then SCENARIO
 unfoldable pub words_to_open : Asked → List (List ℕ)
 words_to_open asked = asked.files ++ asked.scenario ∷ []
-
--- what a plan asks for, with its words by their places
-abbrev pub asked_by : List (List ℕ) → Plan → Asked
-asked_by words plan = record { workers = plan.workers; scenario = slice_index_or words plan.scenario []; files = drop (plan.scenario + 1) words }
-
--- a plan carries out what the words ask for; the words behind its scenario are the FILEs
-pub record IsPlan (words : List (List ℕ)) (plan : Plan) : Type 0 where
-  pub place : plan.scenario < length words
-  pub few_files : length words ≤ plan.scenario + 101
-  pub some : 1 ≤ plan.workers
-  pub few : plan.workers ≤ 16
-  pub asked : accepted_words words ≡ Some (asked_by words plan)

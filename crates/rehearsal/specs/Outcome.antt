@@ -131,56 +131,65 @@ abbrev pub Outcome : Report → List (List ℕ) → Text → List ℕ → List �
 Outcome report files text old new = OutcomeOf report.status report files (reading text) old new
 
 -- How far reading went ahead: where the output failed, at most 4,096 bytes past the end of the `tick` line of the frame whose lines were cut,
--- and where a line is bad, at most 4,096 bytes past the end of that line.
+-- where a line is bad, at most 4,096 bytes past the end of that line, and where a read is refused or memory ran out, at most as many past the header's end.
 abbrev pub ReadsAheadBy : Status → Report → Text → Type 0
 ReadsAheadBy statuses.WriteFailed report text = length text.bytes ≤ slice_index (reading text).stops (report.frames + 1) + 4096
 ReadsAheadBy statuses.ScenarioRefused report text =
     (line : ℕ) (reason : Reason) → (reading text).ending ≡ Bad line reason → length text.bytes ≤ slice_index (reading text).stops (length (reading text).items) + 4096
 ReadsAheadBy statuses.Done report text = Unit {0}
 ReadsAheadBy statuses.WordsRefused report text = Unit {0}
-ReadsAheadBy statuses.FileRefused report text = Unit {0}
+ReadsAheadBy statuses.FileRefused report text = length text.bytes ≤ slice_index (reading text).stops 0 + 4096
 ReadsAheadBy statuses.ReadFailed report text = Unit {0}
-ReadsAheadBy statuses.NoMemory report text = Unit {0}
+ReadsAheadBy statuses.NoMemory report text = length text.bytes ≤ slice_index (reading text).stops 0 + 4096
 
 -- how far reading went ahead, by a report
 abbrev pub ReadsAhead : Report → Text → Type 0
 ReadsAhead report text = ReadsAheadBy report.status report text
 
--- A rehearsal ended before the scenario was asked for, at the last FILE that was; nothing was written.
-pub record EndsBefore (report : Report) (names : List (List ℕ)) (words : List (List ℕ)) (held_before held_now : Option (List ℕ)) (before after : Content) : Type 0 where
-  pub some : 0 < length names
+-- What was seen of the outside: whether a file is open, the shelf's count of faults before and now, and the bytes of the output before and now,
+-- where they are told.
+pub record Seen : Type 0 where
+  pub is_open : Bool
+  pub faults_before : ℕ
+  pub faults_now : ℕ
+  pub held_before : Option (List ℕ)
+  pub held_now : Option (List ℕ)
+
+-- nothing was written
+abbrev pub WritesNothing : Seen → Type 0
+WritesNothing seen = WhereTold seen.held_before seen.held_now (λ old new. new ≡ old)
+
+-- A rehearsal ended before the scenario was asked for, at the last FILE that was, or without memory before the first; nothing was written.
+pub record EndsBefore (report : Report) (asked_for : Asked) (seen : Seen) (before after : Content) : Type 0 where
   pub count : ℕ
-  pub asked : AsksFor words count before after
-  pub ends : EndsAtFile report before.files names count
-  pub unwritten : WhereTold held_before held_now (λ old new. new ≡ old)
+  pub asked : AsksFor (words_to_open asked_for) count before after
+  pub ends : EndsAtFile report before.files asked_for.files count seen.is_open after.rest
+  pub unwritten : WritesNothing seen
 
 -- All FILEs were taken, and an entry of one's table isn't in order; the scenario wasn't asked for, and nothing was written.
-pub record EndsAtTables (report : Report) (asked_for : Asked) (held_before held_now : Option (List ℕ)) (before after : Content) : Type 0 where
+pub record EndsAtTables (report : Report) (asked_for : Asked) (seen : Seen) (before after : Content) : Type 0 where
   pub some : 0 < length asked_for.files
   pub asked : AsksFor (words_to_open asked_for) (length asked_for.files) before after
+  pub read : after.rest ≡ []
   pub files : List (List ℕ)
   pub taken : AreTaken before.files asked_for.files files
   pub refuses : RefusesEntry report files
-  pub unwritten : WhereTold held_before held_now (λ old new. new ≡ old)
+  pub unwritten : WritesNothing seen
 
 -- All FILEs were taken, their tables loaded, and the scenario was asked for, of whose file this text was handed out.
-pub record ReadsScenario (report : Report) (asked_for : Asked) (is_open : Bool) (faults_before faults_now : ℕ) (held_before held_now : Option (List ℕ)) (before after : Content) : Type 0 where
+pub record ReadsScenario (report : Report) (asked_for : Asked) (seen : Seen) (before after : Content) : Type 0 where
   pub asked : AsksFor (words_to_open asked_for) (length asked_for.files + 1) before after
   pub files : List (List ℕ)
   pub taken : AreTaken before.files asked_for.files files
   pub loaded : tables_fault files ≡ None
   pub text : Text
-  pub is_text : IsText is_open faults_before faults_now (file_named before.files asked_for.scenario) after.rest text
+  pub is_text : IsText seen.is_open seen.faults_before seen.faults_now (file_named before.files asked_for.scenario) after.rest text
   pub ahead : ReadsAhead report text
-  pub outcome : WhereTold held_before held_now (Outcome report files text)
+  pub outcome : WhereTold seen.held_before seen.held_now (Outcome report files text)
 
--- what a rehearsal comes to, by what these words ask for, whether a file is open, the counts of faults before and now, the bytes of the output,
--- and what the shelf told
-abbrev pub Rehearses : Report → Asked → Bool → ℕ → ℕ → Option (List ℕ) → Option (List ℕ) → Content → Content → Type 0
-Rehearses report asked is_open faults_before faults_now held_before held_now before after =
-    EndsBefore report asked.files (words_to_open asked) held_before held_now before after
-    ⊎ EndsAtTables report asked held_before held_now before after
-    ⊎ ReadsScenario report asked is_open faults_before faults_now held_before held_now before after
+-- what a rehearsal comes to, by what its words ask for, what was seen of the outside, and what the shelf told before and after
+abbrev pub Rehearses : Report → Asked → Seen → Content → Content → Type 0
+Rehearses report asked seen before after = EndsBefore report asked seen before after ⊎ EndsAtTables report asked seen before after ⊎ ReadsScenario report asked seen before after
 
 -- the whole log of a text was written, or memory ran out before the first frame
 abbrev pub Completes : Report → List (List ℕ) → Text → List ℕ → List ℕ → Type 0

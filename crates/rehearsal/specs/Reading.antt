@@ -38,7 +38,7 @@ StopsAt text n = slice_index (reading text).stops n ≡ length text.bytes
 
 -- what the reader gave next, after these items
 abbrev pub Gives : Next → Reader → Fed → Text → List Given → Type 0
-Gives nexts.Header reader fed text gave = Holds reader fed text (gave ++ header_in reader ∷ [])
+Gives nexts.Header reader fed text gave = Holds reader fed text (gave ++ header_in reader ∷ []) × StopsAt text (length gave)
 Gives nexts.Frame reader fed text gave = Holds reader fed text (gave ++ frame_in reader ∷ []) × StopsAt text (length gave)
 Gives nexts.End reader fed text gave = Holds reader fed text gave × (gave ≡ (reading text).items) × (answers.End ≡ answer_at_end (reading text).ending)
 Gives (nexts.Bad line reason) reader fed text gave =

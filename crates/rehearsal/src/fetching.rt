@@ -34,7 +34,7 @@ fn append_piece<S: Shelf>(
     requires some { 0 < length piece.old }
     requires room { length bytes.old.items + length piece.old ≤ 65701 }
     ensures content { WhereTold (S.told shelf.old) (S.told shelf.new) (λ before after. IsSameOpening before after
-        × IfOk result (λ count. Appends count bytes.old.items bytes.new.items before after)) }
+        × MatchResult result (λ count. Appends count bytes.old.items bytes.new.items before after) (λ why. why ≡ Unread.Failed → after.rest ≡ before.rest)) }
     ensures grown { IfOk result (λ count. length bytes.new.items ≡ length bytes.old.items + count) }
     ensures few { IfOk result (λ count. length bytes.new.items ≤ 65701) }
     ensures well { OnOk result (S.faults shelf.new ≡ S.faults shelf.old) }
@@ -57,7 +57,7 @@ fn read_rest<S: Shelf>(shelf: &mut S, bytes: &mut Vec<u8>) -> Result<(), Unread>
     requires opened { IsTrue (S.is_open shelf.old) }
     requires empty { bytes.old.items ≡ [] }
     ensures content { WhereTold (S.told shelf.old) (S.told shelf.new) (λ before after. IsSameOpening before after
-        × MatchResult result (λ _. before.rest ≡ bytes.new.items) (λ why. IsUnread why before.rest)) }
+        × MatchResult result (λ _. (before.rest ≡ bytes.new.items) × (after.rest ≡ [])) (λ why. IsUnread why before.rest after.rest)) }
     ensures small { OnOk result (length bytes.new.items ≤ 65700) }
     ensures well { OnOk result (S.faults shelf.new ≡ S.faults shelf.old) }
     ensures cause { IfErr result (UnreadCause (S.told shelf.new) (S.faults shelf.old) (S.faults shelf.new)) }
@@ -82,7 +82,7 @@ fn read_rest<S: Shelf>(shelf: &mut S, bytes: &mut Vec<u8>) -> Result<(), Unread>
 /// Reads the file of this name whole, where it has at most 65,700 bytes.
 pub fn fetch<S: Shelf>(alloc: Global, shelf: &mut S, name: &str) -> Result<Vec<u8>, Unread>
     ensures content { WhereTold (S.told shelf.old) (S.told shelf.new) (λ before after. OpensOnce name.now before after
-        × MatchResult result (λ bytes. file_named before.files name.now ≡ Some bytes.items) (λ why. IsUnreadFile why (file_named before.files name.now))) }
+        × MatchResult result (λ bytes. (file_named before.files name.now ≡ Some bytes.items) × (after.rest ≡ [])) (λ why. IsUnreadFile why (S.is_open shelf.new) (file_named before.files name.now) after.rest)) }
     ensures small { IfOk result (λ bytes. length bytes.items ≤ 65700) }
     ensures well { OnOk result (S.faults shelf.new ≡ S.faults shelf.old) }
     ensures cause { IfErr result (UnreadCause (S.told shelf.new) (S.faults shelf.old) (S.faults shelf.new)) }

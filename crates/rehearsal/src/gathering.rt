@@ -1,6 +1,6 @@
 //! Reading the FILEs one after another, and taking them in.
 
-ghost use Rattle.std.specs.Prelude.{◌≡◌, ◌≢◌, ◌+◌, ◌<◌, ◌≤◌, [], length, drop, IsTrue, IfErr, OnOk, OnErr, MatchResult};
+ghost use Rattle.std.specs.Prelude.{◌≡◌, ◌≢◌, ◌+◌, ◌<◌, ◌≤◌, [], length, IsTrue, IfErr, OnOk, OnErr, MatchResult};
 ghost use Rattle.fsw_outside.specs.Told.{WhereTold};
 ghost use Rattle.fsw_outside.specs.Files.{file_named};
 ghost use Rattle.rehearsal.specs.Asking.{OpensOnce, AsksFor};
@@ -36,7 +36,7 @@ fn take_file<S: Shelf>(
 ) -> Result<(), Stop>
     requires room { length files.old < 100 }
     ensures content { WhereTold (S.told shelf.old) (S.told shelf.new) (λ before after. OpensOnce name.now before after
-        × Takes result (file_named before.files name.now) files.old files.new) }
+        × Takes result (S.is_open shelf.new) (file_named before.files name.now) after.rest files.old files.new) }
     ensures grown { OnOk result (length files.new ≡ length files.old + 1) }
     ensures same { OnErr result (files.new ≡ files.old) }
     ensures well { OnOk result (S.faults shelf.new ≡ S.faults shelf.old) }
@@ -72,33 +72,32 @@ fn report_of(why: Stop, file: u32) -> Report
     }
 }
 
-/// Reads the FILEs that the words from a place on name, one after another, and takes them in. Nothing is opened after one
-/// that isn't taken, and the report of that one is answered.
+/// Reads the FILEs of these names, one after another, and takes them in. Nothing is opened after one that isn't taken, and
+/// the report of that one is answered.
 pub fn gather<S: Shelf>(
     alloc: Global,
     shelf: &mut S,
-    words: &Words,
-    from: usize,
+    names: &Words,
     files: &mut Files,
 ) -> Result<(), Report>
-    requires place { from ≤ length words.now }
-    requires few { length words.now ≤ from + 100 }
+    requires few { length names.now ≤ 100 }
     requires empty { files.old ≡ [] }
     ensures content { WhereTold (S.told shelf.old) (S.told shelf.new) (λ before after.
-        MatchResult result (λ _. AsksFor (drop from words.now) (length (drop from words.now)) before after × AreTaken before.files (drop from words.now) files.new)
-        (λ report. AsksFor (drop from words.now) (length files.new + 1) before after × EndsAtFile report before.files (drop from words.now) (length files.new + 1))) }
+        MatchResult result (λ _. AsksFor names.now (length names.now) before after × AreTaken before.files names.now files.new × (0 < length names.now → after.rest ≡ []))
+        (λ report. AsksFor names.now (length files.new + 1) before after × EndsAtFile report before.files names.now (length files.new + 1) (S.is_open shelf.new) after.rest)) }
+    ensures all { OnOk result (length files.new ≡ length names.now) }
     ensures well { OnOk result (S.faults shelf.new ≡ S.faults shelf.old) }
     ensures cause { IfErr result (EndCause (S.told shelf.new) (S.faults shelf.old) (S.faults shelf.new)) }
     ensures is_open { IfErr result (λ report. report.status ≢ Status.ReadFailed → IsTrue (S.is_open shelf.new)) }
-    ensures opened { OnOk result (from < length words.now → IsTrue (S.is_open shelf.new)) }
-    ensures mark { from < length words.now → S.mark shelf.new ≡ S.faults shelf.old }
-    ensures stops { IfErr result (λ report. (from < length words.now) × (report.status ≢ Status.WordsRefused) × (report.status ≢ Status.WriteFailed)) }
+    ensures opened { OnOk result (0 < length names.now → IsTrue (S.is_open shelf.new)) }
+    ensures mark { 0 < length names.now → S.mark shelf.new ≡ S.faults shelf.old }
+    ensures unasked { OnOk result (length names.now ≡ 0 → shelf.new ≡ shelf.old) }
+    ensures stops { IfErr result (λ report. (0 < length names.now) × (report.frames ≡ 0) × (report.status ≢ Status.WordsRefused) × (report.status ≢ Status.WriteFailed)) }
 {
-    'files: for place in from..words.len() {
-        let number = (place - from) as u32 + 1;
-        match take_file(alloc, shelf, words.word(place), files) {
+    'files: for place in 0..names.len() {
+        match take_file(alloc, shelf, names.word(place), files) {
             Ok(()) => {}
-            Err(why) => return Err(report_of(why, number)),
+            Err(why) => return Err(report_of(why, place as u32 + 1)),
         }
     }
     Ok(())

@@ -1,21 +1,21 @@
 //! A whole rehearsal, from the words to the report.
 
-ghost use Rattle.std.specs.Prelude.{◌≡◌, ◌≢◌, ℕ, ◌+◌, ◌<◌, ◌↔◌, ◌⊎◌, List, length, true, Some, None, IsTrue};
+ghost use Rattle.std.specs.Prelude.{◌≡◌, ◌≢◌, ℕ, ◌⊎◌, List, true, Some, None, IsTrue};
 ghost use Rattle.fsw_outside.specs.Told.{WhereTold};
 ghost use Rattle.fsw_outside.specs.Files.{file_named};
 ghost use Rattle.fsw_outside.specs.Causes.{HasRisen};
 ghost use Rattle.scenario.specs.Texts.{Ended, reading};
-ghost use Rattle.frame_exec.specs.Tables.{AreLoaded, tables_fault};
-ghost use Rattle.rehearsal.specs.AcceptedWords.{Asked, accepted_words, asked_by, words_to_open, IsPlan};
+ghost use Rattle.frame_exec.specs.Tables.{tables_fault};
+ghost use Rattle.rehearsal.specs.AcceptedWords.{Asked, accepted_words, words_to_open};
 ghost use Rattle.rehearsal.specs.Asking.{AsksFor};
 ghost use Rattle.rehearsal.specs.FileWords.{AreTaken};
-ghost use Rattle.rehearsal.specs.Outcome.{GivesReads, Rehearses, Completes};
+ghost use Rattle.rehearsal.specs.Outcome.{GivesReads, Seen, Rehearses, Completes};
 ghost use Rattle.rehearsal.specs.ErrorLine.{error_line, Tells};
 
 use crate::accepting::{Plan, accept};
 use crate::gathering::gather;
 use crate::report::{Report, Status};
-use crate::scenario_run::{run_alone, run_scenario};
+use crate::scenario_run::run_scenario;
 use crate::telling::tell;
 use crate::words::Words;
 use frame_exec::Tables;
@@ -24,34 +24,37 @@ use std::alloc::Global;
 use std::thread::Threads;
 use table_files::Files;
 
-// Takes the FILEs in, the first of which is the word at a place, and runs the scenario.
-fn run_with_files<R: Threads + Sync, S: Shelf, O: Sink, G: Gate>(
+/// Takes the FILEs in, and runs the scenario.
+fn carry_out<R: Threads + Sync, S: Shelf, O: Sink, G: Gate>(
     rt: &R,
     alloc: Global,
-    words: &Words,
-    plan: Plan,
-    first: usize,
+    plan: &Plan,
     shelf: &mut S,
     out: &mut O,
     gate: &G,
 ) -> Report
-    requires plan { IsPlan words.now plan }
-    requires first { (first ≡ plan.scenario + 1) × (first < length words.now) }
     ensures accepted { result.status ≢ Status.WordsRefused }
-    ensures outcome { WhereTold (S.told shelf.old) (S.told shelf.new) (Rehearses result (asked_by words.now plan) (S.is_open shelf.new) (S.faults shelf.old) (S.faults shelf.new) (O.held out.old) (O.held out.new)) }
-    ensures opening { WhereTold (S.told shelf.old) (S.told shelf.new) (λ before after. (count : ℕ) × AsksFor (words_to_open (asked_by words.now plan)) count before after) }
+    ensures outcome { WhereTold (S.told shelf.old) (S.told shelf.new) (Rehearses result plan.now (record {
+      is_open = S.is_open shelf.new;
+      faults_before = S.faults shelf.old;
+      faults_now = S.faults shelf.new;
+      held_before = O.held out.old;
+      held_now = O.held out.new;
+    })) }
+    ensures opening { WhereTold (S.told shelf.old) (S.told shelf.new) (λ before after. (count : ℕ) × AsksFor (words_to_open plan.now) count before after) }
     ensures mark { (S.mark shelf.new ≡ S.faults shelf.old) ⊎ ((shelf.new ≡ shelf.old) × (result.status ≡ Status.NoMemory)) }
     ensures opened { result.status ≢ Status.ReadFailed → IsTrue (S.is_open shelf.new) ⊎ ((shelf.new ≡ shelf.old) × (result.status ≡ Status.NoMemory)) }
+    ensures file_refused { result.status ≡ Status.FileRefused → out.new ≡ out.old }
+    ensures no_memory { result.status ≡ Status.NoMemory → (out.new ≡ out.old) × (result.frames ≡ 0) }
     ensures read_failed { result.status ≡ Status.ReadFailed → HasRisen (S.told shelf.new) (S.faults shelf.old) (S.faults shelf.new) }
     ensures read_well { result.status ≢ Status.ReadFailed → S.faults shelf.new ≡ S.faults shelf.old }
-    ensures file_refused { result.status ≡ Status.FileRefused → out.new ≡ out.old }
     ensures write_failed { result.status ≡ Status.WriteFailed → HasRisen (O.held out.new) (O.faults out.old) (O.faults out.new) }
     ensures wrote_well { result.status ≢ Status.WriteFailed → O.faults out.new ≡ O.faults out.old }
 {
     let Ok(mut files) = Files::open(alloc) else {
         return Report::at(Status::NoMemory, 0);
     };
-    match gather(alloc, shelf, words, first, &mut files) {
+    match gather(alloc, shelf, plan.files(), &mut files) {
         Ok(()) => {}
         Err(report) => return report,
     }
@@ -64,17 +67,17 @@ fn run_with_files<R: Threads + Sync, S: Shelf, O: Sink, G: Gate>(
     run_scenario(
         rt,
         alloc,
-        plan.workers,
+        plan.workers(),
         tables,
         &files,
-        words.word(plan.scenario),
+        plan.scenario(),
         shelf,
         out,
         gate,
     )
 }
 
-// Reads the words, and runs the scenario that they name with the files that they name.
+/// Reads the words, and runs the scenario that they name with the files that they name.
 fn rehearse<R: Threads + Sync, S: Shelf, O: Sink, G: Gate>(
     rt: &R,
     alloc: Global,
@@ -83,40 +86,37 @@ fn rehearse<R: Threads + Sync, S: Shelf, O: Sink, G: Gate>(
     out: &mut O,
     gate: &G,
 ) -> Report
-    ensures words { (result.status ≡ Status.WordsRefused) ↔ (accepted_words words.now ≡ None) }
-    ensures refused { accepted_words words.now ≡ None → result ≡ record { status = Status.WordsRefused; file = 0; line = 0; reason = 0; frames = 0 } }
+    ensures words { result.status ≡ Status.WordsRefused → accepted_words words.now ≡ None }
+    ensures refused { accepted_words words.now ≡ None → (result ≡ record { status = Status.WordsRefused; file = 0; line = 0; reason = 0; frames = 0 })
+        ⊎ (result ≡ record { status = Status.NoMemory; file = 0; line = 0; reason = 0; frames = 0 }) }
     ensures unread { accepted_words words.now ≡ None → shelf.new ≡ shelf.old }
     ensures unwritten { accepted_words words.now ≡ None → out.new ≡ out.old }
     ensures outcome { (asked : Asked) → accepted_words words.now ≡ Some asked → WhereTold (S.told shelf.old) (S.told shelf.new)
-        (Rehearses result asked (S.is_open shelf.new) (S.faults shelf.old) (S.faults shelf.new) (O.held out.old) (O.held out.new)) }
+        (Rehearses result asked (record {
+          is_open = S.is_open shelf.new;
+          faults_before = S.faults shelf.old;
+          faults_now = S.faults shelf.new;
+          held_before = O.held out.old;
+          held_now = O.held out.new;
+        })) }
     ensures opening { (asked : Asked) → accepted_words words.now ≡ Some asked → WhereTold (S.told shelf.old) (S.told shelf.new) (λ before after.
         (count : ℕ) × AsksFor (words_to_open asked) count before after) }
     ensures mark { (asked : Asked) → accepted_words words.now ≡ Some asked
-        → (S.mark shelf.new ≡ S.faults shelf.old) ⊎ ((shelf.new ≡ shelf.old) × (result.status ≡ Status.NoMemory) × (0 < length asked.files)) }
+        → (S.mark shelf.new ≡ S.faults shelf.old) ⊎ ((shelf.new ≡ shelf.old) × (result.status ≡ Status.NoMemory)) }
     ensures opened { (asked : Asked) → accepted_words words.now ≡ Some asked → result.status ≢ Status.ReadFailed
-        → IsTrue (S.is_open shelf.new) ⊎ ((shelf.new ≡ shelf.old) × (result.status ≡ Status.NoMemory) × (0 < length asked.files)) }
+        → IsTrue (S.is_open shelf.new) ⊎ ((shelf.new ≡ shelf.old) × (result.status ≡ Status.NoMemory)) }
+    ensures file_refused { result.status ≡ Status.FileRefused → out.new ≡ out.old }
+    ensures no_memory { result.status ≡ Status.NoMemory → (out.new ≡ out.old) × (result.frames ≡ 0) }
     ensures read_failed { result.status ≡ Status.ReadFailed → HasRisen (S.told shelf.new) (S.faults shelf.old) (S.faults shelf.new) }
     ensures read_well { result.status ≢ Status.ReadFailed → S.faults shelf.new ≡ S.faults shelf.old }
-    ensures file_refused { result.status ≡ Status.FileRefused → out.new ≡ out.old }
     ensures write_failed { result.status ≡ Status.WriteFailed → HasRisen (O.held out.new) (O.faults out.old) (O.faults out.new) }
     ensures wrote_well { result.status ≢ Status.WriteFailed → O.faults out.new ≡ O.faults out.old }
 {
-    let Some(plan) = accept(words) else {
-        return Report::at(Status::WordsRefused, 0);
-    };
-    let count = words.len();
-    if plan.scenario + 1 < count {
-        return run_with_files(rt, alloc, words, plan, plan.scenario + 1, shelf, out, gate);
+    match accept(alloc, words) {
+        Ok(Some(plan)) => carry_out(rt, alloc, &plan, shelf, out, gate),
+        Ok(None) => Report::at(Status::WordsRefused, 0),
+        Err(_) => Report::at(Status::NoMemory, 0),
     }
-    run_alone(
-        rt,
-        alloc,
-        plan.workers,
-        words.word(plan.scenario),
-        shelf,
-        out,
-        gate,
-    )
 }
 
 /// Runs the rehearsal that the words ask for, and tells its report on `err`. The words are those after the program's
@@ -130,27 +130,35 @@ pub fn vigil<R: Threads + Sync, S: Shelf, O: Sink, E: Sink, G: Gate>(
     err: &mut E,
     gate: &G,
 ) -> Report
-    // The words are refused exactly where the definition refuses them, and then nothing is read and nothing is written.
-    ensures words { (result.status ≡ Status.WordsRefused) ↔ (accepted_words words.now ≡ None) }
-    ensures refused { accepted_words words.now ≡ None → result ≡ record { status = Status.WordsRefused; file = 0; line = 0; reason = 0; frames = 0 } }
+    // The words are refused only where the definition refuses them, and then nothing is read and nothing is written. Memory may run out first.
+    ensures words { result.status ≡ Status.WordsRefused → accepted_words words.now ≡ None }
+    ensures refused { accepted_words words.now ≡ None → (result ≡ record { status = Status.WordsRefused; file = 0; line = 0; reason = 0; frames = 0 })
+        ⊎ (result ≡ record { status = Status.NoMemory; file = 0; line = 0; reason = 0; frames = 0 }) }
     ensures unread { accepted_words words.now ≡ None → shelf.new ≡ shelf.old }
     ensures unwritten { accepted_words words.now ≡ None → out.new ≡ out.old }
 
     // What the report says of the FILEs, of the text that was handed out, and of the bytes of `out`, where both objects tell.
     ensures outcome { (asked : Asked) → accepted_words words.now ≡ Some asked → WhereTold (S.told shelf.old) (S.told shelf.new)
-        (Rehearses result asked (S.is_open shelf.new) (S.faults shelf.old) (S.faults shelf.new) (O.held out.old) (O.held out.new)) }
+        (Rehearses result asked (record {
+          is_open = S.is_open shelf.new;
+          faults_before = S.faults shelf.old;
+          faults_now = S.faults shelf.new;
+          held_before = O.held out.old;
+          held_now = O.held out.new;
+        })) }
 
     // The FILEs in order and then the scenario's file are asked for, as far as it came, and nothing else; nothing is asked for after a
-    // fault, so that the count as the last opening began is the one at the start. Where memory ran out before the first FILE nothing was.
+    // fault, so that the count as the last opening began is the one at the start. Where memory ran out before the first opening nothing was.
     ensures opening { (asked : Asked) → accepted_words words.now ≡ Some asked → WhereTold (S.told shelf.old) (S.told shelf.new) (λ before after.
         (count : ℕ) × AsksFor (words_to_open asked) count before after) }
     ensures mark { (asked : Asked) → accepted_words words.now ≡ Some asked
-        → (S.mark shelf.new ≡ S.faults shelf.old) ⊎ ((shelf.new ≡ shelf.old) × (result.status ≡ Status.NoMemory) × (0 < length asked.files)) }
+        → (S.mark shelf.new ≡ S.faults shelf.old) ⊎ ((shelf.new ≡ shelf.old) × (result.status ≡ Status.NoMemory)) }
     ensures opened { (asked : Asked) → accepted_words words.now ≡ Some asked → result.status ≢ Status.ReadFailed
-        → IsTrue (S.is_open shelf.new) ⊎ ((shelf.new ≡ shelf.old) × (result.status ≡ Status.NoMemory) × (0 < length asked.files)) }
+        → IsTrue (S.is_open shelf.new) ⊎ ((shelf.new ≡ shelf.old) × (result.status ≡ Status.NoMemory)) }
 
-    // Nothing is written where a FILE is refused.
+    // Nothing is written where a FILE is refused or memory ran out.
     ensures file_refused { result.status ≡ Status.FileRefused → out.new ≡ out.old }
+    ensures no_memory { result.status ≡ Status.NoMemory → (out.new ≡ out.old) × (result.frames ≡ 0) }
 
     // No fault is invented, and none is kept back.
     ensures read_failed { result.status ≡ Status.ReadFailed → HasRisen (S.told shelf.new) (S.faults shelf.old) (S.faults shelf.new) }

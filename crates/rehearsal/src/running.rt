@@ -39,7 +39,7 @@ pub fn run_frames<R: Threads + Sync, S: Shelf, O: Sink, G: Gate>(
     ensures read_well { result.status ≢ Status.ReadFailed → S.faults shelf.new ≡ S.faults shelf.old }
     ensures write_failed { result.status ≡ Status.WriteFailed → HasRisen (O.held out.new) (O.faults out.old) (O.faults out.new) }
     ensures wrote_well { result.status ≢ Status.WriteFailed → O.faults out.new ≡ O.faults out.old }
-    ensures accepted { (result.status ≢ Status.WordsRefused) × (result.status ≢ Status.FileRefused) }
+    ensures accepted { (result.status ≢ Status.WordsRefused) × (result.status ≢ Status.FileRefused) × (result.status ≢ Status.NoMemory) }
 {
     let mut frames = 0;
     'frames: loop {

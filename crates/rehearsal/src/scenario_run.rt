@@ -1,11 +1,11 @@
 //! The run of one scenario, from its name to its report.
 
-ghost use Rattle.std.specs.Prelude.{◌≡◌, ◌≢◌, ◌≤◌, [], IsTrue};
+ghost use Rattle.std.specs.Prelude.{◌≡◌, ◌≢◌, ◌≤◌, IsTrue};
 ghost use Rattle.fsw_outside.specs.Told.{WhereTold};
 ghost use Rattle.fsw_outside.specs.Files.{file_named};
 ghost use Rattle.fsw_outside.specs.Causes.{HasRisen};
 ghost use Rattle.scenario.specs.Texts.{Text};
-ghost use Rattle.frame_exec.specs.Tables.{AreLoaded, tables_fault};
+ghost use Rattle.frame_exec.specs.Tables.{AreLoaded};
 ghost use Rattle.rehearsal.specs.Asking.{OpensOnce};
 ghost use Rattle.rehearsal.specs.Outcome.{fault_report, IsText, IsTextOf, ReadsAhead, Outcome};
 
@@ -54,6 +54,7 @@ fn run_open<R: Threads + Sync, S: Shelf, O: Sink, G: Gate>(
     ensures wrote_well { result.status ≢ Status.WriteFailed → O.faults out.new ≡ O.faults out.old }
     ensures accepted { result.status ≢ Status.WordsRefused }
     ensures file_refused { result.status ≡ Status.FileRefused → out.new ≡ out.old }
+    ensures no_memory { result.status ≡ Status.NoMemory → (out.new ≡ out.old) × (result.frames ≡ 0) }
 {
     let Ok(mut reader) = Reader::open(alloc) else {
         return Report::at(Status::NoMemory, 0);
@@ -98,46 +99,11 @@ pub fn run_scenario<R: Threads + Sync, S: Shelf, O: Sink, G: Gate>(
     ensures wrote_well { result.status ≢ Status.WriteFailed → O.faults out.new ≡ O.faults out.old }
     ensures accepted { result.status ≢ Status.WordsRefused }
     ensures file_refused { result.status ≡ Status.FileRefused → out.new ≡ out.old }
+    ensures no_memory { result.status ≡ Status.NoMemory → (out.new ≡ out.old) × (result.frames ≡ 0) }
     ensures opened { result.status ≢ Status.ReadFailed → IsTrue (S.is_open shelf.new) }
 {
     let Ok(()) = shelf.open(name) else {
         return Report::at(Status::ReadFailed, 0);
     };
     run_open(rt, alloc, workers, tables, files, shelf, out, gate)
-}
-
-/// Opens the scenario of this name, and runs it without files.
-pub fn run_alone<R: Threads + Sync, S: Shelf, O: Sink, G: Gate>(
-    rt: &R,
-    alloc: Global,
-    workers: u32,
-    name: &str,
-    shelf: &mut S,
-    out: &mut O,
-    gate: &G,
-) -> Report
-    requires { (1 ≤ workers) × (workers ≤ 16) }
-    ensures outcome { WhereTold (S.told shelf.old) (S.told shelf.new) (λ before after.
-        (text : Text) × IsText (S.is_open shelf.new) (S.faults shelf.old) (S.faults shelf.new) (file_named before.files name.now) after.rest text × ReadsAhead result text
-        × WhereTold (O.held out.old) (O.held out.new) (Outcome result [] text)) }
-    ensures opening { WhereTold (S.told shelf.old) (S.told shelf.new) (OpensOnce name.now) }
-    ensures mark { S.mark shelf.new ≡ S.faults shelf.old }
-    ensures read_failed { result.status ≡ Status.ReadFailed → HasRisen (S.told shelf.new) (S.faults shelf.old) (S.faults shelf.new) }
-    ensures read_well { result.status ≢ Status.ReadFailed → S.faults shelf.new ≡ S.faults shelf.old }
-    ensures write_failed { result.status ≡ Status.WriteFailed → HasRisen (O.held out.new) (O.faults out.old) (O.faults out.new) }
-    ensures wrote_well { result.status ≢ Status.WriteFailed → O.faults out.new ≡ O.faults out.old }
-    ensures accepted { result.status ≢ Status.WordsRefused }
-    ensures file_refused { result.status ≡ Status.FileRefused → out.new ≡ out.old }
-    ensures opened { result.status ≢ Status.ReadFailed → IsTrue (S.is_open shelf.new) }
-{
-    let Ok(()) = shelf.open(name) else {
-        return Report::at(Status::ReadFailed, 0);
-    };
-    let Ok(files) = Files::open(alloc) else {
-        return Report::at(Status::NoMemory, 0);
-    };
-    let Ok(tables) = Tables::load(&files) else {
-        unreachable!();
-    };
-    run_open(rt, alloc, workers, tables, &files, shelf, out, gate)
 }

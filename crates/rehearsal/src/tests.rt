@@ -1,3 +1,5 @@
+//! Words, lines and a first rehearsal.
+
 use crate::{Plan, Report, Status, Words, accept, line_of, vigil};
 use fsw_outside::{MemShelf, MemSink, OpenGate};
 use std::alloc::Global;
@@ -12,40 +14,53 @@ fn words_of(alloc: Global, text: &str) -> Result<Words, Fail> {
     Ok(words)
 }
 
-/// Words, how many workers they ask for, and the place of the scenario's name; no workers where they are refused.
-const WORDS: [(&str, u32, usize); 20] = [
-    ("v1.txt", 1, 0),
-    ("", 1, 0),
-    ("drill:", 1, 0),
-    ("drill:+7", 1, 0),
-    ("--workers/1/v1.txt", 1, 2),
-    ("--workers/01/v1.txt", 1, 2),
-    ("--workers/16/drill:1234567", 16, 2),
-    ("--workers/0/v1.txt", 0, 0),
-    ("--workers/17/v1.txt", 0, 0),
-    ("--workers/+1/v1.txt", 0, 0),
-    ("--workers/1/--workers", 0, 0),
-    ("drill:7", 0, 0),
-    ("-", 0, 0),
-    ("v1.txt/a", 1, 0),
-    ("v1.txt/a/drill:7/", 1, 0),
-    ("--workers/3/v1.txt/a/b", 3, 2),
-    ("v1.txt/a/-b", 0, 0),
-    ("v1.txt/--workers/3", 0, 0),
-    ("--workers/3", 0, 0),
-    ("--workers", 0, 0),
+/// Words, how many workers they ask for, the scenario's name, and the names of the FILEs, each behind a `/`; no workers where
+/// they are refused.
+const WORDS: [(&str, u32, &str, &str); 20] = [
+    ("v1.txt", 1, "v1.txt", ""),
+    ("", 1, "", ""),
+    ("drill:", 1, "drill:", ""),
+    ("drill:+7", 1, "drill:+7", ""),
+    ("--workers/1/v1.txt", 1, "v1.txt", ""),
+    ("--workers/01/v1.txt", 1, "v1.txt", ""),
+    ("--workers/16/drill:1234567", 16, "drill:1234567", ""),
+    ("--workers/0/v1.txt", 0, "", ""),
+    ("--workers/17/v1.txt", 0, "", ""),
+    ("--workers/+1/v1.txt", 0, "", ""),
+    ("--workers/1/--workers", 0, "", ""),
+    ("drill:7", 0, "", ""),
+    ("-", 0, "", ""),
+    ("v1.txt/a", 1, "v1.txt", "/a"),
+    ("v1.txt/a/drill:7/", 1, "v1.txt", "/a/drill:7/"),
+    ("--workers/3/v1.txt/a/b", 3, "v1.txt", "/a/b"),
+    ("v1.txt/a/-b", 0, "", ""),
+    ("v1.txt/--workers/3", 0, "", ""),
+    ("--workers/3", 0, "", ""),
+    ("--workers", 0, "", ""),
 ];
+
+/// The names of a plan's FILEs, each behind a `/`.
+fn names_of(alloc: Global, plan: &Plan) -> Result<String, Fail> {
+    let mut text = String::new(alloc);
+    let names = plan.files();
+    for place in 0..names.len() {
+        text.push_str("/")?;
+        text.push_str(names.word(place))?;
+    }
+    Ok(text)
+}
 
 #[test]
 fn words_are_accepted_or_refused(rt: HostRuntime) -> Result<(), Fail> {
-    assert_eq!(rt; accept(&Words::open(rt.alloc())?), None);
-    for (text, workers, scenario) in WORDS {
-        let wanted = if workers == 0 {
-            None
-        } else {
-            Some(Plan { workers, scenario })
-        };
-        assert_eq!(rt; accept(&words_of(rt.alloc(), text)?), wanted, "at {text}");
+    assert!(rt; accept(rt.alloc(), &Words::open(rt.alloc())?)?.is_none());
+    for (text, workers, scenario, files) in WORDS {
+        let accepted = accept(rt.alloc(), &words_of(rt.alloc(), text)?)?;
+        assert_eq!(rt; accepted.is_some(), workers > 0, "at {text}");
+        if let Some(plan) = accepted {
+            assert_eq!(rt; plan.workers(), workers, "at {text}");
+            assert_eq!(rt; plan.scenario(), scenario, "at {text}");
+            assert_eq!(rt; names_of(rt.alloc(), &plan)?.as_str(), files, "at {text}");
+        }
     }
     Ok(())
 }
@@ -56,10 +71,10 @@ fn at_most_a_hundred_files_are_named(rt: HostRuntime) -> Result<(), Fail> {
     for _ in 0..100 {
         words.add("a")?;
     }
-    let (workers, scenario) = (1, 0);
-    assert_eq!(rt; accept(&words), Some(Plan { workers, scenario }));
+    let accepted = accept(rt.alloc(), &words)?;
+    assert!(rt; accepted.is_some_and(|plan| plan.files().len() == 100));
     words.add("a")?;
-    assert_eq!(rt; accept(&words), None);
+    assert!(rt; accept(rt.alloc(), &words)?.is_none());
     Ok(())
 }
 

@@ -73,7 +73,7 @@ fetch-requires-clause-open_text g c =
 pub returns-in-Header-clause-reads : goal.returns-in-Header-clause-reads
 returns-in-Header-clause-reads g c = λ text gave h.
     let i = c.reads.invariant.reads text gave h in
-    (i.0, held c.reads.reader c.next.new.self c.reads.feed i.0 gave _ i.1 (c.in-Header.ensures.header refl i.0 gave i.1.stands), i.2)
+    (i.0, (held c.reads.reader c.next.new.self c.reads.feed i.0 gave _ i.1 (c.in-Header.ensures.header refl i.0 gave i.1.stands), c.in-Header.ensures.stop tt i.0 gave i.1.stands), i.2)
 
 pub returns-in-Frame-clause-reads : goal.returns-in-Frame-clause-reads
 returns-in-Frame-clause-reads g c = λ text gave h.

@@ -12,6 +12,6 @@ returns-clause-complete g c = λ asked files bytes is loaded ended given well wr
       o.0,
       o.1,
       λ taken file.
-          rehearses_complete c.rehearse-report.result asked (g.S.Shelf.is_open c.rehearse-report.new.shelf) _ _ _ _ o.0 after files bytes o.2 taken file loaded ended given read opened
+          rehearses_complete c.rehearse-report.result asked _ o.0 after files bytes o.2 taken file loaded ended given read opened
           (λ new told failed. not_risen _ new _ _ told wrote (c.rehearse-report.ensures.write_failed failed)),
     )

@@ -93,14 +93,14 @@ frames-smaller-in-Header g c =
     let s = c.requires.holds in
     let i = c.frames.invariant.ran s.0 s.1 s.2 s.3 s.4 s.5 s.6 in
     let a = c.in-Header.ensures.reads i.0 i.1 i.2 in
-    absurd (no_later_head c.read_on.new.reader a.0 i.1 _ _ a.1.stands i.4)
+    absurd (no_later_head c.read_on.new.reader a.0 i.1 _ _ a.1.0.stands i.4)
 
 pub frames-preserved-in-Header : goal.frames-preserved-in-Header
 frames-preserved-in-Header g c =
     let s = c.requires.holds in
     let i = c.frames.invariant.ran s.0 s.1 s.2 s.3 s.4 s.5 s.6 in
     let a = c.in-Header.ensures.reads i.0 i.1 i.2 in
-    absurd (no_later_head c.read_on.new.reader a.0 i.1 _ _ a.1.stands i.4)
+    absurd (no_later_head c.read_on.new.reader a.0 i.1 _ _ a.1.0.stands i.4)
 
 pub frame-requires-in-Frame-clause-started : goal.frame-requires-in-Frame-clause-started
 frame-requires-in-Frame-clause-started g c =

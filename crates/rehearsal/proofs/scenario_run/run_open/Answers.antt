@@ -9,7 +9,7 @@ use Rattle.rehearsal.proofs.TextFacts.{no_first_frame}
 use Rattle.rehearsal.proofs.Endings.{not_open_at_end, not_open_at_bad}
 use Rattle.rehearsal.proofs.Outcomes.{whole_of, is_closed, text_of, closed_same, open_after, tells_some, reading_same, reading_whole, items_whole, refused_none, read_failed, done, refused_at}
 use Rattle.rehearsal.proofs.Beginnings.{unread, begins, read_none, no_frames, no_log, header_setup, header_alone, header_refuses, header_refuses_whole, not_opened, not_opened_ahead, out_of_memory, opened}
-use Rattle.rehearsal.proofs.Ahead.{ahead_by, bad_ahead}
+use Rattle.rehearsal.proofs.Ahead.{ahead_by, bad_ahead, header_ahead, nothing_ahead}
 use Rattle.rehearsal.proofs.scenario_run.run_open.Goals as goal
 
 pub returns-in_default-clause-outcome : goal.returns-in_default-clause-outcome
@@ -17,7 +17,7 @@ returns-in_default-clause-outcome g c = told_nothing _ _ (λ start.
     let end : Bool = is_closed start.rest (g.S.Shelf.faults c.args.shelf.now) (g.S.Shelf.faults c.args.shelf.now) in (
       whole_of unread [] end,
       text_of unread [] start start (g.S.Shelf.faults c.args.shelf.now) (g.S.Shelf.faults c.args.shelf.now) (read_none (record { pending = []; total = 0; ended = false }) start refl),
-      ahead_by c.at.result _ (whole_of unread [] end) c.at.ensures tt,
+      nothing_ahead c.at.result end c.at.ensures,
       told_nothing _ _ (λ held. out_of_memory c.args.files.now c.at.result (whole_of unread [] end) held c.at.ensures),
     ))
 
@@ -31,12 +31,12 @@ run_frames-requires-clause-holds g c = λ _ _.
     let a = c.in-Header.ensures.reads unread [] (begins c.in-Ok.reader c.new-feed.result c.in-Ok.ensures.stands c.new-feed.ensures) in
     let item : Given = header_in c.read_on.new.reader in
     let some : 0 < length (item ∷ []) = omega arith in
-    let head = c.header.ensures a.0 (item ∷ []) a.1.stands some in
+    let head = c.header.ensures a.0 (item ∷ []) a.1.0.stands some in
     let setup = header_setup c.args.files.now item c.header.result.now.epoch c.header.result.now.map head.0 head.1 in
     let none = header_alone item c.header.result.now.epoch c.header.result.now.map head.0 head.1 in
     let stands = opened c.args.files.now c.in-Ok-open.bench item _ c.in-Ok-open.ensures.stands (setup ∙ ap (λ (t : TableSet). record { epoch = c.header.result.now.epoch; regions = c.header.result.now.map; tables = t }) (sym c.requires.loaded.named)) none in
     let given = header_refuses c.args.files.now item c.header.result.now.epoch c.header.result.now.map head.0 head.1 ∙ c.in-Ok-open.ensures.refused in
-    (c.args.files.now, a.0, item ∷ [], a.1, record { stands = stands; given = given }, none, some)
+    (c.args.files.now, a.0, item ∷ [], a.1.0, record { stands = stands; given = given }, none, some)
 
 pub returns-in-Failed-clause-outcome : goal.returns-in-Failed-clause-outcome
 returns-in-Failed-clause-outcome g c = λ after tells.
@@ -89,12 +89,12 @@ returns-clause-outcome g c =
     let a = c.in-Header.ensures.reads unread [] (begins c.in-Ok.reader c.new-feed.result c.in-Ok.ensures.stands c.new-feed.ensures) in
     let item : Given = header_in c.read_on.new.reader in
     let some : 0 < length (item ∷ []) = omega arith in
-    let head = c.header.ensures a.0 (item ∷ []) a.1.stands some in
+    let head = c.header.ensures a.0 (item ∷ []) a.1.0.stands some in
     let setup = header_setup c.args.files.now item c.header.result.now.epoch c.header.result.now.map head.0 head.1 in
     let none = header_alone item c.header.result.now.epoch c.header.result.now.map head.0 head.1 in
     let stands = opened c.args.files.now c.in-Ok-open.bench item _ c.in-Ok-open.ensures.stands (setup ∙ ap (λ (t : TableSet). record { epoch = c.header.result.now.epoch; regions = c.header.result.now.map; tables = t }) (sym c.requires.loaded.named)) none in
     let given = header_refuses c.args.files.now item c.header.result.now.epoch c.header.result.now.map head.0 head.1 ∙ c.in-Ok-open.ensures.refused in
-    let ran = c.run_frames.ensures.outcome c.args.files.now a.0 (item ∷ []) a.1 (record { stands = stands; given = given }) none some in
+    let ran = c.run_frames.ensures.outcome c.args.files.now a.0 (item ∷ []) a.1.0 (record { stands = stands; given = given }) none some in
     let well = c.in-Header.ensures.well (λ other. cc) in
     told_then a.2 ran (λ start middle after first second.
     let o = second start (first start (read_none c.new-feed.result start c.new-feed.ensures)) in
@@ -105,17 +105,17 @@ returns-in-Err-clause-outcome g c =
     let a = c.in-Header.ensures.reads unread [] (begins c.in-Ok.reader c.new-feed.result c.in-Ok.ensures.stands c.new-feed.ensures) in
     let item : Given = header_in c.read_on.new.reader in
     let some : 0 < length (item ∷ []) = omega arith in
-    let head = c.header.ensures a.0 (item ∷ []) a.1.stands some in
+    let head = c.header.ensures a.0 (item ∷ []) a.1.0.stands some in
     let refused = header_refuses c.args.files.now item c.header.result.now.epoch c.header.result.now.map head.0 head.1 in
-    let first_of_now = given_first c.read_on.new.reader a.0 (item ∷ []) a.1.stands in
+    let first_of_now = given_first c.read_on.new.reader a.0 (item ∷ []) a.1.0.stands in
     told_map a.2 (λ start after first.
     let read = first start (read_none c.new-feed.result start c.new-feed.ensures) in
     let end : Bool = is_closed after.rest (g.S.Shelf.faults c.args.shelf.now) (g.S.Shelf.faults c.read_on.new.shelf) in
-    let closed = closed_same c.read_on.new.reader c.read_on.new.feed a.0 (item ∷ []) start after (g.S.Shelf.faults c.args.shelf.now) (g.S.Shelf.faults c.read_on.new.shelf) a.1 read (c.in-Header.ensures.well (λ other. cc)) in
+    let closed = closed_same c.read_on.new.reader c.read_on.new.feed a.0 (item ∷ []) start after (g.S.Shelf.faults c.args.shelf.now) (g.S.Shelf.faults c.read_on.new.shelf) a.1.0 read (c.in-Header.ensures.well (λ other. cc)) in
     let grown = items_whole a.0 c.read_on.new.feed.pending end closed in
     let all = header_refuses_whole c.args.files.now item first_of_now.0 grown.0 (reading a.0).items (reading (whole_of a.0 c.read_on.new.feed.pending end)).items first_of_now.1 grown.1 in (
       whole_of a.0 c.read_on.new.feed.pending end,
       text_of a.0 c.read_on.new.feed.pending start after (g.S.Shelf.faults c.args.shelf.now) (g.S.Shelf.faults c.read_on.new.shelf) read,
-      not_opened_ahead c.report_of.result (whole_of a.0 c.read_on.new.feed.pending end) c.in-Err.fault c.report_of.ensures,
+      not_opened_ahead c.report_of.result (whole_of a.0 c.read_on.new.feed.pending end) c.in-Err.fault c.report_of.ensures (header_ahead a.0 item first_of_now.0 c.read_on.new.feed.pending end closed first_of_now.1 a.1.1 a.1.0.few),
       told_nothing _ _ (λ held. not_opened c.args.files.now c.report_of.result (whole_of a.0 c.read_on.new.feed.pending end) c.in-Err.fault _ held c.report_of.ensures c.in-Err.ensures.refused (all ∙ refused)),
     ))
