@@ -1,5 +1,5 @@
 -- How a scenario's reading begins.
-use Rattle.std.proofs.Common.{◌≡◌, ℕ, ◌+◌, ◌<◌, ◌≤◌, Bool, false, List, [], ◌∷◌, ◌++◌, length, refl, sym, ◌∙◌, ap, append-nil, arith, Option, Some, None, Err, IsTrue}
+use Rattle.std.proofs.Common.{◌≡◌, ℕ, ◌+◌, ◌<◌, ◌≤◌, Bool, false, List, [], ◌∷◌, ◌++◌, length, refl, sym, ◌∙◌, ap, append-nil, arith, Option, Some, Err, IsTrue}
 use Rattle.std.specs.Prelude.{slice_index}
 use Rattle.fsw_outside.specs.Files.{Stored, Content, file_named}
 use Rattle.memory_window.specs.declared.regions.Region.{Region}

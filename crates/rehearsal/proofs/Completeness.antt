@@ -36,7 +36,7 @@ rest_empty rest t is =
     empty_of rest none
 
 -- the same content
-same_bytes : (a b : List ℕ) → Some a ≡ Some b → a ≡ b
+pub same_bytes : (a b : List ℕ) → Some a ≡ Some b → a ≡ b
 same_bytes a b same = cc
 
 -- the file's text, read to its end, is read as what was handed out of it, where that isn't open
@@ -48,7 +48,7 @@ file_reads before faults bytes rest text is not_open =
     ∙ reading_whole text rest true (λ closed. (rest_empty rest _ (sym is.closed ∙ closed), refl)) not_open
 
 -- a text that ended isn't bad
-ended_not_bad : (ending : Ending) (line reason : ℕ) → ending ≡ Ended → answer_at_end ending ≡ answers.Bad line reason → ⊥
+pub ended_not_bad : (ending : Ending) (line reason : ℕ) → ending ≡ Ended → answer_at_end ending ≡ answers.Bad line reason → ⊥
 ended_not_bad ending line reason ended bad =
     let good : answer_at_end ending ≡ answers.End = ap answer_at_end ended in
     cc
@@ -125,12 +125,12 @@ pub same_named : (stored : List Stored) (names xs ys : List (List ℕ)) → map 
 same_named stored names xs ys first other = same_contents xs ys (sym first ∙ other)
 
 -- a front of names names a front of their files
-front_named : (stored : List Stored) (n : ℕ) (names xs ys : List (List ℕ)) → map (file_named stored) names ≡ map Some xs → map (file_named stored) (take n names) ≡ map Some ys → ys ≡ take n xs
+pub front_named : (stored : List Stored) (n : ℕ) (names xs ys : List (List ℕ)) → map (file_named stored) names ≡ map Some xs → map (file_named stored) (take n names) ≡ map Some ys → ys ≡ take n xs
 front_named stored n names xs ys all front =
     same_contents ys (take n xs) (sym front ∙ sym (take-map (file_named stored) n names) ∙ ap (take n) all ∙ take-map Some n xs)
 
 -- where none of the files is refused, none of a front of them is
-none_of_front : (before files : List (List ℕ)) (n : ℕ) → refusal_after before files ≡ None → refusal_after before (take n files) ≡ None
+pub none_of_front : (before files : List (List ℕ)) (n : ℕ) → refusal_after before files ≡ None → refusal_after before (take n files) ≡ None
 unfolding refusal_after
 none_of_front before files zero none = refl
 none_of_front before [] (suc n) none = refl
@@ -139,7 +139,7 @@ none_of_front before (file ∷ files) (suc n) none =
     rw parts.0 (none_of_front (before ++ file ∷ []) files n parts.1)
 
 -- a FILE that is refused isn't one of files that are taken
-refused_taken : (report : Report) (stored : List Stored) (names files : List (List ℕ)) (rest : List ℕ) → RefusesFile report stored names rest → AreTaken stored names files → ⊥
+pub refused_taken : (report : Report) (stored : List Stored) (names files : List (List ℕ)) (rest : List ℕ) → RefusesFile report stored names rest → AreTaken stored names files → ⊥
 unfolding first_refusal
 refused_taken report stored names files rest refuses taken =
     let read : List (List ℕ) = refuses.before ++ refuses.bytes ∷ [] in

@@ -9,3 +9,4 @@ pub mod Ahead
 pub mod Fetched
 pub mod Gathered
 pub mod Stages
+pub mod Decided

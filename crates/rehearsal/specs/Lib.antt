@@ -5,5 +5,6 @@ pub mod Fetching
 pub mod Gathering
 pub mod Reading
 pub mod Outcome
+pub mod Lines
 pub mod AcceptedWords
 pub mod ErrorLine

@@ -5,6 +5,7 @@ mod accepting;
 mod feeding;
 mod fetching;
 mod gathering;
+pub mod laws;
 mod rehearsing;
 mod report;
 mod running;

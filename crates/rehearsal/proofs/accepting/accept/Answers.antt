@@ -1,4 +1,4 @@
-use Rattle.std.proofs.Common.{◌≡◌, Option, sym, ◌∙◌, ap, subst, arith}
+use Rattle.std.proofs.Common.{◌≡◌, Option, sym, ◌∙◌, ap, subst}
 use Rattle.std.specs.Prelude.{IfOk}
 use Rattle.rehearsal.specs.AcceptedWords.{Asked, is_workers, workers_in}
 use Rattle.rehearsal.proofs.WordLists.{no_words, workers_alone, no_number, plain_is, numbered_is}

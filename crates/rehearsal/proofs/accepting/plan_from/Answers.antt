@@ -1,4 +1,4 @@
-use Rattle.std.proofs.Common.{sym, ◌∙◌, ap, refl, arith}
+use Rattle.std.proofs.Common.{sym, ◌∙◌, ap, arith}
 use Rattle.rehearsal.specs.AcceptedWords.{is_scenario}
 use Rattle.rehearsal.proofs.WordLists.{none_at, unnamed_at, no_files_at, asked_at}
 use Rattle.rehearsal.proofs.accepting.plan_from.Goals as goal

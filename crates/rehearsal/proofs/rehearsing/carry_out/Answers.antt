@@ -1,4 +1,4 @@
-use Rattle.std.proofs.Common.{◌<◌, ◌+◌, length, refl, sym, ◌∙◌, inl, arith}
+use Rattle.std.proofs.Common.{◌<◌, ◌+◌, length, refl, inl, arith}
 use Rattle.fsw_outside.proofs.Telling.{told_nothing, told_map, told_then, told_and}
 use Rattle.rehearsal.proofs.Beginnings.{some_faulty}
 use Rattle.rehearsal.proofs.Stages.{runs_out, opens_none, opens_front, opens_all, ends_before, ends_at_tables, reads_scenario}

@@ -1,0 +1,69 @@
+//! Laws of rehearsals: each function answers nothing, and its contract is the law.
+
+ghost use Rattle.std.specs.Prelude.{◌≡◌, ◌≢◌, ℕ, ◌+◌, ◌<◌, List, [], Some, None};
+ghost use Rattle.fsw_outside.specs.Files.{Content};
+ghost use Rattle.scenario.specs.Texts.{Text, Ended, Open, reading};
+ghost use Rattle.frame_exec.specs.Tables.{tables_fault};
+ghost use Rattle.frame_exec.specs.declared.tables.TablesFault.{TablesFault};
+ghost use Rattle.rehearsal.specs.AcceptedWords.{Asked};
+ghost use Rattle.rehearsal.specs.FileWords.{Refusal, AreTaken};
+ghost use Rattle.rehearsal.specs.Lines.{Rehearsed, FailsOn, Refuses, ReadsText};
+ghost use Rattle.rehearsal.specs.Outcome.{refused_read, Seen, GivesReads, IsRefusedAt};
+ghost use Rattle.rehearsal.specs.declared.report.Report.{Report};
+ghost use Rattle.rehearsal.specs.declared.report.Status.TheVariants as statuses;
+
+/// The first line of this list that holds decides how a rehearsal of accepted words ends over a shelf and an output that
+/// tell, unless memory ran out: from each line's condition to the report. Words that aren't accepted are refused by `vigil`'s own clause.
+pub fn first_line_decides()
+    // The shelf failed on a FILE.
+    ensures unread { (report : Report) (asked : Asked) (seen : Seen) (wrote_before wrote_now : ℕ) (before after : Content) (file : ℕ)
+        → Rehearsed report asked seen wrote_before wrote_now before after → FailsOn file asked seen before after
+        → (report.status ≡ statuses.ReadFailed) × (report.file ≡ file) }
+
+    // A FILE is too long, isn't in order, or its table was there.
+    ensures refused { (report : Report) (asked : Asked) (seen : Seen) (wrote_before wrote_now : ℕ) (before after : Content) (refusal : Refusal)
+        → Rehearsed report asked seen wrote_before wrote_now before after → report.status ≢ statuses.NoMemory → Refuses refusal asked seen before
+        → (report.status ≡ statuses.FileRefused) × (report.file ≡ refusal.file) × (report.line ≡ 0) × (report.reason ≡ refusal.reason) }
+
+    // An entry of a table isn't in order.
+    ensures faulty { (report : Report) (asked : Asked) (seen : Seen) (wrote_before wrote_now : ℕ) (before after : Content) (files : List (List ℕ)) (fault : TablesFault)
+        → Rehearsed report asked seen wrote_before wrote_now before after → report.status ≢ statuses.NoMemory → seen.faults_now ≡ seen.faults_before
+        → AreTaken before.files asked.files files → tables_fault files ≡ Some fault
+        → (report.status ≡ statuses.FileRefused) × (report.file ≡ fault.file) × (report.line ≡ fault.entry) × (report.reason ≡ fault.reason + 10) }
+
+    // The text has no header: it is bad or unended, or reading failed.
+    ensures headless { (report : Report) (asked : Asked) (seen : Seen) (wrote_before wrote_now : ℕ) (before after : Content) (files : List (List ℕ)) (text : Text) (new : List ℕ)
+        (line reason : ℕ) → Rehearsed report asked seen wrote_before wrote_now before after → report.status ≢ statuses.NoMemory → ReadsText files text asked seen before after
+        → seen.held_now ≡ Some new → (reading text).items ≡ [] → IsRefusedAt (reading text) line reason
+        → (report.status ≡ statuses.ScenarioRefused) × (report.line ≡ line) × (report.reason ≡ reason) }
+    ensures headless_open { (report : Report) (asked : Asked) (seen : Seen) (wrote_before wrote_now : ℕ) (before after : Content) (files : List (List ℕ)) (text : Text) (new : List ℕ)
+        → Rehearsed report asked seen wrote_before wrote_now before after → report.status ≢ statuses.NoMemory → ReadsText files text asked seen before after
+        → seen.held_now ≡ Some new → (reading text).items ≡ [] → (reading text).ending ≡ Open → (report.status ≡ statuses.ReadFailed) × (report.file ≡ 0) }
+
+    // The map refuses the read of an entry.
+    ensures unmapped { (report : Report) (asked : Asked) (seen : Seen) (wrote_before wrote_now : ℕ) (before after : Content) (files : List (List ℕ)) (text : Text) (new : List ℕ)
+        (file entry : ℕ) → Rehearsed report asked seen wrote_before wrote_now before after → report.status ≢ statuses.NoMemory → ReadsText files text asked seen before after
+        → seen.held_now ≡ Some new → refused_read files (reading text).items ≡ Some (file, entry)
+        → (report.status ≡ statuses.FileRefused) × (report.file ≡ file) × (report.line ≡ entry) × (report.reason ≡ 10) }
+
+    // The output failed.
+    ensures unwritten { (report : Report) (asked : Asked) (seen : Seen) (wrote_before wrote_now : ℕ) (before after : Content)
+        → Rehearsed report asked seen wrote_before wrote_now before after → wrote_before < wrote_now → report.status ≡ statuses.WriteFailed }
+
+    // The text ended well.
+    ensures ended { (report : Report) (asked : Asked) (seen : Seen) (wrote_before wrote_now : ℕ) (before after : Content) (files : List (List ℕ)) (text : Text) (new : List ℕ)
+        → Rehearsed report asked seen wrote_before wrote_now before after → report.status ≢ statuses.NoMemory → ReadsText files text asked seen before after
+        → seen.held_now ≡ Some new → GivesReads files (reading text) → wrote_now ≡ wrote_before → (reading text).ending ≡ Ended → report.status ≡ statuses.Done }
+
+    // It is bad or unended.
+    ensures bad { (report : Report) (asked : Asked) (seen : Seen) (wrote_before wrote_now : ℕ) (before after : Content) (files : List (List ℕ)) (text : Text) (new : List ℕ)
+        (line reason : ℕ) → Rehearsed report asked seen wrote_before wrote_now before after → report.status ≢ statuses.NoMemory → ReadsText files text asked seen before after
+        → seen.held_now ≡ Some new → GivesReads files (reading text) → wrote_now ≡ wrote_before → IsRefusedAt (reading text) line reason
+        → (report.status ≡ statuses.ScenarioRefused) × (report.line ≡ line) × (report.reason ≡ reason) }
+
+    // It is open.
+    ensures cut_off { (report : Report) (asked : Asked) (seen : Seen) (wrote_before wrote_now : ℕ) (before after : Content) (files : List (List ℕ)) (text : Text) (new : List ℕ)
+        → Rehearsed report asked seen wrote_before wrote_now before after → report.status ≢ statuses.NoMemory → ReadsText files text asked seen before after
+        → seen.held_now ≡ Some new → GivesReads files (reading text) → wrote_now ≡ wrote_before → (reading text).ending ≡ Open
+        → (report.status ≡ statuses.ReadFailed) × (report.file ≡ 0) }
+{}
