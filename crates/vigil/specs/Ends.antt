@@ -1,5 +1,5 @@
 -- How the program ends.
-use Rattle.std.specs.Prelude.{◌≡◌, ◌⊎◌, ℕ}
+use Rattle.std.specs.Prelude.{ℕ}
 use Rattle.rehearsal.specs.declared.report.Status.{Status}
 use Rattle.rehearsal.specs.declared.report.Status.TheVariants.{Done, WordsRefused, FileRefused, ScenarioRefused, ReadFailed, WriteFailed, NoMemory}
 
@@ -12,7 +12,3 @@ exit_number ScenarioRefused = 3
 exit_number ReadFailed = 4
 exit_number WriteFailed = 5
 exit_number NoMemory = 6
-
--- an end before a rehearsal begins: the words are refused, or memory ran out
-abbrev pub EndsEarly : Status → Type 0
-EndsEarly status = (status ≡ WordsRefused) ⊎ (status ≡ NoMemory)

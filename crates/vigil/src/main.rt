@@ -1,73 +1,101 @@
-//! The program: a rehearsal over the runtime's files and streams.
+//! The program: a rehearsal over the runtime's words, files and streams.
 #![tactic(auto)]
 
-ghost use Rattle.std.specs.Prelude.{◌≡◌, IfErr};
-ghost use Rattle.vigil.specs.Ends.{exit_number, EndsEarly};
+ghost use Rattle.std.specs.Prelude.{◌≡◌, ◌≢◌, ◌⊎◌, Some, None, IfOk, IfErr, map, drop, string_bytes};
+ghost use Rattle.std.specs.IoError.{error_kind};
+ghost use Rattle.std.specs.Vec.Iter.{into_iter_items};
+ghost use Rattle.fsw_outside.specs.Told.{WhereTold};
+ghost use Rattle.rehearsal.specs.AcceptedWords.{Asked, accepted_words};
+ghost use Rattle.rehearsal.specs.ErrorLine.{error_line, Tells};
+ghost use Rattle.rehearsal.specs.Outcome.{Rehearses};
+ghost use Rattle.vigil.specs.Ends.{exit_number};
 
-use fsw_outside::{FileShelf, OpenGate, StdSink};
+use fsw_outside::{FileShelf, NoMemory, OpenGate, Shelf, Sink, StdSink};
 use rehearsal::{Report, Status, Words, tell, vigil};
-use std::env;
-use std::io::ErrorKind;
+use std::alloc::Global;
+use std::env::{self, Args};
+use std::io::{self, ErrorKind};
 use std::process::ExitCode;
-use std::rt::Env;
+use std::thread::Threads;
 
-// The exit status of an end.
+/// The exit status of an end.
 fn exit_number(status: Status) -> u8
     ensures { result ≡ exit_number status }
 {
     status as u8
 }
 
-// How the program ends where the runtime doesn't give its words.
-fn status_without_words(kind: ErrorKind) -> Status
-    ensures early { EndsEarly result }
-    ensures memory { kind ≡ ErrorKind.OutOfMemory → result ≡ Status.NoMemory }
+/// The report where the runtime doesn't give the words.
+fn early_report(kind: ErrorKind) -> Report
+    ensures memory { kind ≡ ErrorKind.OutOfMemory → result ≡ record { status = Status.NoMemory; file = 0; line = 0; reason = 0; frames = 0 } }
+    ensures refused { kind ≢ ErrorKind.OutOfMemory → result ≡ record { status = Status.WordsRefused; file = 0; line = 0; reason = 0; frames = 0 } }
 {
-    match kind {
-        ErrorKind::OutOfMemory => Status::NoMemory,
-        _ => Status::WordsRefused,
+    if kind == ErrorKind::OutOfMemory {
+        return Report::at(Status::NoMemory, 0);
     }
+    Report::at(Status::WordsRefused, 0)
 }
 
-// The words after the program's name, or how the program ends without them.
-fn read_words<R: Env + AllocGlobal>(rt: &R) -> Result<Words, Status>
-    ensures { IfErr result EndsEarly }
+/// The words behind the program's name, which is the first of those given.
+fn words_behind_name(alloc: Global, given: Args) -> Result<Words, NoMemory>
+    ensures { IfOk result (λ words. words ≡ drop 1 (map string_bytes (into_iter_items given))) }
 {
-    let given = match env::args(rt) {
-        Ok(given) => given,
-        Err(error) => return Err(status_without_words(error.kind())),
-    };
-    let Ok(mut words) = Words::open(rt.alloc()) else {
-        return Err(Status::NoMemory);
-    };
-    for word in given.skip(1) {
-        let Ok(()) = words.add(word.as_str()) else {
-            return Err(Status::NoMemory);
-        };
+    let mut given = given;
+    let mut words = Words::open(alloc)?;
+    let _name = given.next();
+    'words: while let Some(word) = given.next() {
+        words.add(word.as_str())?;
     }
     Ok(words)
+}
+
+/// Rehearses what the words ask for that the runtime gives, the program's name before them. Where it gives none, or
+/// where they find no memory, the report is told and nothing else is done.
+fn rehearse_given<R: Threads + Sync, S: Shelf, O: Sink, E: Sink>(
+    rt: &R,
+    alloc: Global,
+    given: io::Result<Args>,
+    shelf: &mut S,
+    out: &mut O,
+    err: &mut E,
+) -> Report
+    ensures missing { IfErr given (λ error. (shelf.new ≡ shelf.old) × (out.new ≡ out.old)
+        × (error_kind error ≡ ErrorKind.OutOfMemory → result ≡ record { status = Status.NoMemory; file = 0; line = 0; reason = 0; frames = 0 })
+        × (error_kind error ≢ ErrorKind.OutOfMemory → result ≡ record { status = Status.WordsRefused; file = 0; line = 0; reason = 0; frames = 0 })) }
+    ensures words { IfOk given (λ texts. accepted_words (drop 1 (map string_bytes (into_iter_items texts))) ≡ None → (result ≡ record { status = Status.WordsRefused; file = 0; line = 0; reason = 0; frames = 0 })
+        ⊎ (result ≡ record { status = Status.NoMemory; file = 0; line = 0; reason = 0; frames = 0 })) }
+    ensures outcome { IfOk given (λ texts. (asked : Asked) → accepted_words (drop 1 (map string_bytes (into_iter_items texts))) ≡ Some asked → WhereTold (S.told shelf.old) (S.told shelf.new)
+        (Rehearses result asked (record {
+          is_open = S.is_open shelf.new;
+          faults_before = S.faults shelf.old;
+          faults_now = S.faults shelf.new;
+          held_before = O.held out.old;
+          held_now = O.held out.new;
+        }))) }
+    ensures told { WhereTold (E.held err.old) (E.held err.new) (Tells (E.faults err.old) (E.faults err.new) (error_line result)) }
+{
+    let texts = match given {
+        Ok(texts) => texts,
+        Err(error) => {
+            let report = early_report(error.kind());
+            tell(err, &report);
+            return report;
+        }
+    };
+    let Ok(words) = words_behind_name(alloc, texts) else {
+        let report = Report::at(Status::NoMemory, 0);
+        tell(err, &report);
+        return report;
+    };
+    vigil(rt, alloc, &words, shelf, out, err, &OpenGate)
 }
 
 fn main(rt: HostRuntime) -> ExitCode {
     let mut shelf = FileShelf::new(&rt);
     let mut out = StdSink::new(rt.stdout());
     let mut err = StdSink::new(rt.stderr());
-    let words = match read_words(&rt) {
-        Ok(words) => words,
-        Err(status) => {
-            tell(&mut err, &Report::at(status, 0));
-            return ExitCode::from(exit_number(status));
-        }
-    };
-    let report = vigil(
-        &rt,
-        rt.alloc(),
-        &words,
-        &mut shelf,
-        &mut out,
-        &mut err,
-        &OpenGate,
-    );
+    let given = env::args(&rt);
+    let report = rehearse_given(&rt, rt.alloc(), given, &mut shelf, &mut out, &mut err);
     ExitCode::from(exit_number(report.status))
 }
 

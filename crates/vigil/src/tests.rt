@@ -4,6 +4,7 @@ mod checksums;
 mod dwell;
 mod faults;
 mod files;
+mod given;
 mod lengths;
 mod refusals;
 mod rows;

@@ -276,3 +276,31 @@ const SIX_TABLES: Rehearsal<'static> = Rehearsal {
         Line::Text("4 pkt 0894C002000A000003EC000000040001A4"),
     ],
 };
+
+// A file is read to its 65,701st byte and not on: the call behind it, which would fail, isn't made. The call before it is.
+#[test]
+fn long_file_is_not_read_on(rt: HostRuntime) -> Result<(), Fail> {
+    let mut long = Vec::new(rt.alloc());
+    pad(&mut long, 65_800)?;
+    let told = "vigil: file 1 refused, reason 9, entry 0\n";
+    for (call, most) in [(18, 4096), (65_702, 1)] {
+        let fails = [call];
+        let outside = Outside {
+            shelf: &fails,
+            most,
+            ..HONEST
+        };
+        let ran = run_beside(&rt, &["s", "a"], SCENARIO, &[&long], &outside)?;
+        assert_eq!(rt; ran.report, Report::file_refused(1, 0, 9));
+        assert_text(&rt, "err", ran.err.bytes(), told);
+        let last = [call.saturating_sub(1)];
+        let outside = Outside {
+            shelf: &last,
+            most,
+            ..HONEST
+        };
+        let ran = run_beside(&rt, &["s", "a"], SCENARIO, &[&long], &outside)?;
+        assert_eq!(rt; ran.report, Report::file_unread(1));
+    }
+    Ok(())
+}
