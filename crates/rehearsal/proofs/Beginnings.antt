@@ -13,10 +13,10 @@ use Rattle.rehearsal.specs.declared.report.Report.{Report}
 use Rattle.rehearsal.specs.Outcome.{frames_of, setup_of, refused_read, fault_report, log_in, IsText, IsTextOf, ReadsAhead, Outcome}
 use Rattle.rehearsal.proofs.Outcomes.{log_in_none, whole_of, is_closed, parts_whole, refused_append}
 use Rattle.frame_exec.specs.Runs.{Setup}
-use Rattle.frame_exec.specs.Tables.{tables_of, tables_fault, first_said, region_fault, Opens}
+use Rattle.frame_exec.specs.Tables.{tables_fault, first_said, region_fault, Opens}
 use Rattle.frame_exec.specs.declared.giving.OpenFault.{OpenFault}
 use Rattle.frame_exec.specs.declared.giving.OpenFault.TheVariants as faults
-use Rattle.frame_exec.specs.declared.tables.TablesFault.{TablesFault}
+use Rattle.frame_exec.specs.declared.loading.TablesFault.{TablesFault}
 use Rattle.frame_exec.specs.Standing.{Stands as BenchStands}
 use Rattle.frame_exec.specs.declared.bench.Bench.{Bench}
 
@@ -43,7 +43,7 @@ unfolding frames_of
 no_log files got held none = rw none (sym (ap (λ (log : List ℕ). held ++ log) (log_in_none files [] refl) ∙ append-nil held))
 
 -- what the header says, once it was given
-pub header_setup : (files : List (List ℕ)) (item : Given) (epoch : ℕ) (regions : List Region) (rest : List Given) → item ∷ [] ≡ Head epoch regions ∷ rest → setup_of files (item ∷ []) ≡ record { epoch = epoch; regions = regions; tables = tables_of files }
+pub header_setup : (files : List (List ℕ)) (item : Given) (epoch : ℕ) (regions : List Region) (rest : List Given) → item ∷ [] ≡ Head epoch regions ∷ rest → setup_of files (item ∷ []) ≡ record { epoch = epoch; regions = regions; files = files }
 unfolding setup_of
 header_setup files item epoch regions rest is =
     let same : item ≡ Head epoch regions = cc in

@@ -6,7 +6,7 @@ use Rattle.fsw_outside.specs.Files.{Stored, Content, file_named}
 use Rattle.scenario.specs.declared.item.Item.TheVariants as answers
 use Rattle.scenario.specs.Texts.{Text, Reading, Ended, Open}
 use Rattle.frame_exec.specs.Tables.{tables_fault}
-use Rattle.frame_exec.specs.declared.tables.TablesFault.{TablesFault}
+use Rattle.frame_exec.specs.declared.loading.TablesFault.{TablesFault}
 use Rattle.rehearsal.specs.declared.report.Report.{Report}
 use Rattle.rehearsal.specs.declared.report.Status.{Status}
 use Rattle.rehearsal.specs.declared.report.Status.TheVariants as statuses

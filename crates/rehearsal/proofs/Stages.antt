@@ -7,7 +7,7 @@ use Rattle.scenario.specs.Texts.{Text}
 use Rattle.rehearsal.specs.declared.report.Report.{Report}
 use Rattle.rehearsal.specs.declared.report.Status.TheVariants as statuses
 use Rattle.frame_exec.specs.Tables.{tables_fault}
-use Rattle.frame_exec.specs.declared.tables.TablesFault.{TablesFault}
+use Rattle.frame_exec.specs.declared.loading.TablesFault.{TablesFault}
 use Rattle.rehearsal.specs.AcceptedWords.{Asked, words_to_open}
 use Rattle.rehearsal.specs.Asking.{AsksFor, OpensOnce}
 use Rattle.rehearsal.specs.FileWords.{AreTaken}

@@ -11,8 +11,8 @@ use Rattle.scenario.specs.Texts.{Text, Given, Head, Whole, Reading, Bad, Ended, 
 use Rattle.scenario.specs.Answers.{answer_at_end}
 use Rattle.frame_exec.specs.Runs.{Setup, frame_lines, log_of}
 use Rattle.frame_exec.specs.Standing.{Stands as BenchStands}
-use Rattle.frame_exec.specs.Tables.{tables_of, tables_fault, region_fault}
-use Rattle.frame_exec.specs.declared.tables.TablesFault.{TablesFault}
+use Rattle.frame_exec.specs.Tables.{tables_fault, region_fault}
+use Rattle.frame_exec.specs.declared.loading.TablesFault.{TablesFault}
 use Rattle.frame_exec.specs.declared.giving.OpenFault.{OpenFault}
 use Rattle.frame_exec.specs.declared.giving.OpenFault.TheVariants as faults
 use Rattle.frame_exec.specs.declared.bench.Bench.{Bench}
@@ -33,11 +33,11 @@ frame_in_item (Whole frame) = frame ∷ []
 unfoldable pub frames_of : List Given → List Frame
 frames_of items = flat_map frame_in_item items
 
--- what a run over these files begins with: their tables, and what the header of the text says, which is its first item
+-- what a run over these files begins with: the files, and what the header of the text says, which is its first item
 unfoldable pub setup_of : List (List ℕ) → List Given → Setup
-setup_of files [] = record { epoch = 0; regions = []; tables = tables_of files }
-setup_of files (Head epoch regions ∷ items) = record { epoch = epoch; regions = regions; tables = tables_of files }
-setup_of files (Whole frame ∷ items) = record { epoch = 0; regions = []; tables = tables_of files }
+setup_of files [] = record { epoch = 0; regions = []; files = files }
+setup_of files (Head epoch regions ∷ items) = record { epoch = epoch; regions = regions; files = files }
+setup_of files (Whole frame ∷ items) = record { epoch = 0; regions = []; files = files }
 
 -- the first entry of the files' tables whose read the map of the text refuses, by the numbers of its file and of itself, where the text has a header
 unfoldable pub refused_read : List (List ℕ) → List Given → Option (ℕ × ℕ)

@@ -4,7 +4,7 @@ ghost use Rattle.std.specs.Prelude.{◌≡◌, ◌≢◌, ℕ, ◌+◌, ◌<◌,
 ghost use Rattle.fsw_outside.specs.Files.{Content};
 ghost use Rattle.scenario.specs.Texts.{Text, Ended, Open, reading};
 ghost use Rattle.frame_exec.specs.Tables.{tables_fault};
-ghost use Rattle.frame_exec.specs.declared.tables.TablesFault.{TablesFault};
+ghost use Rattle.frame_exec.specs.declared.loading.TablesFault.{TablesFault};
 ghost use Rattle.rehearsal.specs.AcceptedWords.{Asked};
 ghost use Rattle.rehearsal.specs.FileWords.{Refusal, AreTaken};
 ghost use Rattle.rehearsal.specs.Lines.{Rehearsed, FailsOn, Refuses, ReadsText};

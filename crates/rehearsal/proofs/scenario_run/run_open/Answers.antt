@@ -2,7 +2,6 @@ use Rattle.std.proofs.Common.{ap, ℕ, ◌<◌, Bool, false, [], ◌∷◌, leng
 use Rattle.fsw_outside.proofs.Telling.{told_then, told_map, told_nothing}
 use Rattle.scenario.specs.Texts.{Given, reading}
 use Rattle.scenario.specs.Standing.{header_in}
-use Rattle.frame_exec.specs.Tables.{TableSet}
 use Rattle.scenario.proofs.TextLaws.{given_first}
 use Rattle.rehearsal.specs.Outcome.{IsTextOf}
 use Rattle.rehearsal.proofs.TextFacts.{no_first_frame}
@@ -34,7 +33,7 @@ run_frames-requires-clause-holds g c = λ _ _.
     let head = c.header.ensures a.0 (item ∷ []) a.1.0.stands some in
     let setup = header_setup c.args.files.now item c.header.result.now.epoch c.header.result.now.map head.0 head.1 in
     let none = header_alone item c.header.result.now.epoch c.header.result.now.map head.0 head.1 in
-    let stands = opened c.args.files.now c.in-Ok-open.bench item _ c.in-Ok-open.ensures.stands (setup ∙ ap (λ (t : TableSet). record { epoch = c.header.result.now.epoch; regions = c.header.result.now.map; tables = t }) (sym c.requires.loaded.named)) none in
+    let stands = opened c.args.files.now c.in-Ok-open.bench item _ c.in-Ok-open.ensures.stands setup none in
     let given = header_refuses c.args.files.now item c.header.result.now.epoch c.header.result.now.map head.0 head.1 ∙ c.in-Ok-open.ensures.refused in
     (c.args.files.now, a.0, item ∷ [], a.1.0, record { stands = stands; given = given }, none, some)
 
@@ -92,7 +91,7 @@ returns-clause-outcome g c =
     let head = c.header.ensures a.0 (item ∷ []) a.1.0.stands some in
     let setup = header_setup c.args.files.now item c.header.result.now.epoch c.header.result.now.map head.0 head.1 in
     let none = header_alone item c.header.result.now.epoch c.header.result.now.map head.0 head.1 in
-    let stands = opened c.args.files.now c.in-Ok-open.bench item _ c.in-Ok-open.ensures.stands (setup ∙ ap (λ (t : TableSet). record { epoch = c.header.result.now.epoch; regions = c.header.result.now.map; tables = t }) (sym c.requires.loaded.named)) none in
+    let stands = opened c.args.files.now c.in-Ok-open.bench item _ c.in-Ok-open.ensures.stands setup none in
     let given = header_refuses c.args.files.now item c.header.result.now.epoch c.header.result.now.map head.0 head.1 ∙ c.in-Ok-open.ensures.refused in
     let ran = c.run_frames.ensures.outcome c.args.files.now a.0 (item ∷ []) a.1.0 (record { stands = stands; given = given }) none some in
     let well = c.in-Header.ensures.well (λ other. cc) in
