@@ -5,7 +5,7 @@ ghost use Rattle.table_files.specs.Headers.{content_type, subtype, table_offset,
 
 use crate::fault::FileFault;
 use crate::kinds::{TableKind, named_kind};
-use packet_forms::be32;
+use packet_forms::{be32, behind};
 
 /// What a file holds.
 #[derive(Clone, Copy, Debug, PartialEq, Eq)]
@@ -151,14 +151,6 @@ pub(crate) fn load_in(bytes: &[u8]) -> (u32, &[u8])
     ensures bytes { result.1.now ≡ drop LOAD_HEADERS bytes.now }
 {
     (be32(bytes, 64), behind(bytes, LOAD_HEADERS))
-}
-
-/// The bytes from a place on.
-fn behind(bytes: &[u8], at: usize) -> &[u8]
-    requires { at ≤ length bytes.now }
-    ensures { result.now ≡ drop at bytes.now }
-{
-    &bytes[at..]
 }
 
 /// Whether a file's bytes are to be loaded.

@@ -11,8 +11,5 @@ load_in-at-requires c = omega (arith, long c.args.bytes.now c.requires)
 pub returns-then-is_load : goal.returns-then-is_load
 returns-then-is_load c = load_file c.args.bytes.now _ _ (sym c.is_load.ensures ∙ c.if-is_load.true) c.load_in-at.ensures.at c.load_in-at.ensures.bytes
 
-pub behind-requires : goal.behind-requires
-behind-requires c = long c.args.bytes.now c.requires
-
 pub returns : goal.returns
 returns c = table_file c.args.bytes.now c.kind_of.result c.behind.result.now c.requires c.kind_of.ensures c.behind.ensures
