@@ -2,6 +2,7 @@
 
 mod checksums;
 mod dwell;
+mod examples;
 mod faults;
 mod files;
 mod given;
