@@ -1,0 +1,16 @@
+//! The tables of Health and Safety: application monitors, event monitors, execution counters and message actions.
+#![tactic(auto)]
+
+mod actions;
+mod apps;
+mod counters;
+mod events;
+pub mod laws;
+
+pub use actions::{ActEntry, ActRow, MsgActs, load_msgacts};
+pub use apps::{AppEntry, AppMon, AppRow, load_appmon};
+pub use counters::{CountRow, ExeCount, load_execount};
+pub use events::{EventEntry, EventMon, EventRow, load_eventmon};
+
+#[cfg(test)]
+mod tests;
