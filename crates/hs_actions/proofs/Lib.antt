@@ -1,0 +1,5 @@
+pub mod Parts
+pub mod Cooldowns
+pub mod Entries
+pub mod Paths
+pub mod Series

@@ -1,0 +1,133 @@
+//! What an attempt puts into the outbox.
+ghost use Rattle.std.specs.Prelude.{◌≡◌, ◌+◌, ◌<◌, ◌≤◌, ◌∷◌, [], length, if◌then◌else◌};
+ghost use Rattle.packet_forms.specs.Names.{is_name_text};
+ghost use Rattle.bus_pipes.specs.Held.{adding};
+ghost use Rattle.bus_pipes.specs.declared.names.Out.TheVariants as outs;
+ghost use Rattle.hs_tables.specs.Actions.{entry_of};
+ghost use Rattle.hs_actions.specs.Happenings.{HasPlace};
+ghost use Rattle.hs_actions.specs.Outcomes.{act_at};
+ghost use Rattle.hs_actions.specs.Items.{hs_name, event_base, event_out, report_items, message_items, performed};
+
+use crate::action::{Action, Source};
+use bus_pipes::{Out, Outbox};
+use hs_tables::MsgActs;
+use packet_forms::{Name, event};
+
+/// The type of the events: an error.
+const ERROR: u16 = 3;
+
+/// Puts what an attempt gives, by whether it goes.
+pub(crate) fn put_items(
+    from: Source,
+    name: Name,
+    action: Action,
+    acts: &MsgActs,
+    went: bool,
+    now: u32,
+    out: &mut Outbox,
+)
+    requires place { HasPlace action }
+    requires room { length out.old.items + 2 ≤ out.old.room }
+    ensures items { out.new ≡ adding out.old (performed now acts.now from name action went) }
+    ensures few { length out.new.items ≤ length out.old.items + 2 }
+    ensures room { out.new.room ≡ out.old.room }
+{
+    match action {
+        Action::Reset => put_reset(from, went, now, out),
+        Action::Restart => put_restart(from, name, now, out),
+        Action::Report => put_report(from, name, now, out),
+        Action::Message(place) => put_message(from, place, acts, went, now, out),
+    }
+}
+
+#[tactic(auto, unfolding(bus_pipes::specs::Held::adding))]
+fn put_reset(from: Source, went: bool, now: u32, out: &mut Outbox)
+    requires room { length out.old.items + 2 ≤ out.old.room }
+    ensures items { out.new ≡ adding out.old (if went then event_out now from 1 ∷ outs.Reset ∷ [] else event_out now from 5 ∷ []) }
+    ensures few { length out.new.items ≤ length out.old.items + 2 }
+    ensures room { out.new.room ≡ out.old.room }
+{
+    if went {
+        out.push(event_out(from, 1, now));
+        out.push(Out::Reset);
+        return;
+    }
+    out.push(event_out(from, 5, now));
+}
+
+#[tactic(auto, unfolding(bus_pipes::specs::Held::adding))]
+fn put_restart(from: Source, name: Name, now: u32, out: &mut Outbox)
+    requires room { length out.old.items + 2 ≤ out.old.room }
+    ensures items { out.new ≡ adding out.old (event_out now from 2 ∷ outs.Restart name ∷ []) }
+    ensures few { length out.new.items ≤ length out.old.items + 2 }
+    ensures room { out.new.room ≡ out.old.room }
+{
+    out.push(event_out(from, 2, now));
+    out.push(Out::Restart(name));
+}
+
+#[tactic(auto, unfolding(bus_pipes::specs::Held::adding))]
+fn put_report(from: Source, name: Name, now: u32, out: &mut Outbox)
+    requires room { length out.old.items + 2 ≤ out.old.room }
+    ensures items { out.new ≡ adding out.old (report_items now from name) }
+    ensures few { length out.new.items ≤ length out.old.items + 2 }
+    ensures room { out.new.room ≡ out.old.room }
+{
+    match from {
+        Source::AppMonitor => out.push(event_out(Source::AppMonitor, 3, now)),
+        Source::EventMonitor => {
+            out.push(event_out(Source::EventMonitor, 3, now));
+            out.push(Out::Delete(name));
+        }
+    }
+}
+
+#[tactic(auto, using(bus_pipes::proofs::Deliveries::adding_none), unfolding(bus_pipes::specs::Held::adding))]
+fn put_message(from: Source, place: u16, acts: &MsgActs, went: bool, now: u32, out: &mut Outbox)
+    requires place { place < 8 }
+    requires room { length out.old.items + 2 ≤ out.old.room }
+    ensures items { out.new ≡ adding out.old (if went then message_items now from (entry_of (act_at acts.now place)) else []) }
+    ensures few { length out.new.items ≤ length out.old.items + 2 }
+    ensures room { out.new.room ≡ out.old.room }
+{
+    if !went {
+        return;
+    }
+    let Some(entry) = acts.entry(u32::from(place) + 1) else {
+        return;
+    };
+    out.push(Out::Stored(entry.packet));
+    if entry.state != 2 {
+        out.push(event_out(from, 4, now));
+    }
+}
+
+// The n-th event of a monitor.
+#[tactic(auto, unfolding(crate::specs::Items::event_out))]
+fn event_out(from: Source, n: u16, now: u32) -> Out
+    requires { n ≤ 5 }
+    ensures { result ≡ event_out now from n }
+{
+    Out::Made(event(hs_name(), event_base(from) + n, ERROR, now))
+}
+
+fn event_base(from: Source) -> u16
+    ensures base { result ≡ event_base from }
+    ensures small { result ≤ 110 }
+{
+    match from {
+        Source::AppMonitor => 100,
+        Source::EventMonitor => 110,
+    }
+}
+
+// The name of Health and Safety.
+#[tactic(auto, unfolding(crate::specs::Items::hs_name, packet_forms::specs::Names::is_name_text))]
+fn hs_name() -> Name
+    ensures { result ≡ hs_name }
+{
+    match Name::from_text("HS") {
+        Some(name) => name,
+        None => unreachable!(),
+    }
+}
