@@ -33,7 +33,8 @@ use Rattle.frame_exec.specs.Applications.{cs_stands, mm_stands, md_stands}
 use Rattle.frame_exec.specs.Sending.{upset_by}
 use Rattle.frame_exec.specs.Runs.{Setup, State, beginning, image_at, left_by, sent_at, offers_at, after_frame, run_of, frame_lines, log_of, lines_at, operations_at}
 use Rattle.frame_exec.specs.Standing.{AppsStand, Has, IsReady, Stands, CanRun}
-use Rattle.frame_exec.specs.Stages.{KeepsApps, RunsIn}
+use Rattle.frame_exec.specs.Landable.{CanLand}
+use Rattle.frame_exec.specs.Stages.{KeepsApps, RunsIn, IsSameFrame, Lands}
 
 -- what a run has come to, at one more frame
 pub run_more : (setup : Setup) (frames : List Frame) (frame : Frame) → run_of setup (frames ++ frame ∷ []) ≡ after_frame setup (run_of setup frames) frame
@@ -133,17 +134,32 @@ has_after before b setup s frame kept pipes log memory number tables ran = recor
   memory = memory ∙ ap (λ (xs : List MemOp). land [] xs before.ram) ran.operations ∙ ap (λ (m : Memory). land [] (operations_at setup s frame) m) ran.memory;
 }
 
--- a bench stands for one more frame, once its lines were written and its operations have landed
-pub stands_after : (before b : Bench) (setup : Setup) (frames : List Frame) (frame : Frame) → b.epoch ≡ setup.epoch → b.failed ≡ false → b.block ≡ empty_block → b.number ≡ (run_of setup frames).number + 1
-    → KeepsApps before b → b.bus ≡ before.bus → b.log ≡ before.log → b.ram ≡ land [] before.ops before.ram → b.tables ≡ before.tables → before.tables ≡ (run_of setup frames).tables
-    → IsReady before → RunsIn setup (run_of setup frames) frame before → Stands b setup (frames ++ frame ∷ [])
-stands_after before b setup frames frame epoch well waits number kept pipes log memory same tables ready ran = record {
-  epoch = epoch;
-  well = well;
-  waits = waits;
-  has = subst (Has b) (sym (run_more setup frames frame)) (has_after before b setup (run_of setup frames) frame kept pipes log memory number (same ∙ tables) ran);
-  ready = ready_by before b (ap (λ (m : Memory). regions_of m.areas) memory ∙ regions-changed _ before.ram.areas) same kept ready;
-}
+-- the states of the applications were kept twice
+kept_twice : (a b c : Bench) → KeepsApps a b → KeepsApps b c → KeepsApps a c
+kept_twice a b c first second = record { cs = second.cs ∙ first.cs; mm = second.mm ∙ first.mm; md = second.md ∙ first.md }
+
+-- A frame was run after these frames, its lines were given away, and then its operations landed.
+module _ (before middle b : Bench) (setup : Setup) (frames : List Frame) (frame : Frame) (same : IsSameFrame before middle) (lands : Lands middle b) where
+  kept : KeepsApps before b
+  kept = kept_twice before middle b same.apps lands.apps
+
+  landed : b.ram ≡ land [] before.ops before.ram
+  landed = lands.memory ∙ ap (λ (ops : List MemOp). land [] ops middle.ram) same.operations ∙ ap (λ (m : Memory). land [] before.ops m) same.memory
+
+  tables_same : b.tables ≡ before.tables
+  tables_same = lands.tables ∙ same.tables
+
+  pub has_next : before.number ≡ (run_of setup frames).number → before.tables ≡ (run_of setup frames).tables → RunsIn setup (run_of setup frames) frame before → Has b (run_of setup (frames ++ frame ∷ []))
+  has_next number tables ran =
+      subst (Has b) (sym (run_more setup frames frame))
+      (has_after before b setup (run_of setup frames) frame kept (lands.pipes ∙ same.pipes) (lands.log ∙ same.log) landed (lands.number ∙ ap (λ (n : ℕ). n + 1) (same.number ∙ number)) (tables_same ∙ tables) ran)
+
+  pub ready_next : IsReady before → IsReady b
+  ready_next ready = ready_by before b (ap (λ (m : Memory). regions_of m.areas) landed ∙ regions-changed _ before.ram.areas) tables_same kept ready
+
+-- what can be landed on the frame's image can be once its lines were given away
+pub can_land_still : (before middle : Bench) → IsSameFrame before middle → CanLand before.ram before.ops → CanLand middle.ram middle.ops
+can_land_still before middle same can = subst (λ (m : Memory). CanLand m middle.ops) (sym same.memory) (subst (λ (ops : List MemOp). CanLand before.ram ops) (sym same.operations) can)
 
 -- a bench that was opened stands for no frames
 pub stands_opened : (b : Bench) (setup : Setup) → b.epoch ≡ setup.epoch → b.failed ≡ false → b.block ≡ empty_block → b.number ≡ 0 → b.tables ≡ tables_of setup.files
@@ -175,13 +191,13 @@ stands_opened b setup epoch well waits number tables cs mm md given dwells pipes
     }
 
 -- the upsets of a frame that can be run lie in the bench's regions
-pub upsets_mapped : (b : Bench) (setup : Setup) (frames : List Frame) (frame : Frame) → Stands b setup frames → CanRun setup frames frame → All (λ (u : Upset). is_mapped (regions_of b.ram.areas) u.at ≡ true) frame.upsets
-upsets_mapped b setup frames frame stands can =
-    let same = ap (λ (m : Memory). regions_of m.areas) stands.has.memory ∙ run_regions setup frames in
+pub upsets_mapped : (b : Bench) (setup : Setup) (frames : List Frame) (frame : Frame) → Has b (run_of setup frames) → CanRun setup frames frame → All (λ (u : Upset). is_mapped (regions_of b.ram.areas) u.at ≡ true) frame.upsets
+upsets_mapped b setup frames frame has can =
+    let same = ap (λ (m : Memory). regions_of m.areas) has.memory ∙ run_regions setup frames in
     subst (λ (regions : List Region). All (λ (u : Upset). is_mapped regions u.at ≡ true) frame.upsets) (sym same) can.upsets
 
 -- the frame's time is a number of four bytes
-pub time_fits : (b : Bench) (setup : Setup) (frames : List Frame) (frame : Frame) → Stands b setup frames → CanRun setup frames frame → b.epoch + b.number < 4294967296
-time_fits b setup frames frame stands can =
-    let number = stands.has.number ∙ run_number setup frames in
-    omega (arith, number, stands.epoch, can.time)
+pub time_fits : (b : Bench) (setup : Setup) (frames : List Frame) (frame : Frame) → b.epoch ≡ setup.epoch → Has b (run_of setup frames) → CanRun setup frames frame → b.epoch + b.number < 4294967296
+time_fits b setup frames frame epoch has can =
+    let number = has.number ∙ run_number setup frames in
+    omega (arith, number, epoch, can.time)

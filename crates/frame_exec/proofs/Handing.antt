@@ -19,7 +19,7 @@ tells_alone None = refl
 tells_alone (Some bytes) = ap (λ (b : List ℕ). Some b) (append-nil bytes)
 
 -- nothing was given to an empty block, and no frame ended
-notes_begin : Notes [] 0 empty_block
+pub notes_begin : Notes [] 0 empty_block
 notes_begin = record { before = 0; size = refl; earlier = []; whole = refl; handed = λ k d within. absurd (omega arith); within = λ k d within. absurd (omega arith) }
 
 -- what waits is no more than what was given
@@ -27,7 +27,7 @@ few_wait : (count : ℕ) (block : Waiting) → Notes [] (0 + count) block → le
 few_wait count block notes = omega (arith, notes.size)
 
 -- what a sink took of a text whose rest waits
-cut : (text before after rest : List ℕ) (count : ℕ) → count ≤ length text → length rest ≤ count → after ++ rest ≡ before ++ take count text → after ≡ before ++ take (count - length rest) text
+pub cut : (text before after rest : List ℕ) (count : ℕ) → count ≤ length text → length rest ≤ count → after ++ rest ≡ before ++ take count text → after ≡ before ++ take (count - length rest) text
 cut text before after rest count within few same =
     let full : length (take count text) ≡ count = length-take count text ∙ omega arith in
     let sizes = sym (length-append after rest) ∙ ap (λ (xs : List ℕ). length xs) same ∙ length-append before (take count text) in

@@ -4,7 +4,9 @@ pub mod Offers
 pub mod Stamping
 pub mod Lines
 pub mod Handing
+pub mod Cutting
 pub mod Upsets
 pub mod Waking
 pub mod Frames
 pub mod Stepping
+pub mod Behind

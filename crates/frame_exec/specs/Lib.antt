@@ -2,6 +2,7 @@ pub mod Tables
 pub mod Sending
 pub mod Runs
 pub mod Standing
+pub mod Following
 pub mod Wakes
 pub mod Applications
 pub mod Ready

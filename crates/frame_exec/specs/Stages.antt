@@ -3,6 +3,7 @@ use Rattle.std.specs.Prelude.{◌≡◌, ℕ, ◌+◌, List, [], ◌∷◌, ◌+
 use Rattle.std.specs.List.{flat_map, fold, list_any}
 use Rattle.bus_pipes.specs.Delivery.{after_offers, drops_from}
 use Rattle.bus_pipes.specs.declared.names.Out.{Out}
+use Rattle.memory_window.specs.Landing.{land}
 use Rattle.mm_core.specs.Step.{mm_operations}
 use Rattle.packet_log.specs.Items.{item_line}
 use Rattle.packet_log.specs.Lines.{drop_line}
@@ -120,6 +121,18 @@ pub record IsSameFrame (old new : Bench) : Type 0 where
   pub log : new.log ≡ old.log
   pub operations : new.ops ≡ old.ops
   pub memory : new.ram ≡ old.ram
+
+-- the frame's operations have landed, and the next frame comes
+pub record Lands (old new : Bench) : Type 0 where
+  pub epoch : new.epoch ≡ old.epoch
+  pub number : new.number ≡ old.number + 1
+  pub failed : new.failed ≡ old.failed
+  pub tables : new.tables ≡ old.tables
+  pub apps : KeepsApps old new
+  pub pipes : new.bus ≡ old.bus
+  pub log : new.log ≡ old.log
+  pub waits : new.block ≡ old.block
+  pub memory : new.ram ≡ land [] old.ops old.ram
 
 -- the lines of what was sent and dropped
 abbrev pub lines_in : Bench → List ℕ

@@ -3,6 +3,7 @@
 ghost use Rattle.std.specs.Prelude.{◌≡◌};
 
 use crate::cs_slot::{CsReads, CsSlot};
+use crate::cut::Cut;
 use crate::giving::{OpenFault, refused_place};
 use crate::md_slot::{MdReads, MdSlot};
 use crate::mm_slot::{MmReads, MmSlot};
@@ -42,27 +43,28 @@ pub struct Bench {
     bus: Bus,
     log: Log,
     ram: Ram,
-    // the lines of a frame, until its end
+    // lines, until they are handed on
     block: Block,
     ghost drops_room: { drops.room ≡ 1525 },
 }
 
 impl Bench {
-    ghost use Rattle.std.specs.Prelude.{ℕ, ◌+◌, ◌<◌, ◌≤◌, List, [], ◌∷◌, ◌++◌, true, All, IfOk, OnOk, OnErr, is_err};
+    ghost use Rattle.std.specs.Prelude.{ℕ, ◌+◌, ◌-◌, ◌<◌, ◌≤◌, List, [], ◌∷◌, ◌++◌, length, true, ◌||◌, All, IfOk, IfErr, OnOk, OnErr, is_err};
     ghost use Rattle.fsw_outside.specs.Told.{WhereTold};
     ghost use Rattle.fsw_outside.specs.Causes.{HasCause};
     ghost use Rattle.fsw_outside.specs.Written.{WritesAll};
     ghost use Rattle.memory_window.specs.Regions.{is_mapped};
     ghost use Rattle.memory_window.specs.Memory.{regions_of};
-    ghost use Rattle.packet_log.specs.Blocks.{empty_block};
+    ghost use Rattle.packet_log.specs.Blocks.{Notes, Puts, empty_block, late_in, tells};
     ghost use Rattle.scenario.specs.declared.frame.Upset.{Upset};
     ghost use Rattle.scenario.specs.declared.frame.App.{App};
     ghost use Rattle.scenario.specs.FrameLists.{Frame};
-    ghost use Rattle.frame_exec.specs.Runs.{Setup, State, frame_lines};
+    ghost use Rattle.frame_exec.specs.Runs.{Setup, State, frame_lines, log_of};
     ghost use Rattle.frame_exec.specs.Standing.{Has, has_failed, IsReady, Stands, IsInterrupted, CanRun, setup_in};
+    ghost use Rattle.frame_exec.specs.Following.{Follows, IsCutAt, Adds};
     ghost use Rattle.frame_exec.specs.Tables.{SetGiven, AreLoaded, Opens, region_fault};
     ghost use Rattle.frame_exec.specs.Landable.{CanLand};
-    ghost use Rattle.frame_exec.specs.Stages.{IsSameRun, IsUpset, Takes, IsClear, Steps, CanSend, Sends, RunsIn, IsSameFrame, lines_in};
+    ghost use Rattle.frame_exec.specs.Stages.{IsSameRun, IsUpset, Takes, IsClear, Steps, CanSend, Sends, RunsIn, IsSameFrame, Lands, lines_in};
 
     /// A bench with the tables that were loaded from these files and the memory of the header's map, which stands for no
     /// frames; the number of workers is from 1 to 16. `Region` comes exactly where that memory refuses the read of a dwell
@@ -78,6 +80,7 @@ impl Bench {
         requires workers { (1 ≤ workers) × (workers ≤ 16) }
         requires loaded { AreLoaded files.now tables }
         ensures stands { IfOk result (λ bench. Stands bench (setup_in header.now files.now) []) }
+        ensures follows { IfOk result (λ bench. Follows bench (setup_in header.now files.now) [] []) }
         ensures refused { Opens (region_fault header.now.map files.now) result }
     {
         let _ = workers;
@@ -144,8 +147,7 @@ impl Bench {
         self.run(input);
         match self.write(sink) {
             Ok(()) => {
-                self.ram.land(self.ops.items());
-                self.number += 1;
+                self.land();
                 Ok(())
             }
             Err(failed) => {
@@ -153,6 +155,76 @@ impl Bench {
                 Err(failed)
             }
         }
+    }
+
+    /// Runs a frame, puts its lines behind those that wait, and lands its operations once all of them were put. Where they
+    /// don't fit, what waits is handed on first. Where that fails, the error says how many earlier frames weren't handed on
+    /// whole.
+    pub fn add_frame<R: Threads + Sync, G: Gate, O: Sink>(
+        &mut self,
+        rt: &R,
+        input: &FrameInput,
+        gate: &G,
+        sink: &mut O,
+    ) -> Result<(), Cut>
+        requires started { (setup : Setup) × (earlier : List Frame) × (later : List Frame) × Follows self.old setup earlier later × CanRun setup (earlier ++ later) input.now }
+        ensures follows { (setup : Setup) (earlier later : List Frame) → Follows self.old setup earlier later → OnOk result (Follows self.new setup earlier (later ++ input.now ∷ [])) }
+        ensures told { (setup : Setup) (earlier later : List Frame) → Follows self.old setup earlier later
+            → OnOk result (WhereTold (tells (O.held sink.old) self.old.block) (tells (O.held sink.new) self.new.block) (λ before after. after ≡ before ++ frame_lines setup (earlier ++ later) input.now)) }
+        ensures cut { (setup : Setup) (earlier later : List Frame) → Follows self.old setup earlier later
+            → IfErr result (λ cut. (cut.late ≤ length later) × WhereTold (tells (O.held sink.old) self.old.block) (O.held sink.new) (λ before after. (start : List ℕ)
+            → before ≡ start ++ log_of setup (earlier ++ later) → IsCutAt setup ((earlier ++ later) ++ input.now ∷ []) (length (earlier ++ later) - cut.late) start after)) }
+        ensures cause { HasCause (O.held sink.new) (O.faults sink.old) (O.faults sink.new) result }
+        ensures failed { has_failed self.new ≡ is_err result }
+    {
+        let _ = rt;
+        let _ = gate;
+        self.run(input);
+        match self.add_lines(sink) {
+            Ok(()) => {
+                self.land();
+                Ok(())
+            }
+            Err(_) => Err(self.cut()),
+        }
+    }
+
+    /// Hands on all lines that wait. Where that fails, the error says how many frames weren't handed on whole.
+    pub fn flush<O: Sink>(&mut self, sink: &mut O) -> Result<(), Cut>
+        ensures follows { (setup : Setup) (earlier later : List Frame) → Follows self.old setup earlier later → OnOk result (Follows self.new setup (earlier ++ later) []) }
+        ensures told { WhereTold (tells (O.held sink.old) self.old.block) (tells (O.held sink.new) self.new.block) (λ before after. after ≡ before) }
+        ensures handed { OnOk result (self.new.block ≡ empty_block) }
+        ensures cut { (setup : Setup) (earlier later : List Frame) → Follows self.old setup earlier later
+            → IfErr result (λ cut. (0 < cut.late) × (cut.late ≤ length later) × WhereTold (tells (O.held sink.old) self.old.block) (O.held sink.new) (λ before after. (start : List ℕ)
+            → before ≡ start ++ log_of setup (earlier ++ later) → IsCutAt setup (earlier ++ later) (length (earlier ++ later) - cut.late) start after)) }
+        ensures cause { HasCause (O.held sink.new) (O.faults sink.old) (O.faults sink.new) result }
+        ensures failed { has_failed self.new ≡ has_failed self.old || is_err result }
+    {
+        match self.block.flush(sink) {
+            Ok(()) => Ok(()),
+            Err(_) => Err(self.cut()),
+        }
+    }
+
+    // Marks the bench as failed, and says how many frames weren't handed on whole.
+    fn cut(&mut self) -> Cut
+        ensures late { (ends : List ℕ) (given : ℕ) → Notes ends given self.old.block → result.late ≡ late_in ends (given - length self.old.block.bytes) }
+        ensures cut { self.new ≡ record self.old { failed = true } }
+    {
+        self.failed = true;
+        Cut {
+            late: self.block.late_frames(),
+        }
+    }
+
+    // Lands the frame's operations, and goes on to the next frame.
+    fn land(&mut self)
+        requires number { self.old.number < 4294967296 }
+        requires can_land { CanLand self.old.ram self.old.ops }
+        ensures { Lands self.old self.new }
+    {
+        self.ram.land(self.ops.items());
+        self.number += 1;
     }
 
     // Writes the frame's upsets.
@@ -245,20 +317,44 @@ impl Bench {
         ensures same { IsSameFrame self.old self.new }
         ensures handed { OnOk result (self.new.block ≡ empty_block) }
     {
+        let Ok(()) = self.put_lines(sink) else {
+            return Err(Failed);
+        };
+        self.block.flush(sink)
+    }
+
+    // Puts the lines of the frame that was run behind those that wait, and notes where they end.
+    fn add_lines<O: Sink>(&mut self, sink: &mut O) -> Result<(), Failed>
+        requires number { self.old.number < 4294967296 }
+        ensures adds { Adds result (lines_in self.old) self.old.block self.new.block (O.held sink.old) (O.held sink.new) }
+        ensures cause { HasCause (O.held sink.new) (O.faults sink.old) (O.faults sink.new) result }
+        ensures same { IsSameFrame self.old self.new }
+    {
+        let Ok(()) = self.put_lines(sink) else {
+            return Err(Failed);
+        };
+        self.block.mark_end(sink)
+    }
+
+    // Puts the lines of the frame that was run behind those that wait.
+    fn put_lines<O: Sink>(&mut self, sink: &mut O) -> Result<(), Failed>
+        requires number { self.old.number < 4294967296 }
+        ensures puts { Puts result (lines_in self.old) self.old.block self.new.block (O.held sink.old) (O.held sink.new) }
+        ensures left { OnErr result (0 < length self.new.block.bytes) }
+        ensures cause { HasCause (O.held sink.new) (O.faults sink.old) (O.faults sink.new) result }
+        ensures same { IsSameFrame self.old self.new }
+    {
         if self.is_silent() {
             return Ok(());
         }
         let lists = in_order(&self.cs, &self.mm, &self.md);
-        let Ok(()) = put_frame(
+        put_frame(
             &mut self.block,
             sink,
             self.number as u32,
             &lists,
             self.drops.items(),
-        ) else {
-            return Err(Failed);
-        };
-        self.block.flush(sink)
+        )
     }
 
     // Whether nothing was sent nor dropped in the frame that was run.

@@ -4,6 +4,7 @@
 mod application;
 mod bench;
 mod cs_slot;
+mod cut;
 mod giving;
 pub mod laws;
 mod loading;
@@ -14,6 +15,7 @@ mod stages;
 mod tables;
 
 pub use bench::Bench;
+pub use cut::Cut;
 pub use giving::OpenFault;
 pub use loading::TablesFault;
 pub use tables::Tables;

@@ -1,35 +1,29 @@
-use Rattle.std.proofs.Common.{ℕ, ◌+◌, List, [], ◌++◌, sym, ◌∙◌, ap, subst, arith}
-use Rattle.std.specs.List.{All}
-use Rattle.memory_window.specs.Access.{Admitted}
-use Rattle.memory_window.specs.Operations.{IsBacked}
-use Rattle.memory_window.specs.Memory.{Memory}
-use Rattle.memory_window.specs.Landing.{land}
-use Rattle.memory_window.specs.declared.operations.MemOp.{MemOp}
+use Rattle.std.proofs.Common.{ℕ, List, ◌++◌, ◌∙◌, ap, subst, arith}
+use Rattle.frame_exec.specs.Runs.{run_of}
 use Rattle.fsw_outside.specs.Written.{AppendsPart}
 use Rattle.fsw_outside.proofs.Telling.{told_map}
-use Rattle.frame_exec.specs.Runs.{run_of}
-use Rattle.frame_exec.proofs.Frames.{lines_are, stands_after, upsets_mapped, time_fits}
+use Rattle.frame_exec.proofs.Frames.{lines_are, has_next, ready_next, can_land_still, upsets_mapped, time_fits}
 use Rattle.frame_exec.proofs.bench.Bench.frame.Goals as goal
 
 pub run-requires-clause-time : goal.run-requires-clause-time
-run-requires-clause-time g c = let s = c.requires.started in time_fits c.args.self.now s.0 s.1 c.args.input.now s.2 s.3
+run-requires-clause-time g c = let s = c.requires.started in time_fits c.args.self.now s.0 s.1 c.args.input.now s.2.epoch s.2.has s.3
 
 pub run-requires-clause-upsets : goal.run-requires-clause-upsets
-run-requires-clause-upsets g c = let s = c.requires.started in upsets_mapped c.args.self.now s.0 s.1 c.args.input.now s.2 s.3
+run-requires-clause-upsets g c = let s = c.requires.started in upsets_mapped c.args.self.now s.0 s.1 c.args.input.now s.2.has s.3
 
 pub write-requires : goal.write-requires
 write-requires g c =
     let s = c.requires.started in
-    let fits = time_fits c.args.self.now s.0 s.1 c.args.input.now s.2 s.3 in
+    let fits = time_fits c.args.self.now s.0 s.1 c.args.input.now s.2.epoch s.2.has s.3 in
     let same = c.run.ensures.run.number in
     record { number = omega (arith, fits, same); none = c.run.ensures.run.waits ∙ s.2.waits }
 
-pub overflow_add-self : goal.overflow_add-self
-overflow_add-self g c =
+pub land-requires : goal.land-requires
+land-requires g c =
     let s = c.requires.started in
-    let fits = time_fits c.args.self.now s.0 s.1 c.args.input.now s.2 s.3 in
-    let number = c.write.ensures.same.number ∙ c.run.ensures.run.number in
-    search (arith, fits, number)
+    let fits = time_fits c.args.self.now s.0 s.1 c.args.input.now s.2.epoch s.2.has s.3 in
+    let number = c.in-Ok.ensures.same.number ∙ c.run.ensures.run.number in
+    record { number = omega (arith, fits, number); can_land = can_land_still c.run.new.self c.write.new.self c.in-Ok.ensures.same c.run.ensures.can_land }
 
 pub returns-in-Ok-clause-lines : goal.returns-in-Ok-clause-lines
 returns-in-Ok-clause-lines g c = λ setup frames stands.
@@ -41,19 +35,14 @@ pub returns-in-Ok-clause-stands : goal.returns-in-Ok-clause-stands
 returns-in-Ok-clause-stands g c = λ setup frames stands.
     let run = c.run.ensures.run in
     let same = c.in-Ok.ensures.same in
-    let image = c.run.new.self.ram in
-    stands_after c.run.new.self _ setup frames c.args.input.now (same.epoch ∙ run.epoch ∙ stands.epoch) (same.failed ∙ run.failed ∙ stands.well) c.in-Ok.ensures.handed
-    (ap (λ (n : ℕ). n + 1) (same.number ∙ run.number ∙ stands.has.number)) (record { cs = same.apps.cs; mm = same.apps.mm; md = same.apps.md }) same.pipes same.log
-    (c.land.ensures.land ∙ ap (λ (ops : List MemOp). land [] ops c.write.new.self.ram) (c.items.ensures.items ∙ same.operations) ∙ ap (λ (m : Memory). land [] c.run.new.self.ops m) same.memory)
-    same.tables (run.tables ∙ stands.has.tables) c.run.ensures.ready (c.run.ensures.runs setup (run_of setup frames) stands.epoch stands.has)
-
-pub land-requires-clause-admitted : goal.land-requires-clause-admitted
-land-requires-clause-admitted g c =
-    let same = c.in-Ok.ensures.same in
-    subst (λ (m : Memory). All (Admitted m) c.items.result.now) (sym same.memory) (subst (λ (ops : List MemOp). All (Admitted c.run.new.self.ram) ops) (sym (c.items.ensures.items ∙ same.operations)) c.run.ensures.can_land.admitted)
-
-pub land-requires-clause-backed : goal.land-requires-clause-backed
-land-requires-clause-backed g c = subst (λ (ops : List MemOp). All (IsBacked []) ops) (sym (c.items.ensures.items ∙ c.in-Ok.ensures.same.operations)) c.run.ensures.can_land.backed
+    record {
+      epoch = c.land.ensures.epoch ∙ same.epoch ∙ run.epoch ∙ stands.epoch;
+      well = c.land.ensures.failed ∙ same.failed ∙ run.failed ∙ stands.well;
+      waits = c.land.ensures.waits ∙ c.in-Ok.ensures.handed;
+      has = has_next c.run.new.self c.write.new.self c.land.new.self setup frames c.args.input.now same c.land.ensures (run.number ∙ stands.has.number) (run.tables ∙ stands.has.tables)
+          (c.run.ensures.runs setup (run_of setup frames) stands.epoch stands.has);
+      ready = ready_next c.run.new.self c.write.new.self c.land.new.self setup frames c.args.input.now same c.land.ensures c.run.ensures.ready;
+    }
 
 pub returns-in-Err-clause-interrupted : goal.returns-in-Err-clause-interrupted
 returns-in-Err-clause-interrupted g c = λ setup frames stands. record { memory = c.in-Err.ensures.same.memory ∙ (c.run.ensures.runs setup (run_of setup frames) stands.epoch stands.has).memory }

@@ -1,0 +1,12 @@
+use Rattle.std.proofs.Common.{◌++◌}
+use Rattle.frame_exec.proofs.Behind.{has_beside, ready_beside, begins_behind, cut_flushed}
+use Rattle.frame_exec.proofs.bench.Bench.flush.Goals as goal
+
+pub returns-in-Ok-clause-follows : goal.returns-in-Ok-clause-follows
+returns-in-Ok-clause-follows g c = λ setup earlier later follows.
+    begins_behind (record c.args.self.now { block = c.flush.new.self; drops_room = c.self-1.given.0 }) setup (earlier ++ later) follows.epoch follows.well
+    (has_beside c.args.self.now c.flush.new.self c.self-1.given.0 _ follows.has) (ready_beside c.args.self.now c.flush.new.self c.self-1.given.0 follows.ready) c.in-Ok.ensures.handed
+
+pub returns-in-Err-clause-cut : goal.returns-in-Err-clause-cut
+returns-in-Err-clause-cut g c = λ setup earlier later follows.
+    cut_flushed setup earlier later c.args.self.now.block c.flush.new.self _ _ _ (c.flush.ensures.notes _ _ follows.notes) c.in-Err.ensures.left c.flush.ensures.told c.cut.ensures.late
