@@ -11,7 +11,7 @@ use Rattle.scenario.specs.Standing.{Stands}
 use Rattle.scenario.proofs.TextLaws.{texts_grow, given_are_good, items_have_stops, stops_stay}
 use Rattle.rehearsal.specs.declared.report.Report.{Report}
 use Rattle.rehearsal.specs.declared.report.Status.TheVariants as statuses
-use Rattle.rehearsal.specs.Reading.{StopsAt}
+use Rattle.rehearsal.specs.Text.{StopsAt}
 use Rattle.rehearsal.specs.Outcome.{frames_of, ReadsAhead}
 
 -- what holds of a report holds of an equal one

@@ -1,5 +1,5 @@
 -- How a scenario's reading begins.
-use Rattle.std.proofs.Common.{◌≡◌, ℕ, ◌+◌, ◌<◌, ◌≤◌, Bool, false, List, [], ◌∷◌, ◌++◌, length, refl, sym, ◌∙◌, ap, append-nil, arith, Option, Some, Err, IsTrue}
+use Rattle.std.proofs.Common.{◌≡◌, ℕ, ◌+◌, ◌<◌, ◌≤◌, Bool, false, List, [], ◌∷◌, ◌++◌, length, refl, sym, ◌∙◌, ap, subst, append-nil, arith, Option, Some, None, Err, IsTrue}
 use Rattle.std.specs.Prelude.{slice_index}
 use Rattle.fsw_outside.specs.Files.{Stored, Content, file_named}
 use Rattle.memory_window.specs.declared.regions.Region.{Region}
@@ -7,9 +7,10 @@ use Rattle.scenario.specs.declared.reader.Reader.{Reader}
 use Rattle.scenario.specs.Texts.{Text, Given, Head, Open, reading, read_bytes, read}
 use Rattle.scenario.specs.Standing.{Stands}
 use Rattle.rehearsal.specs.Fed.{Fed, nothing_read}
-use Rattle.rehearsal.specs.Reading.{Holds, IsRead}
+use Rattle.rehearsal.specs.Text.{Holds, IsRead}
 use Rattle.rehearsal.specs.declared.report.Status.TheVariants as statuses
 use Rattle.rehearsal.specs.declared.report.Report.{Report}
+use Rattle.rehearsal.specs.Run.{Begins}
 use Rattle.rehearsal.specs.Outcome.{frames_of, setup_of, refused_read, fault_report, log_in, IsText, IsTextOf, ReadsAhead, Outcome}
 use Rattle.rehearsal.proofs.Outcomes.{log_in_none, whole_of, is_closed, parts_whole, refused_append}
 use Rattle.frame_exec.specs.Runs.{Setup}
@@ -17,7 +18,8 @@ use Rattle.frame_exec.specs.Tables.{tables_fault, first_said, region_fault, Open
 use Rattle.frame_exec.specs.declared.giving.OpenFault.{OpenFault}
 use Rattle.frame_exec.specs.declared.giving.OpenFault.TheVariants as faults
 use Rattle.frame_exec.specs.declared.loading.TablesFault.{TablesFault}
-use Rattle.frame_exec.specs.Standing.{Stands as BenchStands}
+use Rattle.packet_log.specs.Blocks.{empty_block}
+use Rattle.frame_exec.specs.Following.{Follows}
 use Rattle.frame_exec.specs.declared.bench.Bench.{Bench}
 
 -- a text of which nothing was read
@@ -83,9 +85,16 @@ pub nothing_reads : reading unread ≡ record { items = []; ending = Open; stops
 unfolding reading read_bytes read
 nothing_reads = refl
 
--- the bench that was opened stands for no frames of the text
-pub opened : (files : List (List ℕ)) (bench : Bench) (item : Given) (setup : Setup) → BenchStands bench setup [] → setup_of files (item ∷ []) ≡ setup → frames_of (item ∷ []) ≡ [] → BenchStands bench (setup_of files (item ∷ [])) (frames_of (item ∷ []))
-opened files bench item setup stands same none = rw (same, none) stands
+-- the bench that was opened begins to run the frames of the text
+pub opened : (files : List (List ℕ)) (bench : Bench) (item : Given) (epoch : ℕ) (regions : List Region) (rest : List Given) → Follows bench (record { epoch = epoch; regions = regions; files = files }) [] []
+    → bench.block ≡ empty_block → item ∷ [] ≡ Head epoch regions ∷ rest → region_fault regions files ≡ None → Begins bench files (item ∷ [])
+opened files bench item epoch regions rest follows waits head given = record {
+  waits = waits;
+  follows = subst (λ (setup : Setup). Follows bench setup [] []) (sym (header_setup files item epoch regions rest head)) follows;
+  given = header_refuses files item epoch regions rest head ∙ given;
+  none = header_alone item epoch regions rest head;
+  some = omega arith;
+}
 
 -- no file is open, and so nothing was handed out
 pub none_handed_out : (is_open : Bool) (before faults : ℕ) (file : Option (List ℕ)) (rest : List ℕ) → is_open ≡ false

@@ -13,9 +13,8 @@ use Rattle.scenario.specs.Answers.{answer_at_end}
 use Rattle.rehearsal.specs.declared.report.Status.{Status}
 use Rattle.rehearsal.specs.declared.report.Status.TheVariants as statuses
 use Rattle.rehearsal.specs.declared.report.Report.{Report}
-use Rattle.rehearsal.specs.AcceptedWords.{Asked}
-use Rattle.rehearsal.specs.FileWords.{refusal_behind, refusal_after, first_refusal, AreTaken}
-use Rattle.rehearsal.specs.Gathering.{RefusesFile, EndsAtFileBy}
+use Rattle.rehearsal.specs.Words.{Asked}
+use Rattle.rehearsal.specs.Files.{refusal_behind, refusal_after, first_refusal, AreTaken, RefusesFile, EndsAtFileBy}
 use Rattle.frame_exec.specs.Tables.{tables_fault}
 use Rattle.rehearsal.specs.Outcome.{IsText, refused_read, GivesReads, OutcomeOf, Outcome, Seen, Rehearses, Completes}
 use Rattle.rehearsal.proofs.Gathered.{none_before}

@@ -10,9 +10,8 @@ use Rattle.frame_exec.specs.declared.loading.TablesFault.{TablesFault}
 use Rattle.rehearsal.specs.declared.report.Report.{Report}
 use Rattle.rehearsal.specs.declared.report.Status.{Status}
 use Rattle.rehearsal.specs.declared.report.Status.TheVariants as statuses
-use Rattle.rehearsal.specs.AcceptedWords.{Asked}
-use Rattle.rehearsal.specs.FileWords.{Refusal, refused_or, refusal_behind, refusal_after, first_refusal, AreTaken}
-use Rattle.rehearsal.specs.Gathering.{EndsAtFileBy, RefusesFile, FailsAtFile}
+use Rattle.rehearsal.specs.Words.{Asked}
+use Rattle.rehearsal.specs.Files.{Refusal, refused_or, refusal_behind, refusal_after, first_refusal, AreTaken, EndsAtFileBy, RefusesFile, FailsAtFile}
 use Rattle.rehearsal.specs.Lines.{Rehearsed, FailsOn, Refuses, ReadsText}
 use Rattle.rehearsal.specs.Outcome.{frames_of, IsText, IsCut, refused_read, GivesReads, IsRefusedAt, OutcomeOf, Outcome, Seen, Rehearses}
 use Rattle.rehearsal.proofs.Outcomes.{refused_none}

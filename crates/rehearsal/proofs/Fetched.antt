@@ -1,8 +1,8 @@
 -- How much of a file was read.
 use Rattle.std.proofs.Common.{◌≡◌, ℕ, ◌≤◌, List, ◌++◌, length, refl, sym, ◌∙◌, ap}
-use Rattle.rehearsal.specs.declared.fetching.Unread.{Unread}
-use Rattle.rehearsal.specs.declared.fetching.Unread.TheVariants as unread
-use Rattle.rehearsal.specs.Fetching.{IsPart, IsUnread}
+use Rattle.rehearsal.specs.declared.files.Unread.{Unread}
+use Rattle.rehearsal.specs.declared.files.Unread.TheVariants as unread
+use Rattle.rehearsal.specs.Files.{IsPart, IsUnread}
 
 -- reading stopped before the file's end
 pub stopped : (why : Unread) (bytes start middle after : List ℕ) → (why ≡ unread.TooLong → ⊥) → length bytes ≤ 65700 → start ≡ bytes ++ middle → (why ≡ unread.Failed → after ≡ middle) → IsUnread why start after

@@ -4,12 +4,9 @@ use Rattle.std.proofs.Math.ListN.{get_or-append}
 use Rattle.std.proofs.Math.Seq.{take-suc, get_or-append_seam}
 use Rattle.std.proofs.lemmas.List.{map-append, take_all}
 use Rattle.fsw_outside.specs.Files.{Stored, Content, file_named}
-use Rattle.rehearsal.specs.Asking.{AsksFor, OpensOnce, noted_name}
-use Rattle.rehearsal.specs.FileWords.{Refusal, refused_or, refusal_behind, refusal_after, first_refusal, AreTaken}
-use Rattle.rehearsal.specs.Gathering.{EndsAtFile, stop_report}
-use Rattle.rehearsal.specs.declared.gathering.Stop.{Stop}
-use Rattle.rehearsal.specs.declared.gathering.Stop.TheVariants as stops
-use Rattle.rehearsal.specs.Fetching.{Takes}
+use Rattle.rehearsal.specs.Files.{AsksFor, OpensOnce, noted_name, Refusal, refused_or, refusal_behind, refusal_after, first_refusal, AreTaken, EndsAtFile, stop_report, Takes}
+use Rattle.rehearsal.specs.declared.files.Stop.{Stop}
+use Rattle.rehearsal.specs.declared.files.Stop.TheVariants as stops
 
 -- none of the first files is refused where no file is
 pub none_before : (n : ℕ) (reason : Option ℕ) (behind : Option Refusal) → refused_or n reason behind ≡ None → (reason ≡ None) × (behind ≡ None)

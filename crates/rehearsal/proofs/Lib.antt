@@ -6,6 +6,7 @@ pub mod Beginnings
 pub mod WordLists
 pub mod Completeness
 pub mod Ahead
+pub mod Running
 pub mod Fetched
 pub mod Gathered
 pub mod Stages

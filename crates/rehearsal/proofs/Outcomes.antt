@@ -4,7 +4,6 @@ use Rattle.std.specs.Prelude.{◌==◌, ◌&&◌, IsSome}
 use Rattle.std.proofs.lemmas.Bool.Decides.{nat_tests}
 use Rattle.std.proofs.lemmas.Grind.{flat_map-append}
 use Rattle.fsw_outside.specs.Files.{Content}
-use Rattle.fsw_outside.specs.Written.{AppendsPart}
 use Rattle.scenario.specs.declared.reader.Reader.{Reader}
 use Rattle.scenario.specs.declared.item.Item.TheVariants as answers
 use Rattle.scenario.specs.FrameLists.{Frame}
@@ -12,11 +11,12 @@ use Rattle.scenario.specs.Texts.{Text, Given, Head, Whole, Reading, Open, readin
 use Rattle.scenario.specs.Answers.{answer_at_end}
 use Rattle.frame_exec.specs.Runs.{Setup, frame_lines}
 use Rattle.frame_exec.specs.declared.bench.Bench.{Bench}
-use Rattle.frame_exec.specs.Standing.{Stands as BenchStands, CanRun}
+use Rattle.frame_exec.specs.Following.{Follows}
+use Rattle.frame_exec.specs.Standing.{CanRun}
 use Rattle.frame_exec.proofs.Frames.{log_more, log_none}
 use Rattle.rehearsal.specs.Fed.{Fed}
-use Rattle.rehearsal.specs.Reading.{Holds, IsRead}
-use Rattle.rehearsal.specs.Outcome.{frame_in_item, frames_of, setup_of, refused_read, log_in, IsTextOf, IsWhole, IsCut, Outcome}
+use Rattle.rehearsal.specs.Text.{Holds, IsRead}
+use Rattle.rehearsal.specs.Outcome.{frame_in_item, frames_of, setup_of, refused_read, log_in, IsTextOf, IsWhole, Outcome}
 use Rattle.rehearsal.specs.declared.report.Status.TheVariants as statuses
 use Rattle.rehearsal.specs.declared.report.Report.{Report}
 use Rattle.scenario.proofs.TextLaws.{texts_grow}
@@ -130,21 +130,6 @@ pub log_in_none : (files : List (List ℕ)) (got : List Given) → frames_of got
 unfolding log_in
 log_in_none files got none = rw none (log_none (setup_of files got))
 
--- the log of the first frames, and a part of the next frame's lines
-pub cut : (files : List (List ℕ)) (frames : ℕ) (got rest : List Given) (f : Frame) (whole : Reading) (old middle new : List ℕ) → 0 < length got → whole.items ≡ (got ++ Whole f ∷ []) ++ rest
-    → frames ≡ length (frames_of got) → middle ≡ old ++ log_in files got → AppendsPart (frame_lines (setup_of files got) (frames_of got) f) middle new → IsCut frames files whole old new
-unfolding log_in
-cut files frames got rest f whole old middle new some items number written part =
-    let setup : setup_of files whole.items ≡ setup_of files got = ap (setup_of files) (items ∙ append_assoc got (Whole f ∷ []) rest) ∙ setup_append files got (Whole f ∷ rest) some in
-    record {
-      front = frames_of got;
-      frame = f;
-      more = frames_of rest;
-      parts = ap frames_of items ∙ frames_append (got ++ Whole f ∷ []) rest ∙ ap (λ xs. xs ++ frames_of rest) (frames_more got f) ∙ append_assoc (frames_of got) (f ∷ []) (frames_of rest);
-      number = number;
-      written = rw setup (subst (λ (bytes : List ℕ). AppendsPart (frame_lines (setup_of files got) (frames_of got) f) bytes new) written part);
-    }
-
 -- items that were read are a first part of those of the whole text
 pub parts_whole : (got : List Given) (rest more all whole : List Given) → all ≡ got ++ rest → whole ≡ all ++ more → whole ≡ got ++ (rest ++ more)
 parts_whole got rest more all whole first grown = grown ∙ ap (λ xs. xs ++ more) first ∙ append_assoc got rest more
@@ -181,14 +166,7 @@ pub refused_at : (files : List (List ℕ)) (report : Report) (line reason frames
 refused_at files report line reason frames now whole got old new is given same all bad number written =
     rw is (refl, refused_whole files got (reading now) (reading whole) same all given, ap (λ (r : Reading). answer_at_end r.ending) same ∙ sym bad, whole_log files frames got (reading now) (reading whole) old new same all number written)
 
--- the output failed, and a first part of the log was written
-pub write_failed : (files : List (List ℕ)) (report : Report) (frames : ℕ) (whole : Text) (got rest : List Given) (f : Frame) (old middle new : List ℕ)
-    → report ≡ record { status = statuses.WriteFailed; file = 0; line = 0; reason = 0; frames = frames } → refused_read files got ≡ None → 0 < length got → (reading whole).items ≡ (got ++ Whole f ∷ []) ++ rest
-    → frames ≡ length (frames_of got) → middle ≡ old ++ log_in files got → AppendsPart (frame_lines (setup_of files got) (frames_of got) f) middle new → Outcome report files whole old new
-write_failed files report frames whole got rest f old middle new is given some items number written part =
-    rw is (record { file = refl; line = refl; reason = refl }, ap (refused_read files) (items ∙ append_assoc got (Whole f ∷ []) rest) ∙ refused_append files got (Whole f ∷ rest) some ∙ given, cut files frames got rest f (reading whole) old middle new some items number written part)
-
 -- the next frame can be run
-pub runs_next : (files : List (List ℕ)) (bench : Bench) (got : List Given) (f : Frame) → BenchStands bench (setup_of files got) (frames_of got) → CanRun (setup_of files got) (frames_of got) f
-    → (setup : Setup) × (frames : List Frame) × BenchStands bench setup frames × CanRun setup frames f
-runs_next files bench got f stands can = (setup_of files got, frames_of got, stands, can)
+pub runs_next : (files : List (List ℕ)) (bench : Bench) (got : List Given) (earlier later : List Frame) (f : Frame) → Follows bench (setup_of files got) earlier later → frames_of got ≡ earlier ++ later
+    → CanRun (setup_of files got) (frames_of got) f → (setup : Setup) × (earlier : List Frame) × (later : List Frame) × Follows bench setup earlier later × CanRun setup (earlier ++ later) f
+runs_next files bench got earlier later f follows are can = (setup_of files got, earlier, later, follows, subst (λ (frames : List Frame). CanRun (setup_of files got) frames f) are can)

@@ -3,7 +3,7 @@ use Rattle.std.proofs.Common.{◌≡◌, ℕ, ◌+◌, ◌<◌, ◌≤◌, Bool,
 use Rattle.std.specs.Prelude.{◌==◌}
 use Rattle.std.proofs.lemmas.Bool.Decides.{nat_tests}
 use Rattle.std.proofs.lemmas.List.{take-append-drop, length-take-le}
-use Rattle.rehearsal.specs.declared.feeding.Next.TheVariants as nexts
+use Rattle.rehearsal.specs.declared.text.Next.TheVariants as nexts
 use Rattle.fsw_outside.specs.Files.{Content}
 use Rattle.scenario.specs.declared.reader.Reader.{Reader}
 use Rattle.scenario.specs.declared.item.Item.TheVariants as answers
@@ -13,16 +13,21 @@ use Rattle.scenario.proofs.TextLaws.{open_is_bounded}
 use Rattle.rehearsal.proofs.Endings.{open_at_more}
 use Rattle.scenario.specs.Standing.{Stands, fed, closed, left}
 use Rattle.rehearsal.specs.Fed.{Fed}
-use Rattle.rehearsal.specs.Asking.{IsSameOpening}
-use Rattle.rehearsal.specs.Reading.{Holds, IsRead, Gives, work_left}
+use Rattle.rehearsal.specs.Files.{IsSameOpening}
+use Rattle.rehearsal.specs.Text.{Holds, IsRead, IsFedOn, Gives, work_left}
 
--- and is no longer pending
-pub read_fed : (text : Text) (pending : List ℕ) (taken : ℕ) (start after : Content) → text.closed ≡ false
-    → IsRead text pending start after → IsRead (fed text (take taken pending)) (drop taken pending) start after
-read_fed text pending taken start after is_open read = record {
-  same = read.same;
-  parts = read.parts ∙ ap (λ bytes. bytes ++ after.rest) (ap (λ bytes. text.bytes ++ bytes) (sym (take-append-drop taken pending)) ∙ sym (append_assoc text.bytes (take taken pending) (drop taken pending)));
-  ended = read.ended;
+-- nothing was fed yet
+pub fed_none : (text : Text) (pending : List ℕ) → IsFedOn text pending text pending
+fed_none text pending = record { bytes = refl; closed = refl }
+
+-- some more of what is pending was fed
+pub fed_on_again : (text now : Text) (pending between rest : List ℕ) (taken : ℕ) → rest ≡ drop taken between → IsFedOn text pending now between
+    → IsFedOn text pending (fed now (take taken between)) rest
+fed_on_again text now pending between rest taken is so = record {
+  bytes =
+      ap (λ (more : List ℕ). (now.bytes ++ take taken between) ++ more) is ∙ append_assoc now.bytes (take taken between) (drop taken between)
+      ∙ ap (λ (bytes : List ℕ). now.bytes ++ bytes) (take-append-drop taken between) ∙ so.bytes;
+  closed = so.closed;
 }
 
 -- less work is left once some of the pending bytes were fed
@@ -57,6 +62,10 @@ pub less_after : (a b c : Reader) (f g : Fed) → left b ≤ left a → work_lef
 unfolding work_left
 less_after a b c f g more less = omega (arith, more, less)
 
+pub left_after : (first a b : Reader) (f g : Fed) → left b ≤ left a → work_left a g ≤ work_left first f → work_left b g ≤ work_left first f
+unfolding work_left
+left_after first a b f g more less = omega (arith, more, less)
+
 -- few bytes were read of a text of which more is wanted
 pub few_read : (reader : Reader) (f : Fed) (text : Text) (gave : List Given) → Holds reader f text gave → f.pending ≡ [] → text.closed ≡ false → answers.More ≡ answer_at_end (reading text).ending
     → f.total ≤ 16777856
@@ -82,7 +91,7 @@ none_left pending piece test same is holds =
 
 -- the shelf failed once all that it handed out was fed
 pub failed_on : (reader : Reader) (f : Fed) (text now : Text) (gave : List Given) → Holds reader f now gave → now ≡ text → f.pending ≡ [] → text.closed ≡ false
-    → gave ≡ (reading text).items → answers.More ≡ answer_at_end (reading text).ending → Gives nexts.Failed reader f now gave
+    → gave ≡ (reading text).items → answers.More ≡ answer_at_end (reading text).ending → Gives nexts.Dry reader f now gave
 failed_on reader f text now gave h same none is_open all more = (
   h,
   subst (λ (t : Text). gave ≡ (reading t).items) (sym same) all,

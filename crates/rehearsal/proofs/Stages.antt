@@ -1,5 +1,5 @@
 -- How a rehearsal's stages come together.
-use Rattle.std.proofs.Common.{◌≡◌, ℕ, ◌+◌, ◌<◌, List, [], length, refl, sym, ◌∙◌, inl, inr, Option, Some}
+use Rattle.std.proofs.Common.{◌≡◌, ℕ, ◌+◌, ◌<◌, List, [], length, refl, sym, ◌∙◌, subst, inl, inr, Option, Some}
 use Rattle.std.specs.Prelude.{None}
 use Rattle.fsw_outside.specs.Told.{WhereTold}
 use Rattle.fsw_outside.specs.Files.{Content, file_named}
@@ -8,10 +8,8 @@ use Rattle.rehearsal.specs.declared.report.Report.{Report}
 use Rattle.rehearsal.specs.declared.report.Status.TheVariants as statuses
 use Rattle.frame_exec.specs.Tables.{tables_fault}
 use Rattle.frame_exec.specs.declared.loading.TablesFault.{TablesFault}
-use Rattle.rehearsal.specs.AcceptedWords.{Asked, words_to_open}
-use Rattle.rehearsal.specs.Asking.{AsksFor, OpensOnce}
-use Rattle.rehearsal.specs.FileWords.{AreTaken}
-use Rattle.rehearsal.specs.Gathering.{EndsAtFile}
+use Rattle.rehearsal.specs.Words.{Asked, words_to_open}
+use Rattle.rehearsal.specs.Files.{AsksFor, OpensOnce, AreTaken, EndsAtFile}
 use Rattle.rehearsal.specs.Outcome.{IsText, ReadsAhead, Outcome, Seen, WritesNothing, Rehearses}
 use Rattle.rehearsal.proofs.Gathered.{asks_none, asks_front, asks_all}
 use Rattle.rehearsal.proofs.Beginnings.{text_by}
@@ -89,3 +87,7 @@ asked_once words plan asked by is = same_some plan asked (sym by ∙ is)
   where
     same_some : (a b : Asked) → Some a ≡ Some b → a ≡ b
     same_some a b same = cc
+
+-- and what it comes to
+pub rehearses_as : (report : Report) (plan asked : Asked) (seen : Seen) (before after : Content) → plan ≡ asked → Rehearses report plan seen before after → Rehearses report asked seen before after
+rehearses_as report plan asked seen before after same rehearses = subst (λ (a : Asked). Rehearses report a seen before after) same rehearses

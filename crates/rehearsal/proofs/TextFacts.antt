@@ -11,7 +11,7 @@ use Rattle.scenario.specs.Standing.{Stands, is_finished}
 use Rattle.scenario.proofs.TextLaws.{given_are_good, closed_is}
 use Rattle.frame_exec.specs.Standing.{CanRun}
 use Rattle.rehearsal.specs.Fed.{Fed}
-use Rattle.rehearsal.specs.Reading.{Holds}
+use Rattle.rehearsal.specs.Text.{Holds}
 use Rattle.rehearsal.specs.Outcome.{frames_of, setup_of}
 
 -- what holds of each element, by its place

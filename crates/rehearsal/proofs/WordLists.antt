@@ -3,7 +3,7 @@ use Rattle.std.proofs.Common.{◌≡◌, ℕ, zero, suc, ◌+◌, ◌-◌, ◌<�
 use Rattle.std.specs.Prelude.{not, nat_le}
 use Rattle.std.specs.List.{list_all}
 use Rattle.std.proofs.lemmas.Bool.Decides.{nat_tests}
-use Rattle.rehearsal.specs.AcceptedWords.{accepted_words, asked_for, asked_with_workers, are_file_names, is_dashed, is_scenario, is_workers, workers_in}
+use Rattle.rehearsal.specs.Words.{accepted_words, asked_for, asked_with_workers, are_file_names, is_dashed, is_scenario, is_workers, workers_in}
 
 -- the words from a place on: the word there, and those behind it
 pub drop_first : (words : List (List ℕ)) (place : ℕ) → place < length words → drop place words ≡ slice_index_or words place [] ∷ drop (place + 1) words

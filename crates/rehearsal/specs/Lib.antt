@@ -1,10 +1,8 @@
+pub mod Words
+pub mod Files
 pub mod Fed
-pub mod Asking
-pub mod FileWords
-pub mod Fetching
-pub mod Gathering
-pub mod Reading
+pub mod Text
+pub mod Report
 pub mod Outcome
+pub mod Run
 pub mod Lines
-pub mod AcceptedWords
-pub mod ErrorLine

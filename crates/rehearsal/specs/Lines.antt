@@ -3,8 +3,8 @@ use Rattle.std.specs.Prelude.{◌≡◌, ◌≢◌, ℕ, ◌+◌, ◌<◌, ◌�
 use Rattle.fsw_outside.specs.Files.{Content, file_named}
 use Rattle.scenario.specs.Texts.{Text}
 use Rattle.frame_exec.specs.Tables.{tables_fault}
-use Rattle.rehearsal.specs.AcceptedWords.{Asked}
-use Rattle.rehearsal.specs.FileWords.{Refusal, first_refusal, AreTaken}
+use Rattle.rehearsal.specs.Words.{Asked}
+use Rattle.rehearsal.specs.Files.{Refusal, first_refusal, AreTaken}
 use Rattle.rehearsal.specs.Outcome.{IsText, Seen, Rehearses}
 use Rattle.rehearsal.specs.declared.report.Report.{Report}
 use Rattle.rehearsal.specs.declared.report.Status.TheVariants as statuses

@@ -10,19 +10,15 @@ use Rattle.scenario.specs.declared.reason.Reason.{Reason}
 use Rattle.scenario.specs.Texts.{Text, Given, Head, Whole, Reading, Bad, Ended, Open, reading}
 use Rattle.scenario.specs.Answers.{answer_at_end}
 use Rattle.frame_exec.specs.Runs.{Setup, frame_lines, log_of}
-use Rattle.frame_exec.specs.Standing.{Stands as BenchStands}
 use Rattle.frame_exec.specs.Tables.{tables_fault, region_fault}
 use Rattle.frame_exec.specs.declared.loading.TablesFault.{TablesFault}
 use Rattle.frame_exec.specs.declared.giving.OpenFault.{OpenFault}
 use Rattle.frame_exec.specs.declared.giving.OpenFault.TheVariants as faults
-use Rattle.frame_exec.specs.declared.bench.Bench.{Bench}
 use Rattle.rehearsal.specs.declared.report.Status.{Status}
 use Rattle.rehearsal.specs.declared.report.Status.TheVariants as statuses
 use Rattle.rehearsal.specs.declared.report.Report.{Report}
-use Rattle.rehearsal.specs.AcceptedWords.{Asked, words_to_open}
-use Rattle.rehearsal.specs.Asking.{IsSameOpening, AsksFor}
-use Rattle.rehearsal.specs.FileWords.{AreTaken}
-use Rattle.rehearsal.specs.Gathering.{EndsAtFile}
+use Rattle.rehearsal.specs.Words.{Asked, words_to_open}
+use Rattle.rehearsal.specs.Files.{IsSameOpening, AsksFor, AreTaken, EndsAtFile}
 
 -- the frame that an item of a text is
 abbrev pub frame_in_item : Given → List Frame
@@ -44,11 +40,6 @@ unfoldable pub refused_read : List (List ℕ) → List Given → Option (ℕ × 
 refused_read files [] = None
 refused_read files (Head epoch regions ∷ items) = region_fault regions files
 refused_read files (Whole frame ∷ items) = None
-
--- a bench runs the frames of the items that were given, with the tables of these files, whose reads the map gives
-pub record Runs (bench : Bench) (files : List (List ℕ)) (gave : List Given) : Type 0 where
-  pub stands : BenchStands bench (setup_of files gave) (frames_of gave)
-  pub given : refused_read files gave ≡ None
 
 -- the log of the frames of a text, with the tables of these files
 unfoldable pub log_in : List (List ℕ) → List Given → List ℕ

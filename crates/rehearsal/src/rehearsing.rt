@@ -6,18 +6,15 @@ ghost use Rattle.fsw_outside.specs.Files.{file_named};
 ghost use Rattle.fsw_outside.specs.Causes.{HasRisen};
 ghost use Rattle.scenario.specs.Texts.{Ended, reading};
 ghost use Rattle.frame_exec.specs.Tables.{tables_fault};
-ghost use Rattle.rehearsal.specs.AcceptedWords.{Asked, accepted_words, words_to_open};
-ghost use Rattle.rehearsal.specs.Asking.{AsksFor};
-ghost use Rattle.rehearsal.specs.FileWords.{AreTaken};
+ghost use Rattle.rehearsal.specs.Words.{Asked, accepted_words, words_to_open};
+ghost use Rattle.rehearsal.specs.Files.{AsksFor, AreTaken};
 ghost use Rattle.rehearsal.specs.Outcome.{GivesReads, Seen, Rehearses, Completes};
-ghost use Rattle.rehearsal.specs.ErrorLine.{error_line, Tells};
+ghost use Rattle.rehearsal.specs.Report.{error_line, Tells};
 
-use crate::accepting::{Plan, accept};
-use crate::gathering::gather;
-use crate::report::{Report, Status};
-use crate::scenario_run::run_scenario;
-use crate::telling::tell;
-use crate::words::Words;
+use crate::files::take_files;
+use crate::report::{Report, Status, tell};
+use crate::run::run_scenario;
+use crate::words::{Plan, Words, accept};
 use frame_exec::Tables;
 use fsw_outside::{Gate, Shelf, Sink};
 use std::alloc::Global;
@@ -42,8 +39,8 @@ fn carry_out<R: Threads + Sync, S: Shelf, O: Sink, G: Gate>(
       held_now = O.held out.new;
     })) }
     ensures opening { WhereTold (S.told shelf.old) (S.told shelf.new) (λ before after. (count : ℕ) × AsksFor (words_to_open plan.now) count before after) }
-    ensures mark { (S.mark shelf.new ≡ S.faults shelf.old) ⊎ ((shelf.new ≡ shelf.old) × (result.status ≡ Status.NoMemory)) }
-    ensures opened { result.status ≢ Status.ReadFailed → IsTrue (S.is_open shelf.new) ⊎ ((shelf.new ≡ shelf.old) × (result.status ≡ Status.NoMemory)) }
+    ensures mark { S.mark shelf.new ≡ S.faults shelf.old }
+    ensures opened { result.status ≢ Status.ReadFailed → IsTrue (S.is_open shelf.new) }
     ensures file_refused { result.status ≡ Status.FileRefused → out.new ≡ out.old }
     ensures no_memory { result.status ≡ Status.NoMemory → (out.new ≡ out.old) × (result.frames ≡ 0) }
     ensures read_failed { result.status ≡ Status.ReadFailed → HasRisen (S.told shelf.new) (S.faults shelf.old) (S.faults shelf.new) }
@@ -51,10 +48,9 @@ fn carry_out<R: Threads + Sync, S: Shelf, O: Sink, G: Gate>(
     ensures write_failed { result.status ≡ Status.WriteFailed → HasRisen (O.held out.new) (O.faults out.old) (O.faults out.new) }
     ensures wrote_well { result.status ≢ Status.WriteFailed → O.faults out.new ≡ O.faults out.old }
 {
-    let Ok(mut files) = Files::open(alloc) else {
-        return Report::at(Status::NoMemory, 0);
-    };
-    match gather(alloc, shelf, plan.files(), &mut files) {
+    // it takes no memory
+    let mut files = Files::open(alloc).unwrap();
+    match take_files(alloc, shelf, plan.files(), &mut files) {
         Ok(()) => {}
         Err(report) => return report,
     }
@@ -77,46 +73,13 @@ fn carry_out<R: Threads + Sync, S: Shelf, O: Sink, G: Gate>(
     )
 }
 
-/// Reads the words, and runs the scenario that they name with the files that they name.
-fn rehearse<R: Threads + Sync, S: Shelf, O: Sink, G: Gate>(
-    rt: &R,
-    alloc: Global,
-    words: &Words,
-    shelf: &mut S,
-    out: &mut O,
-    gate: &G,
-) -> Report
-    ensures words { result.status ≡ Status.WordsRefused → accepted_words words.now ≡ None }
-    ensures refused { accepted_words words.now ≡ None → (result ≡ record { status = Status.WordsRefused; file = 0; line = 0; reason = 0; frames = 0 })
-        ⊎ (result ≡ record { status = Status.NoMemory; file = 0; line = 0; reason = 0; frames = 0 }) }
-    ensures unread { accepted_words words.now ≡ None → shelf.new ≡ shelf.old }
-    ensures unwritten { accepted_words words.now ≡ None → out.new ≡ out.old }
-    ensures outcome { (asked : Asked) → accepted_words words.now ≡ Some asked → WhereTold (S.told shelf.old) (S.told shelf.new)
-        (Rehearses result asked (record {
-          is_open = S.is_open shelf.new;
-          faults_before = S.faults shelf.old;
-          faults_now = S.faults shelf.new;
-          held_before = O.held out.old;
-          held_now = O.held out.new;
-        })) }
-    ensures opening { (asked : Asked) → accepted_words words.now ≡ Some asked → WhereTold (S.told shelf.old) (S.told shelf.new) (λ before after.
-        (count : ℕ) × AsksFor (words_to_open asked) count before after) }
-    ensures mark { (asked : Asked) → accepted_words words.now ≡ Some asked
-        → (S.mark shelf.new ≡ S.faults shelf.old) ⊎ ((shelf.new ≡ shelf.old) × (result.status ≡ Status.NoMemory)) }
-    ensures opened { (asked : Asked) → accepted_words words.now ≡ Some asked → result.status ≢ Status.ReadFailed
-        → IsTrue (S.is_open shelf.new) ⊎ ((shelf.new ≡ shelf.old) × (result.status ≡ Status.NoMemory)) }
-    ensures file_refused { result.status ≡ Status.FileRefused → out.new ≡ out.old }
-    ensures no_memory { result.status ≡ Status.NoMemory → (out.new ≡ out.old) × (result.frames ≡ 0) }
-    ensures read_failed { result.status ≡ Status.ReadFailed → HasRisen (S.told shelf.new) (S.faults shelf.old) (S.faults shelf.new) }
-    ensures read_well { result.status ≢ Status.ReadFailed → S.faults shelf.new ≡ S.faults shelf.old }
-    ensures write_failed { result.status ≡ Status.WriteFailed → HasRisen (O.held out.new) (O.faults out.old) (O.faults out.new) }
-    ensures wrote_well { result.status ≢ Status.WriteFailed → O.faults out.new ≡ O.faults out.old }
+/// Tells a report, and answers it.
+fn told<E: Sink>(err: &mut E, report: Report) -> Report
+    ensures same { result ≡ report }
+    ensures told { WhereTold (E.held err.old) (E.held err.new) (Tells (E.faults err.old) (E.faults err.new) (error_line report)) }
 {
-    match accept(alloc, words) {
-        Ok(Some(plan)) => carry_out(rt, alloc, &plan, shelf, out, gate),
-        Ok(None) => Report::at(Status::WordsRefused, 0),
-        Err(_) => Report::at(Status::NoMemory, 0),
-    }
+    tell(err, &report);
+    report
 }
 
 /// Runs the rehearsal that the words ask for, and tells its report on `err`. The words are those after the program's
@@ -176,7 +139,9 @@ pub fn vigil<R: Threads + Sync, S: Shelf, O: Sink, E: Sink, G: Gate>(
     // The line of the report, or a part of it where `err` failed.
     ensures told { WhereTold (E.held err.old) (E.held err.new) (Tells (E.faults err.old) (E.faults err.new) (error_line result)) }
 {
-    let report = rehearse(rt, alloc, words, shelf, out, gate);
-    tell(err, &report);
-    report
+    match accept(alloc, words) {
+        Ok(Some(plan)) => told(err, carry_out(rt, alloc, &plan, shelf, out, gate)),
+        Ok(None) => told(err, Report::at(Status::WordsRefused, 0)),
+        Err(_) => told(err, Report::at(Status::NoMemory, 0)),
+    }
 }

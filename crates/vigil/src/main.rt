@@ -5,8 +5,8 @@ ghost use Rattle.std.specs.Prelude.{◌≡◌, ◌≢◌, ◌⊎◌, Some, None,
 ghost use Rattle.std.specs.IoError.{error_kind};
 ghost use Rattle.std.specs.Vec.Iter.{into_iter_items};
 ghost use Rattle.fsw_outside.specs.Told.{WhereTold};
-ghost use Rattle.rehearsal.specs.AcceptedWords.{Asked, accepted_words};
-ghost use Rattle.rehearsal.specs.ErrorLine.{error_line, Tells};
+ghost use Rattle.rehearsal.specs.Words.{Asked, accepted_words};
+ghost use Rattle.rehearsal.specs.Report.{error_line, Tells};
 ghost use Rattle.rehearsal.specs.Outcome.{Rehearses};
 ghost use Rattle.vigil.specs.Ends.{exit_number};
 

@@ -1,17 +1,22 @@
-use Rattle.std.proofs.Common.{◌≡◌, inl, inr, IsTrue}
+use Rattle.std.proofs.Common.{◌≡◌, sym, ◌∙◌, subst, true}
+use Rattle.fsw_outside.specs.Told.{WhereTold}
+use Rattle.rehearsal.specs.Outcome.{Completes}
+use Rattle.rehearsal.specs.declared.report.Report.{Report}
 use Rattle.rehearsal.specs.declared.report.Status.TheVariants as statuses
 use Rattle.rehearsal.proofs.Completeness.{rehearses_complete, not_risen}
+use Rattle.rehearsal.proofs.Stages.{asked_once, rehearses_as}
 use Rattle.rehearsal.proofs.rehearsing.vigil.Goals as goal
 
-pub returns-clause-complete : goal.returns-clause-complete
-returns-clause-complete g c = λ asked files bytes is loaded ended given well wrote after tells.
-    let o = c.rehearse-report.ensures.outcome asked is after tells in
-    let read = λ (failed : c.rehearse-report.result.status ≡ statuses.ReadFailed). not_risen _ after _ _ tells well (c.rehearse-report.ensures.read_failed failed) in
-    let opened : ((c.rehearse-report.result.status ≡ statuses.ReadFailed → ⊥) → (c.rehearse-report.result.status ≡ statuses.NoMemory → ⊥) → IsTrue (g.S.Shelf.is_open c.rehearse-report.new.shelf)) =
-    λ reading some. elim (c.rehearse-report.ensures.opened asked is reading) [ inl holds ↦ holds | inr unasked ↦ absurd (some unasked.1) ] in (
+pub returns-in-Ok-Some-clause-complete : goal.returns-in-Ok-Some-clause-complete
+returns-in-Ok-Some-clause-complete g c = λ asked files bytes is loaded ended given well wrote after tells.
+    let o = c.carry_out.ensures.outcome after tells in
+    let same : c.in-Ok-Some.plan ≡ asked = asked_once _ c.in-Ok-Some.plan asked (c.in-Ok-Some.ensures ∙ c.in-Ok-Some.field-0-is) is in
+    let whole = rehearses_as c.carry_out.result c.in-Ok-Some.plan asked _ o.0 after same o.2 in
+    let read = λ (failed : c.carry_out.result.status ≡ statuses.ReadFailed). not_risen _ after _ _ tells well (c.carry_out.ensures.read_failed failed) in (
       o.0,
       o.1,
       λ taken file.
-          rehearses_complete c.rehearse-report.result asked _ o.0 after files bytes o.2 taken file loaded ended given read opened
-          (λ new told failed. not_risen _ new _ _ told wrote (c.rehearse-report.ensures.write_failed failed)),
+          subst (λ (report : Report). WhereTold (g.O.Sink.held c.args.out.now) (g.O.Sink.held c.carry_out.new.out) (Completes report files (record { bytes = bytes; closed = true }))) (sym c.told.ensures.same)
+          (rehearses_complete c.carry_out.result asked _ o.0 after files bytes whole taken file loaded ended given read (λ reading some. c.carry_out.ensures.opened reading)
+          (λ new told failed. not_risen _ new _ _ told wrote (c.carry_out.ensures.write_failed failed))),
     )
