@@ -30,7 +30,7 @@ pub good_header : (r q : Reader) (said : Option Sentence) (answer : Answer) → 
     → (t : Text) (gave : List Given) → Stands r t gave → Stands q t (gave ++ header_in q ∷ [])
 good_header r q said answer l h t gave s =
     let start = said_header said _ (end_last r.finished q.progress.place q.progress.lines) (sym h ∙ l.passes.answer) in
-    let f = rw start at (l.passes.follows s.before r.line.value.items s.follows) in
+    let f = rw start at (l.passes.follows s.before r.line.value s.follows) in
     let item : given s.before.sentences said ≡ header_in q ∷ [] = rw (start, f.epoch, f.regions) refl in
     subst (λ items. Stands q t (gave ++ items)) item (passed_on r q said answer l t gave s)
 
@@ -61,7 +61,7 @@ pub good_stop : (r q : Reader) (said : Option Sentence) (answer : Answer) → Lo
     → (t : Text) (gave : List Given) → Stands r t gave → get_or (reading t).stops (length gave) 0 ≡ length t.bytes
 good_stop r q said answer l item t gave s =
     let one = said_item s.before.sentences said (end_answer r.finished q.progress.place q.progress.lines) (end_last _ _ _) (subst IsItem l.passes.answer item) in
-    let good = read_is_good r.whole t.closed s.before r.line.value.items said s.line (rw s.ended l.some) (sym (l.good s.before s.follows)) in
+    let good = read_is_good r.whole t.closed s.before r.line.value said s.line (rw s.ended l.some) (sym (l.good s.before s.follows)) in
     let all = s.now ∙ ap (with_items gave s.stops) good in
     let rest : List ℕ = (read_bytes t.closed (passed s.before (good_line r) said) []).stops in
     let stops : map (λ _. s.before.bytes + left r) (given s.before.sentences said) ≡ (s.before.bytes + left r) ∷ [] = rw one.1 refl in

@@ -26,7 +26,7 @@ use Rattle.scenario.proofs.WordsLemmas.{position_is, position_none, take_more}
 use Rattle.scenario.proofs.LineLemmas.{read_line, read_line_bad, read_last, read_last_bad, read_rest, reads_short, with_items-with_items}
 
 -- a reader that was just opened
-pub stands_opened : (r : Reader) → r.line.value.items ≡ [] → r.whole ≡ false → r.finished ≡ false → Follows r.progress nothing → r.progress.shown ≡ false
+pub stands_opened : (r : Reader) → r.line.value ≡ [] → r.whole ≡ false → r.finished ≡ false → Follows r.progress nothing → r.progress.shown ≡ false
     → Stands r (record { bytes = []; closed = false }) []
 unfolding reading
 stands_opened r empty whole unfinished follows hidden = record {
@@ -65,11 +65,11 @@ left_is false xs = refl
 
 -- bytes are fed to a reader that waits for them
 pub stands_fed : (r q : Reader) (part more : List ℕ) (lf : Bool) → r.whole ≡ false → r.finished ≡ false
-    → q.whole ≡ lf → q.finished ≡ r.finished → q.progress ≡ r.progress → q.line.value.items ≡ r.line.value.items ++ part
-    → AllByRecursion IsNoLf part → length r.line.value.items + length more ≤ 641 → more ≡ with_lf lf part
+    → q.whole ≡ lf → q.finished ≡ r.finished → q.progress ≡ r.progress → q.line.value ≡ r.line.value ++ part
+    → AllByRecursion IsNoLf part → length r.line.value + length more ≤ 641 → more ≡ with_lf lf part
     → (t : Text) (gave : List Given) → Stands r t gave → Stands q (fed t more) gave
 stands_fed r q part more lf unwhole unfinished whole finished progress line plain short parts t gave s =
-    let items = r.line.value.items in
+    let items = r.line.value in
     let held : line_bytes r ≡ items = rw unwhole refl in
     let holds : items ++ more ≡ line_bytes q = rw (parts, whole, line) (line_more lf items part) in
     let bytes : t.bytes ++ more ≡ s.seen ++ line_bytes q =
@@ -83,7 +83,7 @@ stands_fed r q part more lf unwhole unfinished whole finished progress line plai
       ended = s.ended ∙ sym finished;
       follows = rw progress s.follows;
       line = rw line (plain_append _ _ s.line plain);
-      short = subst (λ n. n ≤ 641) (size ∙ sym (left_is q.whole q.line.value.items)) short;
+      short = subst (λ n. n ≤ 641) (size ∙ sym (left_is q.whole q.line.value)) short;
       now = rw bytes (s.later (s.ended ∙ unfinished) (line_bytes q) t.closed);
       later = s.later;
       count = s.count;
@@ -170,7 +170,7 @@ rest_is false end old bytes plain none = read_rest end old bytes plain none
 
 pub at_the_end : (r : Reader) (t : Text) (gave : List Given) → Stands r t gave → has_line r ≡ false → AtEnd r t gave
 at_the_end r t gave s none =
-    let nothing_left = rest_is r.whole t.closed s.before r.line.value.items s.line (rw s.ended none) in
+    let nothing_left = rest_is r.whole t.closed s.before r.line.value s.line (rw s.ended none) in
     let all = s.now ∙ ap (with_items gave s.stops) nothing_left in
     record {
       gave_all = sym (ap (λ (x : Reading). x.items) all ∙ append-nil gave);
@@ -184,7 +184,7 @@ pub index_behind : (xs : List ℕ) (x : ℕ) (ys : List ℕ) (n : ℕ) → lengt
 index_behind xs x ys n e = rw (← e) (get_or-append_seam xs x ys 0)
 
 pub size_is : (r : Reader) (t : Text) (gave : List Given) (s : Stands r t gave) → s.before.bytes + left r ≡ length t.bytes
-size_is r t gave s = ap (λ n. s.before.bytes + n) (left_is r.whole r.line.value.items) ∙ ap (λ n. n + length (line_bytes r)) s.count ∙ sym (length-append s.seen (line_bytes r)) ∙ ap length (sym s.bytes)
+size_is r t gave s = ap (λ n. s.before.bytes + n) (left_is r.whole r.line.value) ∙ ap (λ n. n + length (line_bytes r)) s.count ∙ sym (length-append s.seen (line_bytes r)) ∙ ap length (sym s.bytes)
 
 -- what is known at a bad line
 pub record AtBad (r : Reader) (t : Text) (gave : List Given) (reason : Reason) : Type 0 where
@@ -193,9 +193,9 @@ pub record AtBad (r : Reader) (t : Text) (gave : List Given) (reason : Reason) :
   pub stop : get_or (reading t).stops (length gave) 0 ≡ length t.bytes
 
 pub at_bad : (r : Reader) (t : Text) (gave : List Given) (reason : Reason) → Stands r t gave → has_line r ≡ true
-    → ((old : Before) → Follows r.progress old → Err reason ≡ reads old (record { bytes = r.line.value.items; takes = left r })) → AtBad r t gave reason
+    → ((old : Before) → Follows r.progress old → Err reason ≡ reads old (record { bytes = r.line.value; takes = left r })) → AtBad r t gave reason
 at_bad r t gave reason s some refused =
-    let bad = read_is_bad r.whole t.closed s.before r.line.value.items reason s.line (rw s.ended some) (sym (refused s.before s.follows)) in
+    let bad = read_is_bad r.whole t.closed s.before r.line.value reason s.line (rw s.ended some) (sym (refused s.before s.follows)) in
     let all = s.now ∙ ap (with_items gave s.stops) bad in
     let short : left r ≤ 641 = s.short in
     let whole : min 641 (left r) ≡ left r = omega arith in
@@ -315,14 +315,14 @@ must_be_whole false finished n e short h =
 
 -- the line that was passed
 abbrev pub good_line : Reader → Line
-good_line r = record { bytes = r.line.value.items; takes = left r }
+good_line r = record { bytes = r.line.value; takes = left r }
 
 -- a good line is passed
 pub stands_passed : (r q : Reader) (said : Option Sentence) (answer : Answer) → Passes r said answer q → r.progress.shown ≡ false → has_line r ≡ true → IsPlaced r.progress.place said
     → ((old : Before) → Follows r.progress old → Ok said ≡ reads old (good_line r))
     → (t : Text) (gave : List Given) (s : Stands r t gave) → Stands q t (gave ++ given s.before.sentences said)
 stands_passed r q said answer p hidden some place good t gave s =
-    let items = r.line.value.items in
+    let items = r.line.value in
     let old = s.before in
     let e = sym (good old s.follows) in
     let g = given old.sentences said in
@@ -393,8 +393,8 @@ waits_when true n c h = absurd (false≢true (sym h))
 waits_when false n c h = (refl, grind (arith, nat_tests))
 
 -- a reader that waits has no LF, and at most 640 bytes
-pub waits_is : (r : Reader) → has_line r ≡ false → (r.whole ≡ false) × (length r.line.value.items ≤ 640)
-waits_is r h = waits_when r.whole (length r.line.value.items) _ h
+pub waits_is : (r : Reader) → has_line r ≡ false → (r.whole ≡ false) × (length r.line.value ≤ 640)
+waits_is r h = waits_when r.whole (length r.line.value) _ h
 
 plain_one : (x : ℕ) (xs : List ℕ) (b : Bool) → is_lf x ≡ b → AllByRecursion IsNoLf (take (position_or_len is_lf xs) xs) → AllByRecursion IsNoLf (take (position_or_len is_lf (x ∷ xs)) (x ∷ xs))
 plain_one x xs true e h = rw e tt

@@ -28,7 +28,7 @@ IsNoLf b = is_lf b ≡ false
 
 -- the bytes of the line that has begun, with its LF where that was fed
 abbrev pub line_bytes : Reader → List ℕ
-line_bytes r = if r.whole then r.line.value.items ++ 10 ∷ [] else r.line.value.items
+line_bytes r = if r.whole then r.line.value ++ 10 ∷ [] else r.line.value
 
 -- nothing was given before the header, and the header first
 abbrev pub HasHead : Option Header → List Given → Type 0
@@ -43,8 +43,8 @@ pub record Stands (r : Reader) (t : Text) (gave : List Given) : Type 0 where
   pub bytes : t.bytes ≡ seen ++ line_bytes r
   pub ended : t.closed ≡ r.finished
   pub follows : Follows r.progress before
-  pub line : AllByRecursion IsNoLf r.line.value.items
-  pub short : (if r.whole then length r.line.value.items + 1 else length r.line.value.items) ≤ 641
+  pub line : AllByRecursion IsNoLf r.line.value
+  pub short : (if r.whole then length r.line.value + 1 else length r.line.value) ≤ 641
   pub now : reading t ≡ with_items gave stops (read_bytes t.closed before (line_bytes r))
   pub later : t.closed ≡ false → (more : List ℕ) (end : Bool) → reading (record { bytes = seen ++ more; closed = end }) ≡ with_items gave stops (read_bytes end before more)
   pub count : before.bytes ≡ length seen
@@ -55,11 +55,11 @@ pub record Stands (r : Reader) (t : Text) (gave : List Given) : Type 0 where
 
 -- a line is there to be looked at
 abbrev pub has_line : Reader → Bool
-has_line r = r.whole || nat_lt 640 (length r.line.value.items) || (r.finished && nat_lt 0 (length r.line.value.items))
+has_line r = r.whole || nat_lt 640 (length r.line.value) || (r.finished && nat_lt 0 (length r.line.value))
 
 -- that line
 abbrev pub line_of : Reader → Line
-line_of r = record { bytes = r.line.value.items; takes = if r.whole then length r.line.value.items + 1 else length r.line.value.items }
+line_of r = record { bytes = r.line.value; takes = if r.whole then length r.line.value + 1 else length r.line.value }
 
 -- the end of the text was told
 abbrev pub is_finished : Reader → Bool
@@ -75,7 +75,7 @@ Shows r = r.progress.shown ≡ true
 
 -- how many bytes were fed and not yet looked at
 abbrev pub left : Reader → ℕ
-left r = if r.whole then length r.line.value.items + 1 else length r.line.value.items
+left r = if r.whole then length r.line.value + 1 else length r.line.value
 
 -- the header that can be looked at
 abbrev pub header_in : Reader → Given
@@ -87,7 +87,7 @@ frame_in r = Whole r.progress.frame.value
 
 -- a good line was passed that says this
 pub record Passes (r : Reader) (said : Option Sentence) (given : Answer) (q : Reader) : Type 0 where
-  pub line : q.line.value.items ≡ []
+  pub line : q.line.value ≡ []
   pub whole : q.whole ≡ false
   pub finished : q.finished ≡ r.finished
   pub follows : (old : Before) (line : List ℕ) → Follows r.progress old → Follows q.progress (passed old (record { bytes = line; takes = left r }) said)

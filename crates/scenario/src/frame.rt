@@ -2,7 +2,7 @@
 ghost use Rattle.std.specs.Prelude.{◌≡◌, ◌≤◌, ◌<◌, ◌++◌, ◌∷◌, []};
 ghost use Rattle.scenario.specs.FrameLists.{no_items, items_in};
 
-use crate::sentence::Sentence;
+use crate::send_list::SendList;
 use arrayvec::ArrayVec;
 use packet_forms::{Counter, Packet};
 use std::marker::Model;
@@ -35,7 +35,7 @@ pub struct Upset {
 /// What one frame is given, as four lists in the order of their lines: at most 64 items together.
 #[derive(Drop)]
 pub struct FrameInput {
-    sends: ArrayVec<Packet, 64>,
+    sends: SendList,
     counters: ArrayVec<Counter, 64>,
     upsets: ArrayVec<Upset, 64>,
     held: ArrayVec<App, 64>,
@@ -47,9 +47,9 @@ impl Model for FrameInput {
 
     ghost Value = { Frame };
 
-    ghost view = { λ f. record { sends = f.sends.items; counters = f.counters.items; upsets = f.upsets.items; held = f.held.items } };
+    ghost view = { λ f. record { sends = f.sends; counters = f.counters.items; upsets = f.upsets.items; held = f.held.items } };
 
-    ghost invariant = { λ f. length f.sends.items + length f.counters.items + length f.upsets.items + length f.held.items ≤ 64 };
+    ghost invariant = { λ f. length f.sends + length f.counters.items + length f.upsets.items + length f.held.items ≤ 64 };
 }
 
 impl FrameInput {
@@ -57,7 +57,7 @@ impl FrameInput {
         ensures { result ≡ no_items }
     {
         FrameInput {
-            sends: ArrayVec::new(),
+            sends: SendList::new(),
             counters: ArrayVec::new(),
             upsets: ArrayVec::new(),
             held: ArrayVec::new(),
@@ -112,9 +112,9 @@ impl FrameInput {
         self.held.as_slice()
     }
 
-    pub(crate) fn send(&mut self, packet: Packet)
+    pub(crate) fn send(&mut self, packet: &Packet)
         requires { items_in self.old < 64 }
-        ensures { self.new ≡ record self.old { sends = self.old.sends ++ packet ∷ [] } }
+        ensures { self.new ≡ record self.old { sends = self.old.sends ++ packet.now ∷ [] } }
     {
         self.sends.push(packet);
     }

@@ -4,10 +4,12 @@
 mod frame;
 mod item;
 pub mod laws;
+mod line_buffer;
 mod progress;
 mod reader;
 mod reason;
 mod regions;
+mod send_list;
 mod sentence;
 mod words;
 

@@ -226,7 +226,7 @@ impl Progress {
             }
             Sentence::Send(packet) => {
                 self.place = Place::Inside;
-                self.frame.send(packet);
+                self.frame.send(&packet);
             }
             Sentence::Count(counter) => {
                 self.place = Place::Inside;

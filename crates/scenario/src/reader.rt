@@ -4,23 +4,20 @@ ghost use Rattle.std.specs.Prelude.{◌≡◌, ◌≤◌, ◌<◌, ◌+◌, ◌=
 
 use crate::frame::FrameInput;
 use crate::item::Item;
+use crate::line_buffer::{LINE_ROOM, LineBuffer};
 use crate::progress::{Header, Progress};
 use crate::reason::Reason;
 use crate::sentence::{Place, Sentence};
-use arrayvec::ArrayVec;
 use fsw_outside::NoMemory;
 use memchr::memchr;
 use std::alloc::Global;
-
-/// One byte more than the longest line.
-const LINE_ROOM: usize = 641;
 
 /// Reads a scenario's text in pieces, and gives its header and its frames one after another.
 ///
 /// It keeps one line, one frame and the header. All its memory is taken by `open`.
 #[derive(Drop)]
 pub struct Reader {
-    line: Box<ArrayVec<u8, 641>>,
+    line: Box<LineBuffer>,
     // The LF of the line was fed.
     whole: bool,
     finished: bool,
@@ -83,7 +80,7 @@ impl Reader {
         ensures waits { IfOk result Waits }
         ensures finished { IfOk result (λ r. is_finished r ≡ false) }
     {
-        let line = Box::new(alloc, ArrayVec::new())?;
+        let line = Box::new(alloc, LineBuffer::new())?;
         let progress = Progress::open(alloc)?;
         Ok(Reader {
             line,
@@ -162,7 +159,7 @@ impl Reader {
         }
         let mut said = None;
         let takes = self.takes();
-        match self.progress.reads(self.line.as_slice(), takes, &mut said) {
+        match self.progress.reads(self.line.bytes(), takes, &mut said) {
             Ok(()) => self.pass(said),
             Err(reason) => Item::Bad {
                 line: self.progress.lines + 1,
@@ -194,7 +191,7 @@ impl Reader {
     fn has_line(&self) -> bool
         ensures { result ≡ has_line self.now }
     {
-        self.whole || self.line.len() >= LINE_ROOM || self.finished && !self.line.is_empty()
+        self.whole || self.line.len() >= LINE_ROOM || self.finished && self.line.len() > 0
     }
 
     /// How many bytes the line takes, its LF included.
@@ -207,14 +204,11 @@ impl Reader {
     }
 
     fn append(&mut self, bytes: &[u8])
-        requires { length self.old.line.value.items + length bytes.now ≤ 641 }
+        requires { length self.old.line.value + length bytes.now ≤ 641 }
         ensures others { self.new ≡ record self.old { line = self.new.line } }
-        ensures line { self.new.line.value.items ≡ self.old.line.value.items ++ bytes.now }
+        ensures line { self.new.line.value ≡ self.old.line.value ++ bytes.now }
     {
-        match self.line.try_extend_from_slice(bytes) {
-            Ok(()) => {}
-            Err(_) => unreachable!(),
-        }
+        self.line.append(bytes);
     }
 
     /// What is answered where no line is left.

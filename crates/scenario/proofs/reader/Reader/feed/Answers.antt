@@ -7,8 +7,8 @@ returns-in-Some-clause-stands c =
     let waits = waits_is c.args.self.now (sym c.if-has_line.ensures) in
     let piece = c.args.piece.now in
     let near = c.front-front.result.now in
-    let len : c.len.result ≡ length c.args.self.now.line.value.items = cc in
-    let most = min (641 - length c.args.self.now.line.value.items) (length piece) in
+    let len : c.len.result ≡ length c.args.self.now.line.value = cc in
+    let most = min (641 - length c.args.self.now.line.value) (length piece) in
     let takes = takes_lf piece near most c.in-Some.at (rw (← len) c.front-front.ensures) (omega arith) c.in-Some.ensures in
     stands_fed c.args.self.now _ (take c.in-Some.at near) (take (c.in-Some.at + 1) piece) true waits.0 c.requires refl
     (ap (λ r. r.finished) c.append.ensures.others) (ap (λ r. r.progress) c.append.ensures.others) c.append.ensures.line
@@ -19,8 +19,8 @@ returns-in-None-clause-stands c =
     let waits = waits_is c.args.self.now (sym c.if-has_line.ensures) in
     let piece = c.args.piece.now in
     let near = c.front-front.result.now in
-    let len : c.len.result ≡ length c.args.self.now.line.value.items = cc in
-    let most = min (641 - length c.args.self.now.line.value.items) (length piece) in
+    let len : c.len.result ≡ length c.args.self.now.line.value = cc in
+    let most = min (641 - length c.args.self.now.line.value) (length piece) in
     let takes = takes_front piece near most (rw (← len) c.front-front.ensures) (omega arith) in
     stands_fed c.args.self.now _ near (take (length near) piece) false waits.0 c.requires
     (ap (λ r. r.whole) c.append-in-None.ensures.others ∙ waits.0) (ap (λ r. r.finished) c.append-in-None.ensures.others) (ap (λ r. r.progress) c.append-in-None.ensures.others) c.append-in-None.ensures.line

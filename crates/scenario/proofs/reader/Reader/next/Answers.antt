@@ -21,7 +21,7 @@ looks_good c = record {
   hidden = c.begin.ensures.hidden;
   some = sym c.if-not-has_line.ensures;
   placed = c.in-Ok.ensures.placed;
-  good = λ old f. sym (c.in-Ok.ensures.value old f) ∙ ap (reads old) (same_line _ _ _ _ (c.as_slice.ensures.value ∙ ap (λ v. v.items) c.deref.ensures) c.takes-takes.ensures.value);
+  good = λ old f. sym (c.in-Ok.ensures.value old f) ∙ ap (reads old) (same_line _ _ _ _ (c.bytes.ensures.value ∙ c.deref.ensures) c.takes-takes.ensures.value);
 }
 
 pub returns-in-Ok-clause-header : goal.returns-in-Ok-clause-header
@@ -48,10 +48,10 @@ returns-in-Ok-clause-bad c = λ line reason t gave h s e.
 pub returns-in-Err-clause-last : goal.returns-in-Err-clause-last
 returns-in-Err-clause-last c = λ _ t gave s.
     let m = stands_begun c.args.self.now _ refl refl refl c.begin.ensures.follows c.begin.ensures.hidden t gave s in
-    let b = at_bad _ t gave c.in-Err.reason m (sym c.if-not-has_line.ensures) (λ old f. sym (c.in-Err.ensures.value old f) ∙ ap (reads old) (same_line _ _ _ _ (c.as_slice.ensures.value ∙ ap (λ v. v.items) c.deref.ensures) c.takes-takes.ensures.value)) in
+    let b = at_bad _ t gave c.in-Err.reason m (sym c.if-not-has_line.ensures) (λ old f. sym (c.in-Err.ensures.value old f) ∙ ap (reads old) (same_line _ _ _ _ (c.bytes.ensures.value ∙ c.deref.ensures) c.takes-takes.ensures.value)) in
     (m, b.gave_all, rw (b.ending, c.number.ensures) refl)
 
 pub returns-in-Err-clause-bad : goal.returns-in-Err-clause-bad
 returns-in-Err-clause-bad c = λ line reason t gave _ s e.
     let m = stands_begun c.args.self.now _ refl refl refl c.begin.ensures.follows c.begin.ensures.hidden t gave s in
-    (at_bad _ t gave c.in-Err.reason m (sym c.if-not-has_line.ensures) (λ old f. sym (c.in-Err.ensures.value old f) ∙ ap (reads old) (same_line _ _ _ _ (c.as_slice.ensures.value ∙ ap (λ v. v.items) c.deref.ensures) c.takes-takes.ensures.value))).stop
+    (at_bad _ t gave c.in-Err.reason m (sym c.if-not-has_line.ensures) (λ old f. sym (c.in-Err.ensures.value old f) ∙ ap (reads old) (same_line _ _ _ _ (c.bytes.ensures.value ∙ c.deref.ensures) c.takes-takes.ensures.value))).stop

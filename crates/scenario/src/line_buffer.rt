@@ -1,0 +1,64 @@
+//! The line that has begun.
+ghost use Rattle.std.specs.Prelude.{◌≡◌, ◌≤◌, ◌+◌, ◌++◌, [], length};
+
+use packet_forms::place;
+use std::marker::Model;
+
+/// One byte more than the longest line.
+pub(crate) const LINE_ROOM: usize = 641;
+
+/// The bytes of a line that has begun. They are made once and written again and again.
+#[derive(Drop)]
+pub(crate) struct LineBuffer {
+    len: usize,
+    places: [u8; LINE_ROOM],
+}
+
+impl Model for LineBuffer {
+    ghost use Rattle.std.specs.Prelude.{◌≡◌, ◌≤◌, List, ℕ, length, take};
+
+    ghost Value = { List ℕ };
+
+    ghost view = { λ a. take a.len a.places };
+
+    ghost invariant = { λ a. (a.len ≤ 641) × (length a.places ≡ 641) };
+}
+
+impl LineBuffer {
+    pub(crate) fn new() -> Self
+        ensures { result ≡ [] }
+    {
+        LineBuffer {
+            len: 0,
+            places: [0; LINE_ROOM],
+        }
+    }
+
+    pub(crate) fn bytes(&self) -> &[u8]
+        ensures value { result.now ≡ self.now }
+        ensures few { length result.now ≤ 641 }
+    {
+        &self.places[..self.len]
+    }
+
+    pub(crate) fn len(&self) -> usize
+        ensures value { result ≡ length self.now }
+        ensures few { result ≤ 641 }
+    {
+        self.len
+    }
+
+    pub(crate) fn append(&mut self, piece: &[u8])
+        requires { length self.old + length piece.now ≤ 641 }
+        ensures { self.new ≡ self.old ++ piece.now }
+    {
+        place(&mut self.places, self.len, piece);
+        self.len += piece.len();
+    }
+
+    pub(crate) fn clear(&mut self)
+        ensures { self.new ≡ [] }
+    {
+        self.len = 0;
+    }
+}
