@@ -4,6 +4,8 @@ pub mod StandingLemmas
 pub mod NextLemmas
 pub mod GrowthLemmas
 pub mod SaidLemmas
+pub mod SendLemmas
+pub mod BeginLemmas
 pub mod GoodLemmas
 pub mod TextLaws
 pub mod FirstLemmas

@@ -1,7 +1,8 @@
 -- Lemmas on words, numbers and digits.
-use Rattle.std.proofs.Common.{◌≡◌, ℕ, ◌+◌, ◌*◌, ◌^◌, lit<, add-one, if◌then◌else◌, get_or, ◌&&◌, append_assoc, append-nil, drop-cons, length-drop, ◌<◌, ◌≤◌, suc, Bool, true, false, cond, not, eqb, List, [], ◌∷◌, ◌++◌, length, take, drop, Option, Some, None, refl, ap, sym, ◌∙◌, arith, length-take}
+use Rattle.std.proofs.Common.{◌≡◌, ℕ, ◌+◌, ◌*◌, ◌^◌, lit<, add-one, nat_lt, bit_or, ap₂, if◌then◌else◌, get_or, ◌&&◌, append_assoc, append-nil, drop-cons, take_all, length-drop, ◌<◌, ◌≤◌, suc, Bool, true, false, cond, not, eqb, List, [], ◌∷◌, ◌++◌, length, take, drop, Option, Some, None, refl, ap, sym, ◌∙◌, arith, length-take}
 use Rattle.std.specs.List.{position, position_or_len, slice_split, filter}
 use Rattle.std.proofs.lemmas.Bool.Decides.{nat_tests}
+use Rattle.std.proofs.lemmas.Nat.{or_lt, le_or_l, le_or_r}
 use Rattle.std.proofs.Math.Nat.{pow-suc, pow-le-pow_right, mul-le-mul_left}
 use Rattle.std.proofs.lemmas.List.{drop_all}
 use Rattle.std.specs.Char.{is_digit, digit_value}
@@ -97,6 +98,12 @@ word_behind xs i n rest w more found r k e1 e2 =
     let first : words rest ≡ take n rest ∷ words (drop n rest) = rw k (first_word rest long) in
     (rw (e1, e2) (skip_spaces xs ∙ rw (← here) first), rw (e1, length-take) (omega arith))
 
+-- behind the spaces in front stand the same words
+pub behind_first : (xs : List ℕ) (i : ℕ) (rest : List ℕ) → Some i ≡ position is_other xs → rest ≡ drop i xs → words rest ≡ words xs
+behind_first xs i rest found r =
+    let at = position_is is_other xs i (sym found) in
+    ap words r ∙ ap (λ (n : ℕ). words (drop n xs)) at.0 ∙ sym (skip_spaces xs)
+
 -- one digit more is one power of 16 more
 pub digit_small : (v b d i : ℕ) → v < 16 ^ i → b ≤ 16 → d < b → v * b + d < 16 ^ (i + 1)
 digit_small v b d i small base digit =
@@ -167,6 +174,99 @@ hex_odd_at (x ∷ y ∷ rest) front h = absurd (omega (arith, h))
 -- one digit is left
 pub hex_odd : (w front : List ℕ) (i : ℕ) → length w ≡ 2 * i + 1 → onto front (hex (drop (2 * i) w)) ≡ None
 hex_odd w front i h = hex_odd_at _ front (length-drop (2 * i) w ∙ omega arith)
+
+digit_no_space : (c : ℕ) → is_digit c 16 ≡ true → is_space c ≡ false
+digit_no_space c e = grind (arith, nat_tests)
+
+both_digits : (a b : Bool) → (a && b) ≡ true → (a ≡ true) × (b ≡ true)
+both_digits true b e = (refl, e)
+both_digits false b e = absurd (cc)
+
+one_on : (x : ℕ) (xs : List ℕ) → is_space x ≡ false → position_or_len is_space (x ∷ xs) ≡ 1 + position_or_len is_space xs
+one_on x xs other = rw other refl
+
+-- no space is in a word, and it has two digits for each of the bytes
+abbrev pub IsHexOf : List ℕ → List ℕ → Type 0
+IsHexOf word bytes = (position_or_len is_space word ≡ length word) × (2 * length bytes ≡ length word)
+
+pair_more : (c d : ℕ) (more bytes : List ℕ) (b : Bool) (o : Option (List ℕ)) → (is_digit c 16 && is_digit d 16) ≡ b → ((rest : List ℕ) → o ≡ Some rest → IsHexOf more rest)
+    → (if b then before (16 * digit_value c + digit_value d) o else None) ≡ Some bytes → IsHexOf (c ∷ d ∷ more) bytes
+pair_more c d more bytes false o are ih e = absurd (cc)
+pair_more c d more bytes true None are ih e = absurd (cc)
+pair_more c d more bytes true (Some rest) are ih e =
+    let digits = both_digits (is_digit c 16) (is_digit d 16) are in
+    let first = one_on c (d ∷ more) (digit_no_space c digits.0) in
+    let second = one_on d more (digit_no_space d digits.1) in
+    let behind = ih rest refl in
+    let same : (16 * digit_value c + digit_value d) ∷ rest ≡ bytes = cc in
+    (omega (arith, first, second, behind.0), rw (← same) (omega (arith, behind.1)))
+
+-- what is written in pairs of digits
+pub hex_word : (word bytes : List ℕ) → hex word ≡ Some bytes → IsHexOf word bytes
+unfolding hex
+hex_word [] bytes e = let same : [] ≡ bytes = cc in (refl, rw (← same) refl)
+hex_word (c ∷ []) bytes e = absurd (cc)
+hex_word (c ∷ d ∷ more) bytes e = pair_more c d more bytes (is_digit c 16 && is_digit d 16) (hex more) refl (λ rest is. hex_word more rest is) e
+
+no_words : words [] ≡ []
+unfolding words
+no_words = refl
+
+-- pairs of digits that aren't none are one word
+pub hex_alone : (word bytes : List ℕ) → 0 < length word → hex word ≡ Some bytes → words word ≡ word ∷ []
+hex_alone word bytes filled e =
+    let far : position_or_len is_space word ≡ length word = (hex_word word bytes e).0 in
+    first_word word (rw far filled)
+    ∙ ap (λ (n : ℕ). take n word ∷ words (drop n word)) far
+    ∙ ap (λ (front : List ℕ). front ∷ words (drop (length word) word)) (take_all (length word) word (omega arith))
+    ∙ ap (λ (rest : List ℕ). word ∷ words rest) (drop_all (length word) word (omega arith))
+    ∙ ap (λ (ws : List (List ℕ)). word ∷ ws) no_words
+
+-- The first i pairs of digits are read: the bits of their values are over 15 where one of them is no digit.
+pub record IsRead (word front : List ℕ) (i bits : ℕ) : Type 0 where
+  pub good : bits < 16 → hex word ≡ onto front (hex (drop (2 * i) word))
+  pub bad : 16 ≤ bits → hex word ≡ None
+
+are_digits : (a b high low : ℕ) → high ≡ digit_value a → low ≡ digit_value b → high < 16 → low < 16 → (is_digit a 16 && is_digit b 16) ≡ true
+are_digits a b high low h l less also = grind (arith, nat_tests)
+
+digit_below : (a : ℕ) → is_digit a 16 ≡ true → digit_value a < 16
+digit_below a e = grind (arith, nat_tests)
+
+-- where the values together are over 15, one of them is
+one_is_none : (a b bits high low : ℕ) → high ≡ digit_value a → low ≡ digit_value b → bits < 16 → 16 ≤ bit_or (bit_or bits high) low → (is_digit a 16 && is_digit b 16) ≡ false
+one_is_none a b bits high low h l small large = by_test (is_digit a 16 && is_digit b 16) refl where
+  by_test : (t : Bool) → (is_digit a 16 && is_digit b 16) ≡ t → (is_digit a 16 && is_digit b 16) ≡ false
+  by_test false e = e
+  by_test true e =
+      let digits = both_digits (is_digit a 16) (is_digit b 16) e in
+      let first : high < 16 = rw h (digit_below a digits.0) in
+      let second : low < 16 = rw l (digit_below b digits.1) in
+      let below : bit_or (bit_or bits high) low < 16 = or_lt 4 (bit_or bits high) low (or_lt 4 bits high small first) second in
+      absurd (omega (arith, below, large))
+
+-- one pair more is read
+pub read_more : (word front : List ℕ) (i bits high low byte : ℕ) → 2 * i + 1 < length word → high ≡ digit_value (get_or word (2 * i) 0) → low ≡ digit_value (get_or word (2 * i + 1) 0)
+    → (high < 16 → low < 16 → byte ≡ 16 * high + low) → IsRead word front i bits → IsRead word (front ++ byte ∷ []) (i + 1) (bit_or (bit_or bits high) low)
+read_more word front i bits high low byte within h l is read = record { good = good; bad = bad } where
+  good : bit_or (bit_or bits high) low < 16 → hex word ≡ onto (front ++ byte ∷ []) (hex (drop (2 * (i + 1)) word))
+  good small =
+      let old : bits < 16 = omega (arith, small, le_or_l bits high, le_or_l (bit_or bits high) low) in
+      let first : high < 16 = omega (arith, small, le_or_r bits high, le_or_l (bit_or bits high) low) in
+      let second : low < 16 = omega (arith, small, le_or_r (bit_or bits high) low) in
+      let byte_is : byte ≡ 16 * digit_value (get_or word (2 * i) 0) + digit_value (get_or word (2 * i + 1) 0) = is first second ∙ ap₂ (λ (x y : ℕ). 16 * x + y) h l in
+      read.good old
+      ∙ hex_more word front i within (are_digits (get_or word (2 * i) 0) (get_or word (2 * i + 1) 0) high low h l first second)
+      ∙ ap (λ (n : ℕ). onto (front ++ n ∷ []) (hex (drop (2 * (i + 1)) word))) (sym byte_is)
+
+  by_old : (t : Bool) → nat_lt bits 16 ≡ t → 16 ≤ bit_or (bit_or bits high) low → hex word ≡ None
+  by_old false e large = let over : 16 ≤ bits = grind (arith, nat_tests) in read.bad over
+  by_old true e large =
+      let old : bits < 16 = grind (arith, nat_tests) in
+      read.good old ∙ hex_bad word front i within (one_is_none (get_or word (2 * i) 0) (get_or word (2 * i + 1) 0) bits high low h l old large)
+
+  bad : 16 ≤ bit_or (bit_or bits high) low → hex word ≡ None
+  bad large = by_old (nat_lt bits 16) refl large
 
 -- in front of none
 pub onto-nil : (o : Option (List ℕ)) → o ≡ onto [] o

@@ -171,6 +171,13 @@ region_line others = do
   len ← number_or_bad largest words.2
   Ok (says.Region (record { kind = kind; start = start; len = len }))
 
+-- the packet that the word behind `send` writes
+unfoldable pub hex_said : List ℕ → Result Sentence Reason
+hex_said word = do
+  bytes ← or_bad reasons.Packet (hex word)
+  packet ← packet_of bytes
+  Ok (says.Send packet)
+
 -- `send HEX`
 unfoldable pub send_line : List (List ℕ) → Result Sentence Reason
 send_line others = do
@@ -219,6 +226,10 @@ sentence_of verbs.Upset others = upset_line others
 sentence_of verbs.Hold others = hold_line others
 sentence_of verbs.Tick others = bare_line says.Tick others
 sentence_of verbs.End others = bare_line says.End others
+
+-- a line's first word begins this kind of line, and these words come behind it
+abbrev pub Begins : List ℕ → Verb → List (List ℕ) → Type 0
+Begins line verb others = (first : List ℕ) × (words line ≡ first ∷ others) × ((slice_index first 0 == 35) ≡ false) × (verb_of first ≡ Some verb)
 
 -- what words say at a place: nothing where there are none or the first begins with `#`
 unfoldable pub said : Place → List (List ℕ) → Result (Option Sentence) Reason

@@ -1,13 +1,13 @@
 //! What a line says by itself, where it stands.
-ghost use Rattle.std.specs.Prelude.{◌≡◌, ◌≤◌, ◌∷◌, [], length, IfOk, Some, true};
+ghost use Rattle.std.specs.Prelude.{◌≡◌, ◌≤◌, ◌∷◌, [], length, IfOk, IfSome, Some, None, true};
 ghost use Rattle.scenario.specs.Words.{words};
-ghost use Rattle.scenario.specs.Sentences.{Gives, IsPlaced, IsOfVerb, as_said, verb_of, stands_at, none, one, two, three, number_or_bad, epoch_line, region_line, send_line, app_line, upset_line, hold_line, bare_line, sentence_of, line_says, packet_of, verb_at};
+ghost use Rattle.scenario.specs.Sentences.{Gives, IsPlaced, IsOfVerb, as_said, verb_of, Begins, stands_at, none, one, two, three, number_or_bad, epoch_line, region_line, hex_said, send_line, app_line, upset_line, hold_line, bare_line, sentence_of, line_says, packet_of, verb_at};
 
 use crate::frame::{App, Upset};
 use crate::reason::Reason;
-use crate::words::{app, hex, kind, name, number, split_word};
+use crate::words::{app, behind_spaces, hex, kind, name, number, split_word};
 use memory_window::Region;
-use packet_forms::{Counter, Packet};
+use packet_forms::{Counter, PACKET_BYTES, Packet};
 
 /// Where a line stands.
 #[derive(Clone, Copy, Debug, PartialEq, Eq)]
@@ -177,19 +177,36 @@ fn packet(bytes: &[u8]) -> Result<Packet, Reason>
     }
 }
 
-/// `send HEX`
-#[tactic(auto, unfolding(crate::specs::Sentences::send_line))]
-fn send_line(rest: &[u8], said: &mut Option<Sentence>) -> Result<(), Reason>
-    requires { length rest.now ≤ 640 }
-    ensures value { Gives (λ _. said.new) result (as_said (send_line (words rest.now))) }
+/// What the word behind `send` says.
+#[tactic(auto, unfolding(crate::specs::Sentences::hex_said))]
+fn read_hex(word: &[u8], said: &mut Option<Sentence>) -> Result<(), Reason>
+    ensures value { Gives (λ _. said.new) result (as_said (hex_said word.now)) }
     ensures verb { IfOk result (λ _. IsOfVerb Verb.Send said.new) }
 {
-    let word = one_word(rest)?;
-    let mut places = [0; 320];
+    if word.len() > 2 * PACKET_BYTES {
+        return Err(Reason::Packet);
+    }
+    let mut places = [0; PACKET_BYTES];
     let len = hex(word, &mut places).ok_or(Reason::Packet)?;
     let packet = packet(&places[..len])?;
     *said = Some(Sentence::Send(packet));
     Ok(())
+}
+
+/// `send HEX`
+#[tactic(auto, unfolding(crate::specs::Sentences::send_line))]
+fn send_line(rest: &[u8], said: &mut Option<Sentence>) -> Result<(), Reason>
+    ensures value { Gives (λ _. said.new) result (as_said (send_line (words rest.now))) }
+    ensures verb { IfOk result (λ _. IsOfVerb Verb.Send said.new) }
+{
+    // Mostly the digits end with the line. A space isn't one, so it needn't be looked for.
+    match read_hex(behind_spaces(rest), said) {
+        Ok(()) => Ok(()),
+        Err(_) => {
+            let word = one_word(rest)?;
+            read_hex(word, said)
+        }
+    }
 }
 
 /// `app NAME N`
@@ -262,7 +279,6 @@ fn end_line(rest: &[u8], said: &mut Option<Sentence>) -> Result<(), Reason>
 
 #[tactic(auto, unfolding(crate::specs::Sentences::sentence_of))]
 fn read_sentence(verb: Verb, rest: &[u8], said: &mut Option<Sentence>) -> Result<(), Reason>
-    requires { length rest.now ≤ 640 }
     ensures value { Gives (λ _. said.new) result (as_said (sentence_of verb (words rest.now))) }
     ensures verb { IfOk result (λ _. IsOfVerb verb said.new) }
 {
@@ -296,18 +312,27 @@ fn verb_at(place: Place, word: &[u8]) -> Result<Verb, Reason>
     }
 }
 
-/// What a line says that stands at a place: nothing where it is skipped.
+/// The kind of a line of the two commonest forms, and what comes behind its first word: no word needs to
+/// be looked for there.
+fn common_line(line: &[u8]) -> Option<(Verb, &[u8])>
+    ensures { IfSome result (λ found. Begins line.now found.0 (words found.1.now)) }
+{
+    if line == b"tick".as_slice() {
+        return Some((Verb::Tick, &[]));
+    }
+    match line.strip_prefix(b"send ") {
+        Some(rest) => Some((Verb::Send, rest)),
+        None => None,
+    }
+}
+
+/// What a line says that stands at a place, by its words. Nothing was said yet.
 #[tactic(auto, unfolding(crate::specs::Sentences::line_says, crate::specs::Sentences::said))]
-pub(crate) fn line_says(
-    place: Place,
-    line: &[u8],
-    said: &mut Option<Sentence>,
-) -> Result<(), Reason>
-    requires { length line.now ≤ 640 }
+fn any_line_says(place: Place, line: &[u8], said: &mut Option<Sentence>) -> Result<(), Reason>
+    requires { said.old ≡ None }
     ensures value { Gives (λ _. said.new) result (line_says place line.now) }
     ensures placed { IfOk result (λ _. IsPlaced place said.new) }
 {
-    *said = None;
     match split_word(line) {
         Some((first, rest)) => {
             if first[0] == b'#' {
@@ -317,5 +342,28 @@ pub(crate) fn line_says(
             read_sentence(verb, rest, said)
         }
         None => Ok(()),
+    }
+}
+
+/// What a line says that stands at a place: nothing where it is skipped.
+#[tactic(auto, unfolding(crate::specs::Sentences::line_says, crate::specs::Sentences::said))]
+pub(crate) fn line_says(
+    place: Place,
+    line: &[u8],
+    said: &mut Option<Sentence>,
+) -> Result<(), Reason>
+    ensures value { Gives (λ _. said.new) result (line_says place line.now) }
+    ensures placed { IfOk result (λ _. IsPlaced place said.new) }
+{
+    *said = None;
+    match common_line(line) {
+        Some((verb, rest)) => {
+            if may_stand(place, verb) {
+                read_sentence(verb, rest, said)
+            } else {
+                Err(Reason::Word)
+            }
+        }
+        None => any_line_says(place, line, said),
     }
 }

@@ -152,6 +152,9 @@ const TEXTS: &str = "\
 0|4|3|1|H|send 0G|\n\
 0|4|3|1|H|send 000|\n\
 0|4|3|1|H|send 00|\n\
+1|0|0|250|epoch 5/region RAM 0 4/start/send 0000C00000F9|00|  /tick/end\n\
+0|4|3|251|epoch 5/region RAM 0 4/start/send 0000C00000FA|00|/tick/end\n\
+0|4|3|250|epoch 5/region RAM 0 4/start/send 0000C00000F9|00|0/tick/end\n\
 0|4|7|1|H|send 1888C00000010301|\n\
 0|4|1|1|H|send 1888c000 00010301|\n\
 0|4|2|1|H|app LOAD 4294967296|\n\

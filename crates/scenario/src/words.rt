@@ -6,7 +6,7 @@ ghost use Rattle.scenario.specs.Words.{words, digits, any_number, number, hex, n
 
 use crate::frame::App;
 use memory_window::Kind;
-use packet_forms::Name;
+use packet_forms::{Name, PACKET_BYTES};
 
 /// The place of the first byte that is no space.
 fn first_other(bytes: &[u8]) -> Option<usize>
@@ -30,6 +30,19 @@ fn word_len(bytes: &[u8]) -> usize
     match first_space(bytes) {
         Some(len) => len,
         None => bytes.len(),
+    }
+}
+
+/// What comes behind the spaces in front.
+pub(crate) fn behind_spaces(line: &[u8]) -> &[u8]
+    ensures { words result.now ≡ words line.now }
+{
+    match first_other(line) {
+        Some(start) => {
+            let (_, rest) = line.split_at(start);
+            rest
+        }
+        None => line,
     }
 }
 
@@ -122,19 +135,29 @@ pub(crate) fn number(most: u32, word: &[u8]) -> Option<u32>
     None
 }
 
-/// Writes the bytes that pairs of hexadecimal digits write into the first places, and answers how many they are.
-pub(crate) fn hex(word: &[u8], places: &mut [u8; 320]) -> Option<usize>
-    requires { length word.now ≤ 640 }
-    ensures bytes { option_map (λ count. take count places.new) result ≡ hex word.now }
-    ensures few { IfSome result (λ count. count ≤ 320) }
+/// The byte that two hexadecimal digits write.
+fn pair(high: u8, low: u8) -> u8
+    ensures { high < 16 → low < 16 → result ≡ 16 * high + low }
 {
+    ((16 * u16::from(high) + u16::from(low)) % 256) as u8
+}
+
+/// Writes the bytes that pairs of hexadecimal digits write into the first places, and answers how many they are.
+pub(crate) fn hex(word: &[u8], places: &mut [u8; PACKET_BYTES]) -> Option<usize>
+    requires { length word.now ≤ 2 * PACKET_BYTES }
+    ensures bytes { option_map (λ count. take count places.new) result ≡ hex word.now }
+    ensures few { IfSome result (λ count. count ≤ PACKET_BYTES) }
+{
+    // The bits of all digits together are asked once, at the end.
+    let mut bits: u8 = 0;
     'pairs: for i in 0..word.len() / 2 {
         let high = digit(word[2 * i]);
         let low = digit(word[2 * i + 1]);
-        if high >= 16 || low >= 16 {
-            return None;
-        }
-        places[i] = 16 * high + low;
+        bits = bits | high | low;
+        places[i] = pair(high, low);
+    }
+    if bits >= 16 {
+        return None;
     }
     if word.len() % 2 == 0 {
         Some(word.len() / 2)
