@@ -194,20 +194,20 @@ impl Progress {
     }
 
     /// Adds what a good line says.
-    fn say(&mut self, said: Sentence)
+    fn say(&mut self, said: &Sentence)
         requires hidden { self.old.shown ≡ false }
-        requires room { HasRoom self.old said }
-        ensures follows { (old : Before) → Follows self.old old → Follows self.new (record old { sentences = said ∷ old.sentences }) }
-        ensures shows { KeepsFrame self.old (Some said) self.new }
+        requires room { HasRoom self.old said.now }
+        ensures follows { (old : Before) → Follows self.old old → Follows self.new (record old { sentences = said.now ∷ old.sentences }) }
+        ensures shows { KeepsFrame self.old (Some said.now) self.new }
     {
         match said {
             Sentence::Epoch(time) => {
-                self.epoch = time;
+                self.epoch = *time;
                 self.place = Place::Header;
                 self.frame.clear();
             }
             Sentence::Region(region) => {
-                self.regions.push(region);
+                self.regions.push(*region);
                 self.place = Place::Header;
                 self.frame.clear();
             }
@@ -226,31 +226,31 @@ impl Progress {
             }
             Sentence::Send(packet) => {
                 self.place = Place::Inside;
-                self.frame.send(&packet);
+                self.frame.send(packet);
             }
             Sentence::Count(counter) => {
                 self.place = Place::Inside;
-                self.frame.count(counter);
+                self.frame.count(*counter);
             }
             Sentence::Upset(upset) => {
                 self.place = Place::Inside;
-                self.frame.upset(upset);
+                self.frame.upset(*upset);
             }
             Sentence::Hold(app) => {
                 self.place = Place::Inside;
-                self.frame.hold(app);
+                self.frame.hold(*app);
             }
         }
     }
 
     /// Passes a good line that takes so many bytes.
-    pub(crate) fn pass(&mut self, said: Option<Sentence>, takes: u32)
+    pub(crate) fn pass(&mut self, said: &Option<Sentence>, takes: u32)
         requires hidden { self.old.shown ≡ false }
-        requires room { HasRoomFor self.old said }
+        requires room { HasRoomFor self.old said.now }
         requires some { 0 < takes }
         requires small { self.old.bytes + takes ≤ 16777216 }
-        ensures follows { (old : Before) (line : List ℕ) → Follows self.old old → Follows self.new (passed old (record { bytes = line; takes = takes }) said) }
-        ensures shows { KeepsFrame self.old said self.new }
+        ensures follows { (old : Before) (line : List ℕ) → Follows self.old old → Follows self.new (passed old (record { bytes = line; takes = takes }) said.now) }
+        ensures shows { KeepsFrame self.old said.now self.new }
     {
         self.bytes += takes;
         self.lines += 1;

@@ -22,6 +22,8 @@ pub struct Reader {
     whole: bool,
     finished: bool,
     progress: Progress,
+    // What the last line said. It stays here, since an empty place for it would be wiped for each line.
+    said: Option<Sentence>,
 }
 
 /// The first bytes, `most` at most.
@@ -87,6 +89,7 @@ impl Reader {
             whole: false,
             finished: false,
             progress,
+            said: None,
         })
     }
 
@@ -157,10 +160,9 @@ impl Reader {
         if !self.has_line() {
             return self.at_end();
         }
-        let mut said = None;
         let takes = self.takes();
-        match self.progress.reads(self.line.bytes(), takes, &mut said) {
-            Ok(()) => self.pass(said),
+        match self.progress.reads(self.line.bytes(), takes, &mut self.said) {
+            Ok(()) => self.pass(),
             Err(reason) => Item::Bad {
                 line: self.progress.lines + 1,
                 reason: reason.number(),
@@ -228,16 +230,16 @@ impl Reader {
     }
 
     /// Passes a good line, and answers its item or what comes behind it.
-    fn pass(&mut self, said: Option<Sentence>) -> Item
+    fn pass(&mut self) -> Item
         requires hidden { self.old.progress.shown ≡ false }
         requires line { has_line self.old ≡ true }
-        requires room { HasRoomFor self.old.progress said }
+        requires room { HasRoomFor self.old.progress self.old.said }
         requires small { self.old.progress.bytes + left self.old ≤ 16777216 }
-        ensures { Passes self.old said result self.new }
+        ensures { Passes self.old self.old.said result self.new }
     {
-        let item = item_of(&said);
+        let item = item_of(&self.said);
         let takes = self.takes();
-        self.progress.pass(said, takes);
+        self.progress.pass(&self.said, takes);
         self.line.clear();
         self.whole = false;
         match item {

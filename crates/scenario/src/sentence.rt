@@ -326,22 +326,25 @@ fn common_line(line: &[u8]) -> Option<(Verb, &[u8])>
     }
 }
 
-/// What a line says that stands at a place, by its words. Nothing was said yet.
+/// What a line says that stands at a place, by its words: nothing where it is skipped.
 #[tactic(auto, unfolding(crate::specs::Sentences::line_says, crate::specs::Sentences::said))]
 fn any_line_says(place: Place, line: &[u8], said: &mut Option<Sentence>) -> Result<(), Reason>
-    requires { said.old ≡ None }
     ensures value { Gives (λ _. said.new) result (line_says place line.now) }
     ensures placed { IfOk result (λ _. IsPlaced place said.new) }
 {
     match split_word(line) {
         Some((first, rest)) => {
             if first[0] == b'#' {
+                *said = None;
                 return Ok(());
             }
             let verb = verb_at(place, first)?;
             read_sentence(verb, rest, said)
         }
-        None => Ok(()),
+        None => {
+            *said = None;
+            Ok(())
+        }
     }
 }
 
@@ -355,7 +358,6 @@ pub(crate) fn line_says(
     ensures value { Gives (λ _. said.new) result (line_says place line.now) }
     ensures placed { IfOk result (λ _. IsPlaced place said.new) }
 {
-    *said = None;
     match common_line(line) {
         Some((verb, rest)) => {
             if may_stand(place, verb) {

@@ -12,10 +12,10 @@ returns-then-not-has_line-clause-last c = λ _ t gave s.
 
 pub returns-then-not-has_line-clause-bad : goal.returns-then-not-has_line-clause-bad
 returns-then-not-has_line-clause-bad c = λ line reason t gave _ s e.
-    let m = stands_begun c.args.self.now _ refl refl refl c.begin.ensures.follows c.begin.ensures.hidden t gave s in
+    let m = stands_begun c.args.self.now (record c.args.self.now { progress = c.begin.new.self }) refl refl refl c.begin.ensures.follows c.begin.ensures.hidden t gave s in
     absurd ((at_the_end _ t gave m (sym c.if-not-has_line.ensures)).not_bad line reason e)
 
-looks_good : (c : goal.After-pass) → LooksGood (record c.args.self.now { progress = c.begin.new.self }) c.pass.new.self c.reads.new.said c.pass.result
+looks_good : (c : goal.After-pass) → LooksGood (record c.args.self.now { progress = c.begin.new.self; said = c.reads.new.said }) c.pass.new.self c.reads.new.said c.pass.result
 looks_good c = record {
   passes = c.pass.ensures;
   hidden = c.begin.ensures.hidden;
@@ -53,5 +53,5 @@ returns-in-Err-clause-last c = λ _ t gave s.
 
 pub returns-in-Err-clause-bad : goal.returns-in-Err-clause-bad
 returns-in-Err-clause-bad c = λ line reason t gave _ s e.
-    let m = stands_begun c.args.self.now _ refl refl refl c.begin.ensures.follows c.begin.ensures.hidden t gave s in
+    let m = stands_begun c.args.self.now (record c.args.self.now { progress = c.begin.new.self }) refl refl refl c.begin.ensures.follows c.begin.ensures.hidden t gave s in
     (at_bad _ t gave c.in-Err.reason m (sym c.if-not-has_line.ensures) (λ old f. sym (c.in-Err.ensures.value old f) ∙ ap (reads old) (same_line _ _ _ _ (c.bytes.ensures.value ∙ c.deref.ensures) c.takes-takes.ensures.value))).stop
