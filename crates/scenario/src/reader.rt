@@ -161,7 +161,10 @@ impl Reader {
             return self.at_end();
         }
         let takes = self.takes();
-        match self.progress.reads(self.line.bytes(), takes, &mut self.said) {
+        match self
+            .progress
+            .reads(self.line.bytes(), takes, &mut self.said)
+        {
             Ok(()) => self.pass(),
             Err(reason) => Item::Bad {
                 line: self.progress.lines + 1,

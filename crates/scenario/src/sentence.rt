@@ -259,12 +259,22 @@ fn start_line(rest: &[u8], said: &mut Option<Sentence>) -> Result<(), Reason>
     Ok(())
 }
 
+/// Says `tick`. Where the line before said it too nothing is written, since a sentence is large.
+fn say_tick(said: &mut Option<Sentence>)
+    ensures { said.new ≡ Some Sentence.Tick }
+{
+    if let Some(Sentence::Tick) = said {
+        return;
+    }
+    *said = Some(Sentence::Tick);
+}
+
 fn tick_line(rest: &[u8], said: &mut Option<Sentence>) -> Result<(), Reason>
     ensures value { Gives (λ _. said.new) result (as_said (bare_line Sentence.Tick (words rest.now))) }
     ensures verb { IfOk result (λ _. IsOfVerb Verb.Tick said.new) }
 {
     no_word(rest)?;
-    *said = Some(Sentence::Tick);
+    say_tick(said);
     Ok(())
 }
 
