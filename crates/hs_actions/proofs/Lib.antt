@@ -3,3 +3,5 @@ pub mod Cooldowns
 pub mod Entries
 pub mod Paths
 pub mod Series
+pub mod Counted
+pub mod Cooling

@@ -1,6 +1,6 @@
 -- When the state of the actions stands for what was before.
-use Rattle.std.specs.Prelude.{◌≡◌, ℕ, ◌+◌, ◌-◌, ◌<◌, max, List, get_or}
-use Rattle.std.specs.List.{fold}
+use Rattle.std.specs.Prelude.{◌≡◌, ℕ, ◌+◌, ◌-◌, ◌<◌, nat_lt, max, Bool, List, get_or}
+use Rattle.std.specs.List.{fold, list_any, range_with_len}
 use Rattle.hs_tables.specs.declared.actions.ActRow.{ActRow}
 use Rattle.hs_actions.specs.Outcomes.{Beginning, Outcomes, Past, outcomes_in, made_of, max_of, sendings, sent_of, act_at}
 use Rattle.hs_actions.specs.declared.state.Actions.{Actions}
@@ -23,3 +23,8 @@ pub record StandsOn (acts : List ActRow) (begins : Beginning) (wakeups : ℕ) (e
 -- It stands for what was before.
 unfoldable pub ActionsStand : List ActRow → Past → Actions → Type 0
 ActionsStand acts past a = StandsOn acts past.begins past.wakeups (outcomes_in acts past) a
+
+-- Whether any cooldown runs behind what was before.
+unfoldable pub is_cooling : List ActRow → Past → Bool
+is_cooling acts past =
+    list_any (λ place. nat_lt 0 (left_of (act_at acts place).cooldown past.wakeups (sendings place (outcomes_in acts past)))) (range_with_len 0 8)

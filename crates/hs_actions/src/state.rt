@@ -1,12 +1,14 @@
 //! The state of the actions.
 ghost use Rattle.std.specs.Prelude.{◌≡◌, ◌+◌, ◌-◌, ◌<◌, ◌≤◌, ℕ, List, [], ◌∷◌, length, get_or};
+ghost use Rattle.std.specs.List.{AllPass};
 ghost use Rattle.bus_pipes.specs.Held.{adding};
+ghost use Rattle.bus_pipes.specs.Counted.{is_item_counted};
 ghost use Rattle.hs_tables.specs.declared.actions.ActRow.{ActRow};
 ghost use Rattle.hs_actions.specs.Happenings.{Attempt, action_of, HasPlace};
 ghost use Rattle.hs_actions.specs.Happenings.Happening.{Limits, Clears, Attempts};
 ghost use Rattle.hs_actions.specs.Outcomes.{Past, past_from, in_next_wakeup, with_more, goes_after};
 ghost use Rattle.hs_actions.specs.Items.{happening_items};
-ghost use Rattle.hs_actions.specs.State.{ActionsStand};
+ghost use Rattle.hs_actions.specs.State.{ActionsStand, is_cooling};
 ghost use Rattle.hs_actions.specs.declared.action.Action.TheVariants.{Reset, Message};
 
 use crate::action::{Action, Source, action_of};
@@ -73,6 +75,18 @@ impl Actions {
         self.sent
     }
 
+    /// Whether any cooldown runs.
+    #[inline(always)]
+    pub fn is_cooling(&self) -> bool
+        ensures { (acts : List ActRow) (past : Past) → ActionsStand acts past self.now → result ≡ is_cooling acts past }
+    {
+        let mut any = false;
+        for place in 0..8 {
+            any = any | (self.cooldowns[place] > 0);
+        }
+        any
+    }
+
     /// Performs the action of an entry of a monitor, 1 to 11, and puts what it gives into `out`, which has room for two items: 1 a
     /// processor reset where fewer were made than the maximum (events 101, 111, else 105, 115), 2 a restart (102, 112), 3 an event (103,
     /// 113) and of an event monitor a deletion, 4 to 11 a message action: where its entry is used and no cooldown of it runs, it sends
@@ -92,6 +106,7 @@ impl Actions {
             → ActionsStand acts.now past self.old → ActionsStand acts.now (with_more past (Attempts a ∷ [])) self.new }
         ensures items { (past : Past) (a : Attempt) → a.source ≡ from → a.name ≡ name → a.action ≡ action_of number → a.wakeup + 1 ≡ past.wakeups
             → ActionsStand acts.now past self.old → out.new ≡ adding out.old (happening_items now acts.now past (Attempts a)) }
+        ensures counted { AllPass is_item_counted out.old.items → AllPass is_item_counted out.new.items }
         ensures few { length out.new.items ≤ length out.old.items + 2 }
         ensures room { out.new.room ≡ out.old.room }
     {

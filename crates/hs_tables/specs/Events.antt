@@ -1,5 +1,6 @@
 -- Event monitors.
-use Rattle.std.specs.Prelude.{ℕ, ◌+◌, ◌*◌, ◌==◌, Bool, not, ◌&&◌, nat_lt, if◌then◌else◌, List, replicate, Option, Some, None, is_none, option_map}
+use Rattle.std.specs.Prelude.{ℕ, ◌+◌, ◌*◌, ◌==◌, ◌≤◌, Bool, not, ◌&&◌, nat_lt, if◌then◌else◌, List, replicate, Option, Some, None, is_none, option_map}
+use Rattle.std.specs.List.{All}
 use Rattle.packet_forms.specs.Numbers.{be16_at}
 use Rattle.table_files.specs.Entries.{first_fault, entries_in}
 use Rattle.table_files.specs.declared.fault.EntryFault.{EntryFault}
@@ -22,6 +23,14 @@ is_used row = not (row.action == 0)
 -- The entry that a row is, where it is used.
 abbrev pub entry_of : EventRow → Option EventEntry
 entry_of row = if is_used row then option_map (λ name. let entry : EventEntry = record { name = name; id = row.id; action = row.action } in entry) row.name else None
+
+-- A used entry has an action that there is.
+abbrev pub IsAble : EventEntry → Type 0
+IsAble entry = (1 ≤ entry.action) × (entry.action ≤ 11)
+
+-- Each entry of a table has an action that there is, or 0.
+abbrev pub AreListed : List EventRow → Type 0
+AreListed rows = All (λ (row : EventRow). row.action ≤ 11) rows
 
 -- The least reason to refuse an entry: 1 a used entry has no name, 2 its action is over 11, used or not.
 unfoldable pub row_reason : EventRow → Option ℕ

@@ -64,6 +64,16 @@ impl ExeCount {
         }
     }
 
+    /// How many entries there are: 32.
+    #[inline(always)]
+    pub fn len(&self) -> u32
+        ensures count { result ≡ length self.now }
+        ensures whole { result ≡ 32 }
+    {
+        let rows: &[CountRow] = &self.rows;
+        rows.len() as u32
+    }
+
     /// Entry n, from 1 to 32, where it is used.
     pub fn entry(&self, n: u32) -> Option<Name>
         requires { (1 ≤ n) × (n ≤ 32) }

@@ -38,12 +38,13 @@ pub struct EventMon {
 impl Model for EventMon {
     ghost use Rattle.std.specs.Prelude.{◌≡◌, List, length};
     ghost use Rattle.hs_tables.specs.declared.events.EventRow.{EventRow};
+    ghost use Rattle.hs_tables.specs.Events.{AreListed};
 
     ghost Value = { List EventRow };
 
     ghost view = { λ t. t.rows };
 
-    ghost invariant = { λ t. length t.rows ≡ 16 };
+    ghost invariant = { λ t. (length t.rows ≡ 16) × AreListed t.rows };
 
     ghost inverse = { λ rows. record { rows = rows } };
 }
@@ -65,7 +66,8 @@ impl EventRow {
 }
 
 impl EventMon {
-    ghost use Rattle.hs_tables.specs.Events.{blank_row, blank_rows, entry_of};
+    ghost use Rattle.std.specs.Prelude.{IfSome};
+    ghost use Rattle.hs_tables.specs.Events.{blank_row, blank_rows, entry_of, IsAble};
 
     /// The table of a payload of zero bytes: no entry is used.
     #[tactic(auto, unfolding(crate::specs::Events::blank_rows))]
@@ -77,10 +79,21 @@ impl EventMon {
         }
     }
 
+    /// How many entries there are: 16.
+    #[inline(always)]
+    pub fn len(&self) -> u32
+        ensures count { result ≡ length self.now }
+        ensures whole { result ≡ 16 }
+    {
+        let rows: &[EventRow] = &self.rows;
+        rows.len() as u32
+    }
+
     /// Entry n, from 1 to 16, where it is used.
     pub fn entry(&self, n: u32) -> Option<EventEntry>
         requires { (1 ≤ n) × (n ≤ 16) }
-        ensures { result ≡ entry_of (slice_index_or self.now (n - 1) blank_row) }
+        ensures entry { result ≡ entry_of (slice_index_or self.now (n - 1) blank_row) }
+        ensures able { IfSome result IsAble }
     {
         let row = self.rows[n as usize - 1];
         if !row.is_used() {

@@ -6,11 +6,13 @@ mod apps;
 mod counters;
 mod events;
 pub mod laws;
+mod tables;
 
 pub use actions::{ActEntry, ActRow, MsgActs, load_msgacts};
 pub use apps::{AppEntry, AppMon, AppRow, load_appmon};
 pub use counters::{CountRow, ExeCount, load_execount};
 pub use events::{EventEntry, EventMon, EventRow, load_eventmon};
+pub use tables::HsTables;
 
 #[cfg(test)]
 mod tests;
