@@ -1,9 +1,9 @@
 -- What an attempt gives is counted, or needs no count.
-use Rattle.std.proofs.Common.{◌≡◌, ◌<◌, ℕ, Bool, true, false, cond, List, [], ◌∷◌, ◌++◌, Option, Some, None, refl, sym, ap, subst, ◌∙◌, lit<}
+use Rattle.std.proofs.Common.{◌≡◌, ℕ, Bool, true, false, cond, List, [], ◌∷◌, Option, Some, None, refl, sym, ap, subst, ◌∙◌, lit<}
 use Rattle.std.specs.Prelude.{◌==◌, ◌+◌}
 use Rattle.std.specs.List.{All, AllPass}
 use Rattle.std.proofs.lemmas.List.Elements.{All-nil, All-cons, All-append}
-use Rattle.packet_forms.specs.Built.{telemetry_of, event_of, event_payload}
+use Rattle.packet_forms.specs.Built.{event_of, event_payload}
 use Rattle.packet_forms.proofs.Forms.{telemetry_message_id}
 use Rattle.bus_pipes.specs.Held.{Held, adding}
 use Rattle.bus_pipes.specs.Counted.{is_counted, is_item_counted}

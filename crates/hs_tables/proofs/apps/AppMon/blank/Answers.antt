@@ -1,4 +1,4 @@
-use Rattle.std.proofs.Common.{◌≤◌, None, refl, arith}
+use Rattle.std.proofs.Common.{◌≤◌, refl, arith}
 use Rattle.std.proofs.lemmas.List.Elements.{All-replicate}
 use Rattle.hs_tables.specs.Apps.{blank_row}
 use Rattle.hs_tables.specs.declared.apps.AppRow.{AppRow}

@@ -1,0 +1,14 @@
+pub mod Lists
+pub mod Finding
+pub mod Acting
+pub mod Countdowns
+pub mod Checks
+pub mod Places
+pub mod Rests
+pub mod Performing
+pub mod Following
+pub mod Obeying
+pub mod Waking
+pub mod Showing
+pub mod Idling
+pub mod Activating

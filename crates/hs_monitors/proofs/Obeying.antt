@@ -1,0 +1,83 @@
+-- The monitors before the first wakeup, as a wakeup begins, and at one more order.
+use Rattle.std.proofs.Common.{◌≡◌, ℕ, Bool, true, false, cond, List, [], ◌∷◌, ◌++◌, Option, Some, None, refl, sym, ap, subst, ◌∙◌, append-nil}
+use Rattle.std.specs.Prelude.{unwrap_or}
+use Rattle.histories.specs.Words.{last_or}
+use Rattle.histories.proofs.Entries.{in_force_none}
+use Rattle.packet_forms.specs.declared.name.Counter.{Counter}
+use Rattle.hs_tables.specs.declared.apps.AppRow.{AppRow}
+use Rattle.hs_tables.specs.declared.actions.ActRow.{ActRow}
+use Rattle.hs_tables.specs.declared.tables.HsTables.{HsTables}
+use Rattle.hs_actions.specs.Outcomes.{Past, past_from, in_next_wakeup, with_more}
+use Rattle.hs_actions.specs.State.{ActionsStand}
+use Rattle.hs_actions.specs.declared.state.Actions.{Actions}
+use Rattle.hs_actions.proofs.Series.{more_none}
+use Rattle.hs_monitors.specs.Histories.{Input, HsEntry, Setup, setup_of, apps_in, apps_after}
+use Rattle.hs_monitors.specs.Orders.{orders_of, monitor_in, listen_in, refreshes, is_on, is_listening, by_order}
+use Rattle.hs_monitors.specs.Watches.{watch_of, watch_at}
+use Rattle.hs_monitors.specs.Monitors.{places_of}
+use Rattle.hs_monitors.specs.Attempts.{past_of, past_in}
+use Rattle.hs_monitors.specs.Entries.{EntriesStand}
+use Rattle.hs_monitors.specs.State.{MonitorsStand}
+use Rattle.hs_monitors.specs.declared.instructions.Instruction.{Instruction}
+use Rattle.hs_monitors.specs.declared.watches.Watched.{Watched}
+use Rattle.hs_monitors.specs.declared.monitors.Monitors.{Monitors}
+use Rattle.hs_monitors.proofs.Following.{on_more, listening_more, watch_ordered, watch_unordered, watch_none, orders_none, past_none, past_unordered, past_ordered}
+
+-- entries that stand, on other rows and other checks that are the same
+pub entries_as : (rows other : List AppRow) (checks more : List (List Counter)) (kept : List Watched) → rows ≡ other → checks ≡ more → EntriesStand rows (λ (k : ℕ). checks) kept → EntriesStand other (λ (k : ℕ). more) kept
+entries_as rows other checks more kept same_rows same_checks stood =
+    subst (λ (cs : List (List Counter)). EntriesStand other (λ (k : ℕ). cs) kept) same_checks (subst (λ (xs : List AppRow). EntriesStand xs (λ (k : ℕ). checks) kept) same_rows stood)
+
+-- both monitorings are on at the start
+on_first : is_on [] ≡ true
+unfolding is_on last_or
+on_first = refl
+
+listening_first : is_listening [] ≡ true
+unfolding is_listening last_or
+listening_first = refl
+
+-- before the first wakeup
+pub starts_stand : (tables : HsTables) (made limit : ℕ) (m : Monitors) → m.monitoring ≡ true → m.listening ≡ true → m.places ≡ places_of tables.apps → EntriesStand tables.apps (λ (k : ℕ). []) m.kept
+    → ((acts : List ActRow) → ActionsStand acts (past_from made limit) m.actions) → MonitorsStand (setup_of tables made limit) [] [] (past_of (setup_of tables made limit) []) m
+starts_stand tables made limit m monitoring listening places kept actions =
+    let setup = setup_of tables made limit in
+    let apps : tables.apps ≡ apps_after setup [] = sym (in_force_none Input apps_in tables.apps) in
+    let none : orders_of [] ++ [] ≡ [] = append-nil (orders_of []) ∙ orders_none in
+    record {
+      monitoring = monitoring ∙ sym (ap is_on none ∙ on_first);
+      listening = listening ∙ sym (ap is_listening none ∙ listening_first);
+      places = places ∙ ap places_of apps;
+      kept = entries_as tables.apps (apps_after setup []) [] (watch_at [] []) m.kept apps (sym (watch_unordered [] ∙ watch_none)) kept;
+      actions = subst (λ (p : Past). ActionsStand tables.acts p m.actions) (sym (past_none setup)) (actions tables.acts);
+    }
+
+module _ (setup : Setup) (history : List HsEntry) where
+  -- a wakeup begins
+  pub ticked_stand : (old new : Monitors) → new.monitoring ≡ old.monitoring → new.listening ≡ old.listening → new.places ≡ old.places → new.kept ≡ old.kept
+      → ((acts : List ActRow) (past : Past) → ActionsStand acts past old.actions → ActionsStand acts (in_next_wakeup past) new.actions)
+      → MonitorsStand setup history [] (past_of setup history) old → MonitorsStand setup history [] (past_in setup history []) new
+  ticked_stand old new monitoring listening places kept actions stood = record {
+    monitoring = monitoring ∙ stood.monitoring;
+    listening = listening ∙ stood.listening;
+    places = places ∙ stood.places;
+    kept = subst (λ (ws : List Watched). EntriesStand (apps_after setup history) (λ (k : ℕ). watch_at history []) ws) (sym kept) stood.kept;
+    actions = subst (λ (p : Past). ActionsStand setup.tables.acts p new.actions) (sym (past_unordered setup history)) (actions setup.tables.acts (past_of setup history) stood.actions);
+  }
+
+  -- one order more, by what it makes of each part
+  pub obeyed : (orders : List Instruction) (o : Instruction) (old new : Monitors) → new.monitoring ≡ unwrap_or (monitor_in o) old.monitoring → new.listening ≡ unwrap_or (listen_in o) old.listening → new.places ≡ old.places
+      → EntriesStand (apps_after setup history) (λ (k : ℕ). cond (refreshes o) [] (watch_at history orders)) new.kept
+      → ActionsStand setup.tables.acts (with_more (past_in setup history orders) (by_order o)) new.actions
+      → MonitorsStand setup history orders (past_in setup history orders) old → MonitorsStand setup history (orders ++ o ∷ []) (past_in setup history (orders ++ o ∷ [])) new
+  obeyed orders o old new monitoring listening places kept actions stood = record {
+    monitoring = monitoring ∙ ap (unwrap_or (monitor_in o)) stood.monitoring ∙ sym (on_more (orders_of history) orders o);
+    listening = listening ∙ ap (unwrap_or (listen_in o)) stood.listening ∙ sym (listening_more (orders_of history) orders o);
+    places = places ∙ stood.places;
+    kept = subst (λ (cs : List (List Counter)). EntriesStand (apps_after setup history) (λ (k : ℕ). cs) new.kept) (sym (watch_ordered history orders o)) kept;
+    actions = subst (λ (p : Past). ActionsStand setup.tables.acts p new.actions) (sym (past_ordered setup history orders o)) actions;
+  }
+
+  -- the actions at an order that does nothing to them
+  pub actions_left : (orders : List Instruction) (a : Actions) → ActionsStand setup.tables.acts (past_in setup history orders) a → ActionsStand setup.tables.acts (with_more (past_in setup history orders) []) a
+  actions_left orders a stood = subst (λ (p : Past). ActionsStand setup.tables.acts p a) (sym (more_none (past_in setup history orders))) stood

@@ -1,0 +1,22 @@
+-- When what is kept of the application monitors stands for the checks of their watch.
+use Rattle.std.specs.Prelude.{◌≡◌, ◌<◌, ℕ, false, List, slice_index_or, Option, Some}
+use Rattle.packet_forms.specs.declared.name.Counter.{Counter}
+use Rattle.hs_tables.specs.Apps.{entry_of}
+use Rattle.hs_tables.specs.declared.apps.AppRow.{AppRow}
+use Rattle.hs_tables.specs.declared.apps.AppEntry.{AppEntry}
+use Rattle.hs_monitors.specs.Acting.{last_counter, changes, has_acted, countdown_of}
+use Rattle.hs_monitors.specs.Monitors.{row_at}
+use Rattle.hs_monitors.specs.declared.watches.Watched.{Watched}
+
+-- What is kept of an entry stands for some checks. Where it acted nothing is said of the last counter.
+pub record EntryStands (e : AppEntry) (checks : List (List Counter)) (w : Watched) : Type 0 where
+  pub countdown : w.countdown ≡ countdown_of e.cycles (changes e.name checks)
+  pub last : has_acted e.cycles (changes e.name checks) ≡ false → w.last ≡ last_counter e.name checks
+
+-- What is kept in a place.
+abbrev pub watched_at : List Watched → ℕ → Watched
+watched_at kept place = slice_index_or kept place (record { last = 0; countdown = 0 })
+
+-- What is kept of each used entry stands for the checks that are given by its place.
+pub record EntriesStand (rows : List AppRow) (checks : ℕ → List (List Counter)) (kept : List Watched) : Type 0 where
+  pub each : (k : ℕ) (e : AppEntry) → k < 32 → entry_of (row_at rows k) ≡ Some e → EntryStands e (checks k) (watched_at kept k)

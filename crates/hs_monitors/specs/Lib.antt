@@ -1,0 +1,15 @@
+pub mod Messages
+pub mod Instructions
+pub mod Verdicts
+pub mod Histories
+pub mod Orders
+pub mod Watches
+pub mod Acting
+pub mod Monitors
+pub mod Events
+pub mod Attempts
+pub mod Housekeeping
+pub mod Step
+pub mod Entries
+pub mod State
+pub mod Rows

@@ -1,0 +1,56 @@
+-- When a state of Health and Safety stands for what it was set up with and a history, and when it has nothing to do.
+use Rattle.std.specs.Prelude.{◌≡◌, ◌==◌, ℕ, nat_lt, Bool, not, ◌&&◌, List, [], ◌++◌, length, Option, Some, None}
+use Rattle.commands.specs.Counting.{counts_of}
+use Rattle.table_files.specs.declared.kinds.TableKind.{TableKind}
+use Rattle.table_files.specs.declared.kinds.TableKind.TheVariants.{AppMon, EventMon, ExeCount, MsgActs, Ats, Rts, Dwell, Eeprom, Memory}
+use Rattle.hs_tables.specs.declared.tables.HsTables.{HsTables}
+use Rattle.hs_actions.specs.Outcomes.{Past}
+use Rattle.hs_actions.specs.State.{ActionsStand, is_cooling}
+use Rattle.hs_monitors.specs.Histories.{HsEntry, Setup, Activation, apps_after}
+use Rattle.hs_monitors.specs.Histories.Activation.{Apps, Events, Counts}
+use Rattle.hs_monitors.specs.Orders.{orders_of, is_on, is_listening}
+use Rattle.hs_monitors.specs.Watches.{watch_at}
+use Rattle.hs_monitors.specs.Monitors.{places_of}
+use Rattle.hs_monitors.specs.Attempts.{past_of}
+use Rattle.hs_monitors.specs.Step.{hs_heard}
+use Rattle.hs_monitors.specs.Entries.{EntriesStand}
+use Rattle.hs_monitors.specs.declared.instructions.Instruction.{Instruction}
+use Rattle.hs_monitors.specs.declared.monitors.Monitors.{Monitors}
+use Rattle.hs_monitors.specs.declared.state.Hs.{Hs}
+
+-- The monitors stand for a history, what was ordered in the next wakeup so far, and what happened to the actions.
+pub record MonitorsStand (setup : Setup) (history : List HsEntry) (orders : List Instruction) (past : Past) (m : Monitors) : Type 0 where
+  pub monitoring : m.monitoring ≡ is_on (orders_of history ++ orders)
+  pub listening : m.listening ≡ is_listening (orders_of history ++ orders)
+  pub places : m.places ≡ places_of (apps_after setup history)
+  pub kept : EntriesStand (apps_after setup history) (λ place. watch_at history orders) m.kept
+  pub actions : ActionsStand setup.tables.acts past m.actions
+
+-- The state stands for what it was set up with and a history.
+pub record StandsFor (setup : Setup) (history : List HsEntry) (hs : Hs) : Type 0 where
+  pub counts : hs.counts ≡ counts_of (hs_heard history)
+  pub monitors : MonitorsStand setup history [] (past_of setup history) hs.monitors
+
+unfoldable pub Stands : Setup → List HsEntry → Hs → Type 0
+Stands setup history hs = StandsFor setup history hs
+
+-- The monitors have nothing to do without packets where no cooldown runs, and application monitoring is off or no entry is used.
+unfoldable pub are_idle : Setup → List HsEntry → Bool
+are_idle setup history =
+    not (is_on (orders_of history) && nat_lt 0 (places_of (apps_after setup history))) && not (is_cooling setup.tables.acts (past_of setup history))
+
+-- And the whole has nothing to do where there are no packets.
+unfoldable pub is_idle_on : Setup → List HsEntry → List (List ℕ) → List (List ℕ) → Bool
+is_idle_on setup history commands events = ((length commands == 0) && (length events == 0)) && are_idle setup history
+
+-- The activation of a kind that Health and Safety has, with the table of the kind; none of another.
+abbrev pub activation_of : TableKind → HsTables → Option Activation
+activation_of AppMon tables = Some (Apps tables.apps)
+activation_of EventMon tables = Some (Events tables.events)
+activation_of ExeCount tables = Some (Counts tables.counts)
+activation_of MsgActs tables = None
+activation_of (Ats n) tables = None
+activation_of (Rts n) tables = None
+activation_of (Dwell n) tables = None
+activation_of Eeprom tables = None
+activation_of Memory tables = None

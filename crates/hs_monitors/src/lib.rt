@@ -1,0 +1,21 @@
+//! Health and Safety: application monitors by execution counters, event monitors over event messages, and the commands on both.
+#![tactic(auto)]
+
+mod apps;
+mod events;
+mod housekeeping;
+mod input;
+mod instructions;
+pub mod laws;
+mod messages;
+mod monitors;
+mod state;
+mod step;
+mod verdicts;
+mod watches;
+
+pub use input::HsInput;
+pub use state::Hs;
+
+#[cfg(test)]
+mod tests;

@@ -1,0 +1,147 @@
+//! A wakeup of Health and Safety.
+ghost use Rattle.std.specs.Prelude.{◌≡◌, ◌≤◌, List, [], ◌∷◌, ◌++◌, length};
+ghost use Rattle.std.specs.List.{AllPass};
+ghost use Rattle.histories.specs.Entries.Entry.{Woken};
+ghost use Rattle.bus_pipes.specs.Counted.{is_item_counted};
+ghost use Rattle.hs_monitors.specs.Histories.{HsEntry, Setup, input_of, tables_after};
+ghost use Rattle.hs_monitors.specs.Step.{hs_items};
+ghost use Rattle.hs_monitors.specs.State.{Stands};
+
+use crate::housekeeping::housekeeping;
+use crate::input::HsInput;
+use crate::instructions::Instruction;
+use crate::monitors::Monitors;
+use crate::state::Hs;
+use crate::verdicts::Refusal;
+use bus_pipes::{Counts, Outbox};
+use commands::{Commanded, handle_all};
+use hs_tables::HsTables;
+use packet_forms::{Counter, Packet};
+
+// What is read beside the packets.
+#[derive(Clone, Copy)]
+struct Reads<'a> {
+    tables: &'a HsTables,
+    counters: &'a [Counter],
+}
+
+impl<'a> Commanded<Reads<'a>> for Monitors {
+    ghost use Rattle.std.specs.Prelude.{◌≡◌};
+    ghost use Rattle.hs_monitors.specs.Verdicts.{own_refusal};
+    ghost use Rattle.hs_monitors.specs.Histories.{tables_after};
+    ghost use Rattle.hs_monitors.specs.Attempts.{past_in};
+    ghost use Rattle.hs_monitors.specs.Step.{Turn, hs_answers};
+    ghost use Rattle.hs_monitors.specs.State.{MonitorsStand};
+
+    type Instruction = Instruction;
+
+    type Refusal = Refusal;
+
+    type Left = ();
+
+    ghost Basis = { Unit {0} };
+
+    ghost Turn = { Turn };
+
+    ghost refuses = { own_refusal };
+
+    ghost answers = { hs_answers };
+
+    ghost basis = { λ turn. tt };
+
+    ghost belongs = { λ turn reads now. (reads.tables.now ≡ tables_after turn.setup turn.history) × (reads.counters.now ≡ turn.input.seen.counters) × (turn.input.time ≡ now) };
+
+    ghost stands = { λ turn orders monitors left. MonitorsStand turn.setup turn.history orders (past_in turn.setup turn.history orders) monitors };
+
+    ghost most = { 0 };
+
+    ghost still_safe = { λ reads n monitors left safe. safe };
+
+    ghost timed = { λ turn reads now belongs. belongs.2 };
+
+    fn refusal(&self, instruction: &Instruction, reads: Reads<'a>, now: u32) -> Option<Refusal> {
+        None
+    }
+
+    fn housekeeping(&self, counts: Counts, reads: Reads<'a>, now: u32) -> Packet {
+        let shown = self.shown(&reads.tables.apps);
+        housekeeping(
+            counts,
+            shown,
+            &self.actions,
+            &reads.tables.counts,
+            reads.counters,
+            now,
+        )
+    }
+
+    fn obey(
+        &mut self,
+        instruction: &Instruction,
+        reads: Reads<'a>,
+        now: u32,
+        left: &mut (),
+        out: &mut Outbox,
+    ) {
+        Monitors::obey(self, &reads.tables.apps, instruction);
+    }
+}
+
+impl Hs {
+    /// A wakeup at the time `now`, in seconds. Each cooldown goes down by one. The packets of the command pipe, at most 16, are handled in
+    /// order: a request is answered with housekeeping, a command with its event. Where application monitoring is on, the application
+    /// monitors are checked in table order by the counters. Where event monitoring is on, the packets of the event pipe, at most 32, are
+    /// compared with the event monitors, packet by packet and in table order. What is sent goes to `out`, which is empty and has room for
+    /// 1,104 items, and the state after the wakeup to `next`. The tables are those in force.
+    pub fn step(
+        &self,
+        tables: &HsTables,
+        input: &HsInput<'_>,
+        now: u32,
+        next: &mut Hs,
+        out: &mut Outbox,
+    )
+        requires commands { length input.now.commands.now ≤ 16 }
+        requires events { length input.now.events.now ≤ 32 }
+        requires empty { out.old.items ≡ [] }
+        requires room { 1104 ≤ out.old.room }
+        ensures stands { (setup : Setup) (history : List HsEntry) → tables.now ≡ tables_after setup history → Stands setup history self.now → Stands setup (history ++ Woken (input_of now input.now) ∷ []) next.new }
+        ensures items { (setup : Setup) (history : List HsEntry) → tables.now ≡ tables_after setup history → Stands setup history self.now → out.new.items ≡ hs_items setup history (input_of now input.now) }
+        ensures counted { AllPass is_item_counted out.new.items }
+        ensures few { length out.new.items ≤ 1104 }
+        ensures room { out.new.room ≡ out.old.room }
+    {
+        *next = *self;
+        next.advance(tables, input, now, out);
+    }
+
+    /// The same in place.
+    pub fn advance(&mut self, tables: &HsTables, input: &HsInput<'_>, now: u32, out: &mut Outbox)
+        requires commands { length input.now.commands.now ≤ 16 }
+        requires events { length input.now.events.now ≤ 32 }
+        requires empty { out.old.items ≡ [] }
+        requires room { 1104 ≤ out.old.room }
+        ensures stands { (setup : Setup) (history : List HsEntry) → tables.now ≡ tables_after setup history → Stands setup history self.old → Stands setup (history ++ Woken (input_of now input.now) ∷ []) self.new }
+        ensures items { (setup : Setup) (history : List HsEntry) → tables.now ≡ tables_after setup history → Stands setup history self.old → out.new.items ≡ hs_items setup history (input_of now input.now) }
+        ensures counted { AllPass is_item_counted out.new.items }
+        ensures few { length out.new.items ≤ 1104 }
+        ensures room { out.new.room ≡ out.old.room }
+    {
+        self.monitors.tick();
+        let reads = Reads {
+            tables,
+            counters: input.counters,
+        };
+        handle_all(
+            &mut self.counts,
+            &mut self.monitors,
+            input.commands,
+            reads,
+            now,
+            &mut (),
+            out,
+        );
+        self.monitors.check_apps(tables, input.counters, now, out);
+        self.monitors.hear_events(tables, input.events, now, out);
+    }
+}
