@@ -1,9 +1,8 @@
 -- The state once a table became active.
-use Rattle.std.proofs.Common.{◌≡◌, ℕ, Bool, List, [], ◌∷◌, ◌++◌, Option, Some, None, refl, sym, ap, subst, ◌∙◌, append-nil}
-use Rattle.histories.specs.Entries.{in_force, replaced_by}
-use Rattle.histories.specs.Entries.Entry.{Woken, Activated}
+use Rattle.std.proofs.Common.{◌≡◌, ℕ, List, [], ◌∷◌, ◌++◌, Option, Some, None, refl, sym, ap, subst, ◌∙◌}
+use Rattle.histories.specs.Entries.{replaced_by}
+use Rattle.histories.specs.Entries.Entry.{Activated}
 use Rattle.histories.proofs.Entries.{in_force_activated}
-use Rattle.packet_forms.specs.declared.name.Counter.{Counter}
 use Rattle.commands.specs.Counting.{counts_of}
 use Rattle.table_files.specs.declared.kinds.TableKind.{TableKind}
 use Rattle.hs_tables.specs.declared.tables.HsTables.{HsTables}
@@ -13,15 +12,14 @@ use Rattle.hs_tables.specs.declared.counters.CountRow.{CountRow}
 use Rattle.hs_actions.specs.Outcomes.{Past}
 use Rattle.hs_actions.specs.State.{ActionsStand}
 use Rattle.hs_actions.specs.declared.state.Actions.{Actions}
-use Rattle.hs_monitors.specs.Histories.{Input, Activation, HsEntry, Setup, apps_in, apps_after}
+use Rattle.hs_monitors.specs.Histories.{Activation, HsEntry, Setup, apps_in, apps_after}
 use Rattle.hs_monitors.specs.Histories.Activation.{Apps, Events, Counts}
 use Rattle.hs_monitors.specs.Orders.{orders_of, is_on, is_listening}
 use Rattle.hs_monitors.specs.Watches.{watch_of, watch_at}
 use Rattle.hs_monitors.specs.Monitors.{places_of}
 use Rattle.hs_monitors.specs.Attempts.{past_of}
-use Rattle.hs_monitors.specs.Step.{hs_heard}
 use Rattle.hs_monitors.specs.Entries.{EntriesStand}
-use Rattle.hs_monitors.specs.State.{MonitorsStand, Stands, activation_of}
+use Rattle.hs_monitors.specs.State.{Stands, activation_of}
 use Rattle.hs_monitors.specs.declared.instructions.Instruction.{Instruction}
 use Rattle.hs_monitors.specs.declared.state.Hs.{Hs}
 use Rattle.hs_monitors.proofs.Following.{orders_activated, heard_activated, watch_unordered, watch_apps, watch_events, watch_counts, past_activated}

@@ -1,12 +1,12 @@
 -- What is kept of an entry at one more check.
-use Rattle.std.proofs.Common.{◌≡◌, ◌≢◌, ℕ, ◌-◌, ◌+◌, ◌<◌, Bool, true, false, not, cond, List, [], ◌∷◌, ◌++◌, Option, Some, None, refl, sym, ap, ◌∙◌, arith, eq-eqb, ne_eqb, append-nil}
+use Rattle.std.proofs.Common.{◌≡◌, ◌≢◌, ℕ, ◌-◌, ◌<◌, Bool, true, false, not, cond, List, [], ◌∷◌, ◌++◌, Option, Some, None, refl, sym, ap, ◌∙◌, arith, eq-eqb, ne_eqb}
 use Rattle.std.specs.Prelude.{◌==◌, filter_map, unwrap_or}
-use Rattle.histories.specs.Words.{along, last_or}
+use Rattle.histories.specs.Words.{last_or}
 use Rattle.histories.proofs.Along.{along_more, along_none}
 use Rattle.histories.proofs.Lasts.{last_or_more}
 use Rattle.packet_forms.specs.declared.name.Counter.{Counter}
 use Rattle.hs_tables.specs.declared.apps.AppEntry.{AppEntry}
-use Rattle.hs_monitors.specs.Acting.{counter_in, last_counter, differs, changes, acts, acts_now, has_acted, countdown_of}
+use Rattle.hs_monitors.specs.Acting.{counter_in, last_counter, differs, changes, acts_now, has_acted, countdown_of}
 use Rattle.hs_monitors.specs.Entries.{EntryStands}
 use Rattle.hs_monitors.specs.declared.watches.Watched.{Watched}
 use Rattle.hs_monitors.proofs.Lists.{filter_map_none, filter_map_some}

@@ -1,6 +1,5 @@
 -- An entry acts where its countdown ends, and once in its watch.
 use Rattle.std.proofs.Common.{◌≡◌, ℕ, ◌<◌, Bool, true, false, ◌||◌, List, [], ◌∷◌, ◌++◌, refl, sym, ap, ◌∙◌, eq-eqb}
-use Rattle.std.specs.Prelude.{◌==◌}
 use Rattle.std.proofs.lemmas.Bool.{eqb-true}
 use Rattle.hs_monitors.specs.Acting.{acts, has_acted, countdown_of}
 use Rattle.hs_monitors.proofs.Acting.{counting, running, rests_on, rests_later, acted_more, acts_at_end}

@@ -1,7 +1,7 @@
 -- A history at one more order of the next wakeup, and at one more entry.
 use Rattle.std.proofs.Common.{◌≡◌, ℕ, ◌+◌, Bool, true, false, cond, ◌||◌, List, [], ◌∷◌, ◌++◌, length, Option, Some, None, refl, sym, ap, ◌∙◌, append-nil, append_assoc, length-append}
 use Rattle.std.specs.Prelude.{filter_map, unwrap_or}
-use Rattle.std.specs.List.{flat_map, list_any, cons_option}
+use Rattle.std.specs.List.{cons_option}
 use Rattle.std.proofs.lemmas.List.Elements.{filter_map-append}
 use Rattle.histories.specs.Words.{along, from_last, last_or}
 use Rattle.histories.specs.Entries.{wakeups}
@@ -10,7 +10,6 @@ use Rattle.histories.proofs.Along.{along_more, along_none, joined_more, joined_n
 use Rattle.histories.proofs.Lasts.{any_push, from_last_more, last_or_more}
 use Rattle.histories.proofs.Fronts.{flat_map_more}
 use Rattle.histories.proofs.Entries.{wakeups_woken, wakeups_activated, wakeups_none}
-use Rattle.packet_forms.specs.declared.name.Counter.{Counter}
 use Rattle.hs_tables.specs.declared.apps.AppRow.{AppRow}
 use Rattle.hs_tables.specs.declared.events.EventRow.{EventRow}
 use Rattle.hs_tables.specs.declared.counters.CountRow.{CountRow}
@@ -26,7 +25,6 @@ use Rattle.hs_monitors.specs.Watches.{Mark, mark_of, watch_of, watch_at}
 use Rattle.hs_monitors.specs.Attempts.{by_monitors, happened_at, happened_of, past_of, past_in}
 use Rattle.hs_monitors.specs.Step.{hs_heard}
 use Rattle.hs_monitors.specs.declared.instructions.Instruction.{Instruction}
-use Rattle.hs_monitors.proofs.Lists.{filter_map_none, filter_map_some}
 
 -- the last switching at one more order
 last_switch : (f : Instruction → Option Bool) (orders : List Instruction) (o : Instruction) → last_or true (filter_map f (orders ++ o ∷ [])) ≡ unwrap_or (f o) (last_or true (filter_map f orders))

@@ -1,5 +1,5 @@
 -- A wakeup in which there is nothing to do.
-use Rattle.std.proofs.Common.{◌≡◌, ◌<◌, ◌≤◌, ℕ, ◌+◌, Bool, true, false, not, ◌&&◌, cond, List, [], ◌∷◌, ◌++◌, length, take, inl, inr, ◌⊎◌, Option, Some, None, refl, sym, ap, subst, ◌∙◌, arith, append-nil}
+use Rattle.std.proofs.Common.{◌≡◌, ◌≤◌, ℕ, Bool, true, false, not, ◌&&◌, cond, List, [], ◌∷◌, ◌++◌, length, take, inl, inr, ◌⊎◌, refl, sym, ap, subst, ◌∙◌, arith, append-nil}
 use Rattle.std.specs.Prelude.{◌==◌, nat_lt}
 use Rattle.std.specs.List.{flat_map}
 use Rattle.std.proofs.lemmas.Bool.{and_parts, ltb-false}
@@ -14,7 +14,6 @@ use Rattle.commands.specs.declared.verdicts.Verdict.{Verdict}
 use Rattle.commands.proofs.Heard.{no_packets, no_answers, verdicts_none, orders_none, heard_idle}
 use Rattle.hs_tables.specs.Apps.{entry_of}
 use Rattle.hs_tables.specs.declared.apps.AppRow.{AppRow}
-use Rattle.hs_tables.specs.declared.apps.AppEntry.{AppEntry}
 use Rattle.hs_actions.specs.Happenings.{Happening}
 use Rattle.hs_actions.specs.Items.{hs_name, items_of}
 use Rattle.hs_actions.specs.Outcomes.{Past, in_next_wakeup, with_more}
@@ -30,12 +29,12 @@ use Rattle.hs_monitors.specs.Events.{event_attempts}
 use Rattle.hs_monitors.specs.Attempts.{by_monitors, past_of, past_in}
 use Rattle.hs_monitors.specs.Step.{hs_heard, turn_of, hs_answers, hs_items}
 use Rattle.hs_monitors.specs.Entries.{EntriesStand}
-use Rattle.hs_monitors.specs.State.{MonitorsStand, Stands, are_idle, is_idle_on}
+use Rattle.hs_monitors.specs.State.{Stands, are_idle, is_idle_on}
 use Rattle.hs_monitors.specs.declared.instructions.Instruction.{Instruction}
 use Rattle.hs_monitors.specs.declared.state.Hs.{Hs}
 use Rattle.hs_monitors.proofs.Lists.{off_by_not}
 use Rattle.hs_monitors.proofs.Places.{given_front, none_used, no_entry, entry_none}
-use Rattle.hs_monitors.proofs.Following.{orders_woken, heard_woken, watch_woken, watch_unordered, past_unordered, past_woken}
+use Rattle.hs_monitors.proofs.Following.{orders_woken, watch_woken, watch_unordered, past_unordered, past_woken}
 use Rattle.hs_monitors.proofs.Obeying.{entries_as}
 use Rattle.hs_monitors.proofs.Waking.{apps_woken}
 

@@ -1,5 +1,5 @@
 -- The monitors before the first wakeup, as a wakeup begins, and at one more order.
-use Rattle.std.proofs.Common.{◌≡◌, ℕ, Bool, true, false, cond, List, [], ◌∷◌, ◌++◌, Option, Some, None, refl, sym, ap, subst, ◌∙◌, append-nil}
+use Rattle.std.proofs.Common.{◌≡◌, ℕ, true, cond, List, [], ◌∷◌, ◌++◌, refl, sym, ap, subst, ◌∙◌, append-nil}
 use Rattle.std.specs.Prelude.{unwrap_or}
 use Rattle.histories.specs.Words.{last_or}
 use Rattle.histories.proofs.Entries.{in_force_none}
@@ -13,7 +13,7 @@ use Rattle.hs_actions.specs.declared.state.Actions.{Actions}
 use Rattle.hs_actions.proofs.Series.{more_none}
 use Rattle.hs_monitors.specs.Histories.{Input, HsEntry, Setup, setup_of, apps_in, apps_after}
 use Rattle.hs_monitors.specs.Orders.{orders_of, monitor_in, listen_in, refreshes, is_on, is_listening, by_order}
-use Rattle.hs_monitors.specs.Watches.{watch_of, watch_at}
+use Rattle.hs_monitors.specs.Watches.{watch_at}
 use Rattle.hs_monitors.specs.Monitors.{places_of}
 use Rattle.hs_monitors.specs.Attempts.{past_of, past_in}
 use Rattle.hs_monitors.specs.Entries.{EntriesStand}

@@ -1,5 +1,5 @@
 -- What an entry attempts, by whether it acts or matches.
-use Rattle.std.proofs.Common.{◌≡◌, ℕ, Bool, true, false, cond, List, [], ◌∷◌, ◌++◌, length, Option, Some, None, refl, sym, ap, ◌∙◌}
+use Rattle.std.proofs.Common.{◌≡◌, ℕ, Bool, true, false, cond, List, [], ◌∷◌, length, Option, Some, None, refl, sym, ap, ◌∙◌}
 use Rattle.std.specs.Prelude.{◌==◌}
 use Rattle.std.specs.List.{flat_map}
 use Rattle.std.proofs.lemmas.Bool.{eqb-true, and_parts}
@@ -12,7 +12,7 @@ use Rattle.hs_tables.specs.declared.apps.AppRow.{AppRow}
 use Rattle.hs_tables.specs.declared.apps.AppEntry.{AppEntry}
 use Rattle.hs_tables.specs.declared.events.EventRow.{EventRow}
 use Rattle.hs_tables.specs.declared.events.EventEntry.{EventEntry}
-use Rattle.hs_actions.specs.Happenings.{Happening, attempt_by}
+use Rattle.hs_actions.specs.Happenings.{attempt_by}
 use Rattle.hs_actions.specs.Happenings.Happening.{Attempts}
 use Rattle.hs_actions.specs.declared.action.Source.TheVariants.{AppMonitor, EventMonitor}
 use Rattle.hs_monitors.specs.Acting.{changes, acts_now}

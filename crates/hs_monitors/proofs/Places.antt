@@ -1,12 +1,12 @@
 -- The places of the application monitors up to the last used entry.
-use Rattle.std.proofs.Common.{◌≡◌, ℕ, zero, suc, ◌+◌, ◌<◌, ◌≤◌, Bool, true, false, ◌||◌, cond, List, [], ◌∷◌, ◌++◌, length, take, get_or, Option, Some, None, refl, sym, ap, subst, ◌∙◌, arith, length-take}
+use Rattle.std.proofs.Common.{◌≡◌, ℕ, zero, suc, ◌+◌, ◌<◌, ◌≤◌, Bool, true, false, ◌||◌, cond, List, [], ◌∷◌, ◌++◌, length, take, Option, Some, None, refl, sym, ap, ◌∙◌, arith, length-take}
 use Rattle.std.specs.Prelude.{is_some}
 use Rattle.std.specs.List.{flat_map, list_any}
 use Rattle.std.proofs.lemmas.Bool.{or_parts}
 use Rattle.std.proofs.lemmas.List.{get_or_default}
 use Rattle.histories.proofs.Lasts.{any_push}
 use Rattle.histories.proofs.Fronts.{front_more}
-use Rattle.hs_tables.specs.Apps.{blank_row, entry_of}
+use Rattle.hs_tables.specs.Apps.{blank_row}
 use Rattle.hs_tables.specs.declared.apps.AppRow.{AppRow}
 use Rattle.hs_tables.specs.declared.apps.AppEntry.{AppEntry}
 use Rattle.hs_monitors.specs.Monitors.{row_at, is_entry, places_of}

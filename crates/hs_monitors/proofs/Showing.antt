@@ -1,6 +1,6 @@
 -- What housekeeping shows.
-use Rattle.std.proofs.Common.{◌≡◌, ◌≢◌, ℕ, ◌+◌, ◌*◌, ◌<◌, ◌≤◌, Bool, true, false, not, List, [], ◌∷◌, ◌++◌, length, take, get_or, set, map, inl, inr, Option, Some, None, refl, sym, ap, subst, ◌∙◌, arith, append-nil, append_assoc, eq-eqb, ne_eqb}
-use Rattle.std.specs.Prelude.{◌==◌, unwrap_or}
+use Rattle.std.proofs.Common.{◌≡◌, ◌≢◌, ℕ, ◌+◌, ◌<◌, Bool, true, false, not, List, ◌++◌, length, take, get_or, set, inl, inr, Option, Some, None, refl, sym, ap, ◌∙◌, arith, append-nil, append_assoc, eq-eqb, ne_eqb}
+use Rattle.std.specs.Prelude.{◌==◌}
 use Rattle.std.specs.List.{flat_map}
 use Rattle.std.proofs.lemmas.Bool.{cases_eq}
 use Rattle.std.proofs.lemmas.List.{get_or-set_same, get_or-set_other}
@@ -15,7 +15,7 @@ use Rattle.hs_tables.specs.declared.counters.CountRow.{CountRow}
 use Rattle.hs_actions.specs.State.{ActionsStand}
 use Rattle.hs_monitors.specs.Histories.{Input, HsEntry, Setup, apps_after, tables_after}
 use Rattle.hs_monitors.specs.Watches.{watch_at}
-use Rattle.hs_monitors.specs.Acting.{changes, has_acted, countdown_of}
+use Rattle.hs_monitors.specs.Acting.{changes, has_acted}
 use Rattle.hs_monitors.specs.Monitors.{row_at, watches, is_watching}
 use Rattle.hs_monitors.specs.Attempts.{past_in}
 use Rattle.hs_monitors.specs.Housekeeping.{watching_of, shown_bytes, housekeeping_of, housekeeping_at}

@@ -1,8 +1,8 @@
 -- The monitors after a wakeup, and what is sent in it.
-use Rattle.std.proofs.Common.{◌≡◌, ℕ, ◌+◌, Bool, true, false, cond, List, [], ◌∷◌, ◌++◌, length, refl, sym, ap, subst, ◌∙◌}
+use Rattle.std.proofs.Common.{◌≡◌, ℕ, Bool, true, false, cond, List, [], ◌∷◌, ◌++◌, length, refl, sym, ap, subst, ◌∙◌}
 use Rattle.std.specs.List.{flat_map}
 use Rattle.histories.specs.Entries.{wakeups, in_force}
-use Rattle.histories.specs.Entries.Entry.{Woken, Activated}
+use Rattle.histories.specs.Entries.Entry.{Woken}
 use Rattle.histories.proofs.Entries.{in_force_woken}
 use Rattle.packet_forms.specs.declared.name.Counter.{Counter}
 use Rattle.bus_pipes.specs.Held.{Held, adding}
@@ -19,12 +19,12 @@ use Rattle.hs_actions.specs.State.{ActionsStand}
 use Rattle.hs_actions.specs.Performs.{Performs}
 use Rattle.hs_actions.specs.declared.state.Actions.{Actions}
 use Rattle.hs_actions.proofs.Series.{performs_both}
-use Rattle.hs_monitors.specs.Histories.{Input, HsEntry, Setup, apps_in, events_in, apps_after, tables_after}
+use Rattle.hs_monitors.specs.Histories.{Input, HsEntry, Setup, apps_in, apps_after, tables_after}
 use Rattle.hs_monitors.specs.Orders.{heard_at, ordered_at, orders_of, is_on, is_listening}
 use Rattle.hs_monitors.specs.Watches.{watch_of, watch_at}
 use Rattle.hs_monitors.specs.Monitors.{places_of, app_attempt}
 use Rattle.hs_monitors.specs.Events.{event_attempts}
-use Rattle.hs_monitors.specs.Attempts.{by_apps, by_events, by_monitors, past_of, past_in}
+use Rattle.hs_monitors.specs.Attempts.{by_monitors, past_of, past_in}
 use Rattle.hs_monitors.specs.Step.{turn_of, hs_answers, hs_items}
 use Rattle.hs_monitors.specs.Entries.{EntriesStand}
 use Rattle.hs_monitors.specs.State.{MonitorsStand}

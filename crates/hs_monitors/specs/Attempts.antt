@@ -1,11 +1,11 @@
 -- What happens to the actions in a history.
-use Rattle.std.specs.Prelude.{ℕ, ◌+◌, if◌then◌else◌, List, [], ◌∷◌, ◌++◌, length}
+use Rattle.std.specs.Prelude.{if◌then◌else◌, List, [], ◌∷◌, ◌++◌, length}
 use Rattle.std.specs.List.{flat_map}
 use Rattle.histories.specs.Words.{joined_along}
 use Rattle.histories.specs.Entries.{wakeups}
 use Rattle.histories.specs.Entries.Entry.{Woken, Activated}
 use Rattle.hs_actions.specs.Happenings.{Happening}
-use Rattle.hs_actions.specs.Outcomes.{Past, Beginning, in_next_wakeup, with_more}
+use Rattle.hs_actions.specs.Outcomes.{Past, in_next_wakeup, with_more}
 use Rattle.hs_monitors.specs.Histories.{Input, HsEntry, Setup, tables_after}
 use Rattle.hs_monitors.specs.Orders.{ordered_at, orders_of, is_on, is_listening, by_orders}
 use Rattle.hs_monitors.specs.Watches.{watch_of}

@@ -1,5 +1,5 @@
 -- When what is kept of the application monitors stands for the checks of their watch.
-use Rattle.std.specs.Prelude.{◌≡◌, ◌<◌, ℕ, false, List, slice_index_or, Option, Some}
+use Rattle.std.specs.Prelude.{◌≡◌, ◌<◌, ℕ, false, List, slice_index_or, Some}
 use Rattle.packet_forms.specs.declared.name.Counter.{Counter}
 use Rattle.hs_tables.specs.Apps.{entry_of}
 use Rattle.hs_tables.specs.declared.apps.AppRow.{AppRow}

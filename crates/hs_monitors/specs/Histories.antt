@@ -7,7 +7,6 @@ use Rattle.packet_forms.specs.declared.name.Counter.{Counter}
 use Rattle.hs_tables.specs.declared.apps.AppRow.{AppRow}
 use Rattle.hs_tables.specs.declared.events.EventRow.{EventRow}
 use Rattle.hs_tables.specs.declared.counters.CountRow.{CountRow}
-use Rattle.hs_tables.specs.declared.actions.ActRow.{ActRow}
 use Rattle.hs_tables.specs.declared.tables.HsTables.{HsTables}
 use Rattle.hs_monitors.specs.declared.input.HsInput.{HsInput}
 

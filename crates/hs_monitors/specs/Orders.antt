@@ -1,5 +1,5 @@
 -- What the accepted commands switch and order.
-use Rattle.std.specs.Prelude.{ℕ, Bool, true, false, List, [], ◌∷◌, filter_map, Option, Some, None}
+use Rattle.std.specs.Prelude.{Bool, true, false, List, [], ◌∷◌, filter_map, Option, Some, None}
 use Rattle.std.specs.List.{list_any, flat_map}
 use Rattle.histories.specs.Words.{last_or}
 use Rattle.histories.specs.Entries.Entry.{Woken, Activated}

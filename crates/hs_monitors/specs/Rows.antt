@@ -1,6 +1,6 @@
 -- Tables, wakeups and packets of the worked rows.
 use Rattle.std.specs.Prelude.{ℕ, ◌+◌, List, [], ◌∷◌, ◌++◌, replicate, Some}
-use Rattle.histories.specs.Entries.Entry.{Woken, Activated}
+use Rattle.histories.specs.Entries.Entry.{Woken}
 use Rattle.packet_forms.specs.declared.name.Counter.{Counter}
 use Rattle.hs_tables.specs.Apps as apps
 use Rattle.hs_tables.specs.Events as events
@@ -8,9 +8,7 @@ use Rattle.hs_tables.specs.Counters as counters
 use Rattle.hs_tables.specs.Actions as actions
 use Rattle.hs_tables.specs.declared.apps.AppRow.{AppRow}
 use Rattle.hs_tables.specs.declared.events.EventRow.{EventRow}
-use Rattle.hs_tables.specs.declared.counters.CountRow.{CountRow}
 use Rattle.hs_tables.specs.declared.actions.ActRow.{ActRow}
-use Rattle.hs_tables.specs.declared.tables.HsTables.{HsTables}
 use Rattle.hs_actions.specs.Rows.{load_bytes, one_act}
 use Rattle.hs_monitors.specs.Histories.{Input, HsEntry, Setup}
 

@@ -3,7 +3,7 @@ use Rattle.std.specs.List.{flat_map, AllPass}
 use Rattle.packet_forms.specs.declared.name.Counter.{Counter}
 use Rattle.bus_pipes.specs.Counted.{is_item_counted}
 use Rattle.hs_actions.specs.Performs.{Performs}
-use Rattle.hs_monitors.specs.Monitors.{places_of, app_attempt}
+use Rattle.hs_monitors.specs.Monitors.{app_attempt}
 use Rattle.hs_monitors.specs.Entries.{EntriesStand}
 use Rattle.hs_monitors.proofs.Rests.{half_way}
 use Rattle.hs_monitors.proofs.apps.check_all.Given as goal

@@ -1,4 +1,4 @@
-use Rattle.std.proofs.Common.{◌≡◌, ℕ, ◌+◌, ◌-◌, ◌++◌, ◌∷◌, [], refl, sym, ap, ◌∙◌, arith}
+use Rattle.std.proofs.Common.{◌≡◌, ℕ, ◌+◌, ◌-◌, ◌++◌, ◌∷◌, [], sym, ap, ◌∙◌, arith}
 use Rattle.hs_tables.specs.Apps.{entry_of}
 use Rattle.hs_actions.proofs.Series.{performs_none, performs_same}
 use Rattle.hs_monitors.specs.Monitors.{row_at}

@@ -1,4 +1,4 @@
-use Rattle.std.proofs.Common.{◌<◌, length, arith}
+use Rattle.std.proofs.Common.{arith}
 use Rattle.hs_monitors.proofs.Places.{places_none, places_step}
 use Rattle.hs_monitors.proofs.apps.places_in.Goals as goal
 

@@ -1,4 +1,4 @@
-use Rattle.std.proofs.Common.{◌≡◌, ℕ, ◌+◌, ◌-◌, sym, ap, ◌∙◌, arith}
+use Rattle.std.proofs.Common.{◌≡◌, ℕ, ◌+◌, ◌-◌, ap, ◌∙◌, arith}
 use Rattle.hs_tables.specs.Events.{entry_of}
 use Rattle.hs_actions.specs.declared.action.Source.TheVariants.{EventMonitor}
 use Rattle.hs_actions.proofs.Series.{performs_none, performs_one, performs_same}

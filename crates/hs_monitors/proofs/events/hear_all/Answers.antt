@@ -1,4 +1,4 @@
-use Rattle.std.proofs.Common.{◌<◌, ◌∙◌, length, refl, arith}
+use Rattle.std.proofs.Common.{◌∙◌, refl, arith}
 use Rattle.hs_actions.proofs.Series.{performs_begin, performs_front}
 use Rattle.hs_monitors.specs.Events.{event_attempts}
 use Rattle.hs_monitors.proofs.events.hear_all.Goals as goal

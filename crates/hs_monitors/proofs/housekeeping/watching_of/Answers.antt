@@ -1,4 +1,4 @@
-use Rattle.std.proofs.Common.{◌≡◌, ◌<◌, ◌∙◌, length, sym, arith}
+use Rattle.std.proofs.Common.{◌∙◌, arith}
 use Rattle.std.proofs.lemmas.List.{length-set}
 use Rattle.hs_monitors.proofs.Showing.{bits_more, bits_all}
 use Rattle.hs_monitors.proofs.housekeeping.watching_of.Goals as goal

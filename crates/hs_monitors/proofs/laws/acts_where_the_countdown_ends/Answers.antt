@@ -1,4 +1,4 @@
-use Rattle.std.proofs.Common.{sym, ◌∙◌, eq-eqb}
+use Rattle.std.proofs.Common.{sym}
 use Rattle.hs_monitors.proofs.Countdowns.{ends_at, acts_there, acts_once}
 use Rattle.hs_monitors.proofs.Acting.{counting, countdown_steps, countdown_none}
 use Rattle.hs_monitors.proofs.laws.acts_where_the_countdown_ends.Goals as goal

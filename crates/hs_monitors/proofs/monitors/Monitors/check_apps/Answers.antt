@@ -1,4 +1,4 @@
-use Rattle.std.proofs.Common.{Bool, ℕ, List, [], ◌∷◌, ◌++◌, cond, refl, ap}
+use Rattle.std.proofs.Common.{Bool, [], ◌∷◌, ◌++◌, cond, ap}
 use Rattle.std.specs.List.{flat_map}
 use Rattle.hs_actions.proofs.Series.{performs_none}
 use Rattle.hs_monitors.specs.Monitors.{app_attempt}

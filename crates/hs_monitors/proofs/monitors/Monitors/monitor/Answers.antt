@@ -1,4 +1,3 @@
-use Rattle.std.proofs.Common.{refl}
 use Rattle.hs_monitors.proofs.monitors.Monitors.monitor.Goals as goal
 
 pub returns-then-not-on-clause-kept : goal.returns-then-not-on-clause-kept

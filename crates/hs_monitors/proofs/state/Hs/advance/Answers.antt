@@ -1,5 +1,4 @@
 use Rattle.std.proofs.Common.{◌++◌, ◌∷◌, [], List, ℕ, cond, refl, sym, ap, subst, ◌∙◌}
-use Rattle.packet_forms.specs.declared.name.Counter.{Counter}
 use Rattle.commands.specs.Counting.{counts_of}
 use Rattle.hs_monitors.specs.Histories.{Input, input_of, apps_after}
 use Rattle.hs_monitors.specs.Orders.{ordered_at}

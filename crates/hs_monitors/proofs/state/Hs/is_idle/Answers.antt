@@ -1,4 +1,4 @@
-use Rattle.std.proofs.Common.{refl, sym, ◌∙◌, true, false}
+use Rattle.std.proofs.Common.{sym, ◌∙◌}
 use Rattle.hs_monitors.specs.State.{Stands}
 use Rattle.hs_monitors.proofs.Idling.{quiet_parts, idle_whole, not_idle, idle_stands, idle_items}
 use Rattle.hs_monitors.proofs.state.Hs.is_idle.Goals as goal

@@ -1,4 +1,4 @@
-use Rattle.std.proofs.Common.{ap, ◌∙◌, sym}
+use Rattle.std.proofs.Common.{ap, sym}
 use Rattle.hs_tables.specs.declared.tables.HsTables.{HsTables}
 use Rattle.bus_pipes.proofs.Deliveries.{adding_none}
 use Rattle.hs_monitors.proofs.step.MonitorsCommandedReads.obey.Goals as goal
