@@ -146,11 +146,11 @@ pub watch_counts : (history : List HsEntry) (rows : List CountRow) → watch_of 
 watch_counts history rows = watch_marked history (Activated (Counts rows)) (record { anew = false; check = None }) refl ∙ append-nil (watch_of history)
 
 -- what happened
-happened_more : (setup : Setup) (history : List HsEntry) (entry : HsEntry) → happened_of setup (history ++ entry ∷ []) ≡ happened_of setup history ++ happened_at setup history entry
+pub happened_more : (setup : Setup) (history : List HsEntry) (entry : HsEntry) → happened_of setup (history ++ entry ∷ []) ≡ happened_of setup history ++ happened_at setup history entry
 unfolding happened_of
 happened_more setup history entry = joined_more (happened_at setup) history entry
 
-happened_none : (setup : Setup) → happened_of setup [] ≡ []
+pub happened_none : (setup : Setup) → happened_of setup [] ≡ []
 unfolding happened_of
 happened_none setup = joined_none (happened_at setup)
 

@@ -12,3 +12,4 @@ pub mod Waking
 pub mod Showing
 pub mod Idling
 pub mod Activating
+pub mod Rising

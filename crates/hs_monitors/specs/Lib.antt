@@ -10,6 +10,7 @@ pub mod Events
 pub mod Attempts
 pub mod Housekeeping
 pub mod Step
+pub mod Cooldowns
 pub mod Entries
 pub mod State
 pub mod Rows

@@ -1,19 +1,24 @@
 //! What the definitions give in small cases, and the sentence that they make of the countdown. The functions do nothing: their contracts
 //! are the laws. The rows' bytes are written by hand.
-ghost use Rattle.std.specs.Prelude.{◌≡◌, ◌<◌, ◌-◌, ◌++◌, ◌∷◌, [], ℕ, Bool, true, false, if◌then◌else◌, List, replicate, Some, None};
+ghost use Rattle.std.specs.Prelude.{◌≡◌, ◌<◌, ◌-◌, ◌++◌, ◌∷◌, [], ℕ, Bool, true, false, if◌then◌else◌, List, length, replicate, Some};
 ghost use Rattle.bus_pipes.specs.declared.names.Out.TheVariants as outs;
+ghost use Rattle.histories.specs.Entries.{wakeups};
 ghost use Rattle.histories.specs.Entries.Entry.{Woken, Activated};
 ghost use Rattle.commands.specs.Verdicts.{verdict_at};
 ghost use Rattle.commands.specs.declared.verdicts.Verdict.TheVariants.{Other, Request, Refused, Accepted};
 ghost use Rattle.hs_tables.specs.Counters.{blank_row};
+ghost use Rattle.hs_actions.specs.Outcomes.{act_at};
+ghost use Rattle.hs_actions.specs.State.{left_of};
 ghost use Rattle.hs_actions.specs.Rows.{load_bytes, noop_bytes, hs_event};
 ghost use Rattle.hs_monitors.specs.declared.instructions.Instruction.TheVariants.{Plain, Monitor, Listen, Clear, Limit};
+ghost use Rattle.hs_monitors.specs.Histories.{HsEntry, Setup};
 ghost use Rattle.hs_monitors.specs.Histories.Activation.{Apps};
 ghost use Rattle.hs_monitors.specs.Verdicts.{hs_protocol};
 ghost use Rattle.hs_monitors.specs.Acting.{acts, countdown_of};
 ghost use Rattle.hs_monitors.specs.Events.{is_event, is_matched};
 ghost use Rattle.hs_monitors.specs.Housekeeping.{watching_of, housekeeping_of};
 ghost use Rattle.hs_monitors.specs.Step.{hs_items};
+ghost use Rattle.hs_monitors.specs.Cooldowns.{sendings_of, last_leaves};
 ghost use Rattle.hs_monitors.specs.Rows.{cam_bytes, hs_info, load_event, enable, disable, deafen, request, load_row, load_rows, seven_rows, setup_with, watching, listening, wakeup, load_at, counted, saw, heard};
 
 /// An entry with the cycle count n acts in exactly the check in which its countdown goes from above zero to zero, and in no later check of
@@ -24,6 +29,12 @@ pub fn acts_where_the_countdown_ends()
     ensures once { (n : ℕ) (earlier later : List Bool) (this that : Bool) → acts n earlier this ≡ true → acts n ((earlier ++ this ∷ []) ++ later) that ≡ false }
     ensures begins { (n : ℕ) → countdown_of n [] ≡ n }
     ensures steps { (n : ℕ) (earlier : List Bool) (this : Bool) → 0 < n → 0 < countdown_of n earlier → countdown_of n (earlier ++ this ∷ []) ≡ (if this then n else countdown_of n earlier - 1) }
+{}
+
+/// What is left of the cooldown of a message action behind a history is its number in the table less the wakeups since the last sending,
+/// and 0 where nothing was sent or more wakeups went by.
+pub fn cooldown_counts_from_the_last_sending()
+    ensures { (setup : Setup) (history : List HsEntry) (place : ℕ) → left_of (act_at setup.tables.acts place).cooldown (length (wakeups history)) (sendings_of setup history place) ≡ last_leaves (act_at setup.tables.acts place).cooldown (length (wakeups history)) (sendings_of setup history place) }
 {}
 
 /// A monitor with the cycle count 1 acts in its first check where the counter is 0, and in no later one.

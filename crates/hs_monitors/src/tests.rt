@@ -186,6 +186,7 @@ fn idle_wakeups_are_told(rt: HostRuntime) -> Result<(), Fail> {
 #[test]
 fn laws_hold() {
     laws::acts_where_the_countdown_ends();
+    laws::cooldown_counts_from_the_last_sending();
     laws::first_check_acts();
     laws::stalled_counter_acts_once();
     laws::enable_refreshes();
