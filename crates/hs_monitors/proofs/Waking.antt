@@ -61,30 +61,35 @@ attempted_is setup history input on listening on_is listening_is =
     ∙ ap (λ (b : Bool). cond (is_on (orders_of history ++ ordered_at input)) (flat_map (app_attempt k (checks ++ input.seen.counters ∷ [])) apps) [] ++ heard b) listening_is
     ∙ ap (λ (xs : List Happening). xs ++ heard (is_listening (orders_of history ++ ordered_at input))) (by_watch history input k apps (is_on (orders_of history ++ ordered_at input)) refl)
 
-module _ (setup : Setup) (history : List HsEntry) (input : Input) (before after : Monitors) (mid end : Held Out)
-    (stood : MonitorsStand setup history (ordered_at input) (past_in setup history (ordered_at input)) before)
-    (performs : Performs setup.tables.acts input.time (attempted before.monitoring before.listening (watch_at history (ordered_at input)) input.seen.counters (apps_after setup history) (tables_after setup history).events input.seen.events) before.actions after.actions mid end) where
+-- What a wakeup does behind its commands: the application monitors may be one check further, and what both monitors attempted was performed.
+pub record Wakes (setup : Setup) (history : List HsEntry) (input : Input) (before after : Monitors) (mid end : Held Out) : Type 0 where
+  pub stood : MonitorsStand setup history (ordered_at input) (past_in setup history (ordered_at input)) before
+  pub monitoring : after.monitoring ≡ before.monitoring
+  pub listening : after.listening ≡ before.listening
+  pub places : after.places ≡ before.places
+  pub kept : EntriesStand (apps_after setup history) (λ (k : ℕ). cond before.monitoring (watch_at history (ordered_at input) ++ input.seen.counters ∷ []) (watch_at history (ordered_at input))) after.kept
+  pub performs : Performs setup.tables.acts input.time (attempted before.monitoring before.listening (watch_at history (ordered_at input)) input.seen.counters (apps_after setup history) (tables_after setup history).events input.seen.events) before.actions after.actions mid end
+
+module _ (setup : Setup) (history : List HsEntry) (input : Input) (before after : Monitors) (mid end : Held Out) (wakes : Wakes setup history input before after mid end) where
   is_by : attempted before.monitoring before.listening (watch_at history (ordered_at input)) input.seen.counters (apps_after setup history) (tables_after setup history).events input.seen.events (length (wakeups history)) ≡ by_monitors setup history input
-  is_by = attempted_is setup history input before.monitoring before.listening stood.monitoring stood.listening
+  is_by = attempted_is setup history input before.monitoring before.listening wakes.stood.monitoring wakes.stood.listening
 
   -- the monitors behind a wakeup
-  pub woken_stand : after.monitoring ≡ before.monitoring → after.listening ≡ before.listening → after.places ≡ before.places
-      → EntriesStand (apps_after setup history) (λ (k : ℕ). cond before.monitoring (watch_at history (ordered_at input) ++ input.seen.counters ∷ []) (watch_at history (ordered_at input))) after.kept
-      → MonitorsStand setup (history ++ Woken input ∷ []) [] (past_of setup (history ++ Woken input ∷ [])) after
-  woken_stand monitoring listening places kept =
+  pub woken_stand : MonitorsStand setup (history ++ Woken input ∷ []) [] (past_of setup (history ++ Woken input ∷ [])) after
+  woken_stand =
       let checks = watch_at history (ordered_at input) in
       record {
-        monitoring = monitoring ∙ stood.monitoring ∙ sym (ap is_on (orders_woken history input));
-        listening = listening ∙ stood.listening ∙ sym (ap is_listening (orders_woken history input));
-        places = places ∙ stood.places ∙ sym (ap places_of (apps_woken setup history input));
+        monitoring = wakes.monitoring ∙ wakes.stood.monitoring ∙ sym (ap is_on (orders_woken history input));
+        listening = wakes.listening ∙ wakes.stood.listening ∙ sym (ap is_listening (orders_woken history input));
+        places = wakes.places ∙ wakes.stood.places ∙ sym (ap places_of (apps_woken setup history input));
         kept =
             entries_as (apps_after setup history) (apps_after setup (history ++ Woken input ∷ [])) (cond before.monitoring (checks ++ input.seen.counters ∷ []) checks) (watch_at (history ++ Woken input ∷ []) []) after.kept
             (sym (apps_woken setup history input))
-            (ap (λ (b : Bool). cond b (checks ++ input.seen.counters ∷ []) checks) stood.monitoring ∙ sym (watch_unordered (history ++ Woken input ∷ []) ∙ watch_woken history input)) kept;
+            (ap (λ (b : Bool). cond b (checks ++ input.seen.counters ∷ []) checks) wakes.stood.monitoring ∙ sym (watch_unordered (history ++ Woken input ∷ []) ∙ watch_woken history input)) wakes.kept;
         actions =
             subst (λ (p : Past). ActionsStand setup.tables.acts p after.actions)
             (ap (with_more (past_in setup history (ordered_at input))) is_by ∙ sym (past_woken setup history input))
-            (performs.stands (past_in setup history (ordered_at input)) (length (wakeups history)) refl stood.actions);
+            (wakes.performs.stands (past_in setup history (ordered_at input)) (length (wakeups history)) refl wakes.stood.actions);
       }
 
   -- and what was sent in it
@@ -93,7 +98,7 @@ module _ (setup : Setup) (history : List HsEntry) (input : Input) (before after 
   woken_items start empty answered =
       let answers = command_items hs_answers hs_name (turn_of setup history input) (heard_at input) in
       let more = items_of input.time setup.tables.acts (past_in setup history (ordered_at input)) (by_monitors setup history input) in
-      ap (λ (held : Held Out). held.items) (performs.items (past_in setup history (ordered_at input)) (length (wakeups history)) refl stood.actions)
+      ap (λ (held : Held Out). held.items) (wakes.performs.items (past_in setup history (ordered_at input)) (length (wakeups history)) refl wakes.stood.actions)
       ∙ items-adding mid _
       ∙ ap (λ (h : List Happening). mid.items ++ items_of input.time setup.tables.acts (past_in setup history (ordered_at input)) h) is_by
       ∙ ap (λ (items : List Out). items ++ more) (ap (λ (held : Held Out). held.items) answered ∙ items-adding start answers ∙ ap (λ (items : List Out). items ++ answers) empty)
