@@ -1,9 +1,10 @@
 -- What is kept of an entry at one more check.
-use Rattle.std.proofs.Common.{◌≡◌, ◌≢◌, ℕ, ◌-◌, ◌<◌, Bool, true, false, not, cond, List, [], ◌∷◌, ◌++◌, Option, Some, None, refl, sym, ap, ◌∙◌, arith, eq-eqb, ne_eqb}
+use Rattle.std.proofs.Common.{◌≡◌, ◌≢◌, ℕ, ◌-◌, ◌<◌, Bool, true, false, not, cond, List, [], ◌∷◌, ◌++◌, length, Option, Some, None, refl, sym, ap, ◌∙◌, arith, eq-eqb, ne_eqb}
 use Rattle.std.specs.Prelude.{◌==◌, filter_map, unwrap_or}
 use Rattle.histories.specs.Words.{last_or}
 use Rattle.histories.proofs.Along.{along_more, along_none}
 use Rattle.histories.proofs.Lasts.{last_or_more}
+use Rattle.commands.proofs.Heard.{no_packets}
 use Rattle.packet_forms.specs.declared.name.Counter.{Counter}
 use Rattle.hs_tables.specs.declared.apps.AppEntry.{AppEntry}
 use Rattle.hs_monitors.specs.Acting.{counter_in, last_counter, differs, changes, acts_now, has_acted, countdown_of}
@@ -127,3 +128,8 @@ module _ (e : AppEntry) (checks : List (List Counter)) (counters : List Counter)
 
     pub unchanged_acts : last ≡ w.last → (countdown : ℕ) → countdown ≡ w.countdown - 1 → (countdown == 0) ≡ acts_now e.cycles (changes e.name (checks ++ counters ∷ []))
     unchanged_acts same countdown becomes = checked_acts countdown false (this_is ∙ ap not (eq-eqb last w.last same)) becomes
+
+-- there is no counter without counters
+pub counter_none : (counters : List Counter) (name : List ℕ) → (length counters == 0) ≡ true → None ≡ counter_in counters name
+unfolding counter_in
+counter_none counters name none = rw (no_packets counters none) refl

@@ -1,8 +1,8 @@
 -- What an entry attempts, by whether it acts or matches.
-use Rattle.std.proofs.Common.{◌≡◌, ℕ, Bool, true, false, cond, List, [], ◌∷◌, length, Option, Some, None, refl, sym, ap, ◌∙◌}
-use Rattle.std.specs.Prelude.{◌==◌}
+use Rattle.std.proofs.Common.{◌≡◌, ◌≢◌, ℕ, ◌<◌, Bool, true, false, cond, not, ◌&&◌, arith, List, [], ◌∷◌, length, Option, Some, None, refl, sym, ap, ◌∙◌}
+use Rattle.std.specs.Prelude.{◌==◌, option_map}
 use Rattle.std.specs.List.{flat_map}
-use Rattle.std.proofs.lemmas.Bool.{eqb-true, and_parts}
+use Rattle.std.proofs.lemmas.Bool.{eqb-true, eqb-false, and_parts}
 use Rattle.packet_forms.specs.Packets.{message_id}
 use Rattle.packet_forms.specs.MessageIds.{event_id}
 use Rattle.packet_forms.specs.declared.name.Counter.{Counter}
@@ -35,6 +35,33 @@ row_none row found watch k is none = ap (monitors.attempt_where k watch) (sym is
 pub row_some : (row : AppRow) (found : Option AppEntry) (e : AppEntry) (watch : List (List Counter)) (k : ℕ) → found ≡ apps.entry_of row → found ≡ Some e → monitors.attempt_of k watch e ≡ monitors.app_attempt k watch row
 unfolding monitors.app_attempt
 row_some row found e watch k is some = sym (ap (monitors.attempt_where k watch) (sym is ∙ some))
+
+-- where no entry acts that the row is
+pub row_quiet : (row : AppRow) (watch : List (List Counter)) (k : ℕ) → ((e : AppEntry) → apps.entry_of row ≡ Some e → false ≡ acts_now e.cycles (changes e.name watch)) → monitors.app_attempt k watch row ≡ []
+unfolding monitors.app_attempt
+row_quiet row watch k quiet = by_entry (apps.entry_of row) refl
+  where
+    by_entry : (found : Option AppEntry) → apps.entry_of row ≡ found → monitors.attempt_where k watch found ≡ []
+    by_entry None is = refl
+    by_entry (Some e) is = app_quiet e watch false k (quiet e is) refl
+
+-- a used entry has a cycle count
+cycles_of : (cycles action : ℕ) (name : Option (List ℕ)) (e : AppEntry)
+    → cond (not (cycles == 0) && not (action == 0)) (option_map (λ (n : List ℕ). let entry : AppEntry = record { name = n; cycles = cycles; action = action } in entry) name) None ≡ Some e → 0 < e.cycles
+cycles_of cycles action name e is = by_tests (cycles == 0) refl (action == 0) name is
+  where
+    same : (n : List ℕ) → ◌≡◌ {A = Option AppEntry} (Some (record { name = n; cycles = cycles; action = action })) (Some e) → cycles ≡ e.cycles
+    same n it = ap (λ (o : Option AppEntry). elim o [ None ↦ cycles | Some x ↦ x.cycles ]) it
+
+    by_tests : (a : Bool) → (cycles == 0) ≡ a → (b : Bool) (found : Option (List ℕ))
+        → cond (not a && not b) (option_map (λ (n : List ℕ). let entry : AppEntry = record { name = n; cycles = cycles; action = action } in entry) found) None ≡ Some e → 0 < e.cycles
+    by_tests true zero_cycles b found it = cc
+    by_tests false some true found it = cc
+    by_tests false some false None it = cc
+    by_tests false some false (Some n) it = let apart : cycles ≢ 0 = eqb-false cycles 0 some in let equal = same n it in omega arith
+
+pub entry_cycles : (row : AppRow) (e : AppEntry) → apps.entry_of row ≡ Some e → 0 < e.cycles
+entry_cycles row e is = cycles_of row.cycles row.action row.name e is
 
 -- the same of event monitors
 pub event_none : (row : EventRow) (found : Option EventEntry) (p : List ℕ) (k : ℕ) → found ≡ events.entry_of row → found ≡ None → event_attempt k p row ≡ []

@@ -106,6 +106,17 @@ fn check_place(
     ensures few { length out.new.items ≤ length out.old.items + 2 }
     ensures room { out.new.room ≡ out.old.room }
 {
+    // The entry isn't used, or it acted.
+    if watched.countdown == 0 {
+        return watched;
+    }
+    // Without counters the check is unchanged, whatever the entry is.
+    if counters.is_empty() && watched.countdown > 1 {
+        return Watched {
+            last: watched.last,
+            countdown: watched.countdown - 1,
+        };
+    }
     match tables.apps.entry(place + 1) {
         None => watched,
         Some(entry) => check_entry(&entry, watched, counters, &tables.acts, now, actions, out),
