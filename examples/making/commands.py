@@ -1,0 +1,118 @@
+"""Packets that are sent: a function for each command, which lays out its bytes as docs/COMMANDS.md tells them."""
+
+import struct
+
+
+def packet(message_id, body):
+    """A space packet: its id, sequence flags 3 and count 0, and how many bytes follow the first six, less one."""
+    return struct.pack(">HHH", message_id, 0xC000, len(body) - 1) + body
+
+
+def command(message_id, code, payload=b""):
+    """Any code: byte 6 is the code, and byte 7 makes the exclusive or of all bytes 0xFF."""
+    whole = bytearray(packet(message_id, bytes([code, 0]) + payload))
+    check = 0xFF
+    for byte in whole:
+        check ^= byte
+    whole[7] = check
+    return bytes(whole)
+
+
+def send(sent):
+    """The line of a scenario that sends a packet."""
+    return "send " + sent.hex().upper()
+
+
+MM, MM_HOUSEKEEPING = 0x1888, 0x1889
+MD, MD_HOUSEKEEPING = 0x1890, 0x1891
+CS, CS_HOUSEKEEPING = 0x189F, 0x18A0
+REQUESTS = {MM: MM_HOUSEKEEPING, MD: MD_HOUSEKEEPING, CS: CS_HOUSEKEEPING}
+
+
+def no_op(application):
+    """Is answered, and does nothing else."""
+    return command(application, 0)
+
+
+def reset_counts(application):
+    """Makes the counts of accepted and refused commands 0."""
+    return command(application, 1)
+
+
+def housekeeping(asked):
+    """Requests an application's housekeeping packet."""
+    return command(REQUESTS.get(asked, asked), 0)
+
+
+def mm_peek(size, at):
+    """Shows the 8, 16 or 32 bits at an address."""
+    return command(MM, 2, struct.pack(">BI", size, at))
+
+
+def mm_poke(size, at, value):
+    """Writes the low 8, 16 or 32 bits of a value to an address."""
+    return command(MM, 3, struct.pack(">BII", size, at, value))
+
+
+def mm_eeprom_enable(region):
+    """Takes a region's protection away."""
+    return command(MM, 11, struct.pack(">B", region))
+
+
+def mm_eeprom_disable(region):
+    """Protects a region."""
+    return command(MM, 12, struct.pack(">B", region))
+
+
+def md_start(*tables):
+    """Enables dwell tables, and begins a round of each."""
+    return command(MD, 2, struct.pack(">H", mask(tables)))
+
+
+def md_stop(*tables):
+    """Disables dwell tables."""
+    return command(MD, 3, struct.pack(">H", mask(tables)))
+
+
+def mask(tables):
+    return sum(1 << (table - 1) for table in set(tables))
+
+
+def md_jam(table, entry, length, delay, at):
+    """Writes one entry of a dwell table, and begins a round of the table."""
+    return command(MD, 4, struct.pack(">HHHHI", table, entry, length, delay, at))
+
+
+def cs_on():
+    """Switches Checksum on."""
+    return command(CS, 2)
+
+
+def cs_off():
+    """Switches Checksum off."""
+    return command(CS, 3)
+
+
+def cs_table_on(table):
+    """Switches a checksum table on: 1 is the EEPROM table, 2 the memory table."""
+    return command(CS, 4, struct.pack(">H", table))
+
+
+def cs_table_off(table):
+    """Switches a checksum table off."""
+    return command(CS, 5, struct.pack(">H", table))
+
+
+def cs_entry_on(table, entry):
+    """Switches an entry of a checksum table on."""
+    return command(CS, 6, struct.pack(">HH", table, entry))
+
+
+def cs_entry_off(table, entry):
+    """Switches an entry of a checksum table off."""
+    return command(CS, 7, struct.pack(">HH", table, entry))
+
+
+def cs_report(table, entry):
+    """Asks for an entry's baseline."""
+    return command(CS, 8, struct.pack(">HH", table, entry))

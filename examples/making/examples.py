@@ -1,0 +1,376 @@
+"""The examples: each with what it shows, its scenario, its tables, and the log that the rules give for them."""
+
+from making.commands import *
+from making.log import *
+from making.tables import MEMORY_TABLE, checksum_table, dwell_table
+
+RAM = "region RAM 0x1000 256"
+
+
+class Example:
+    """A folder: what it shows, its scenario, its tables by name, the log, and how the program ends."""
+
+    def __init__(self, name, about, scenario, log, tables=None, report=("Done", 0, 0, 0), error="", frames=None):
+        self.name = name
+        self.about = about
+        self.scenario = "\n".join(scenario) + "\n"
+        self.log = "".join(line + "\n" for line in log)
+        self.tables = tables or {}
+        self.report = report
+        self.error = error
+        self.frames = scenario.count("tick") if frames is None else frames
+
+    def status(self):
+        return {"Done": 0, "FileRefused": 2, "ScenarioRefused": 3}[self.report[0]]
+
+    def files(self):
+        files = {"README.md": self.page(), "scenario.txt": self.scenario, "log": self.log}
+        if self.status() != 0:
+            files["status"] = f"{self.status()}\n"
+            files["error"] = self.error
+        return {**files, **self.tables}
+
+    def words(self):
+        return ["scenario.txt", *sorted(self.tables)]
+
+    def page(self):
+        words = " ".join(f"examples/{self.name}/{word}" for word in self.words())
+        return f"# {self.name}\n\n{self.about}\n\n    crates/vigil/out/vigil {words}\n"
+
+
+def first():
+    return Example(
+        "first",
+        "Memory Manager answers a no-op, a poke and a peek, each in the frame after the one that sends it. "
+        "The poked byte lands at the end of frame 1, so the peek in frame 2 is the first to read it. "
+        "Memory Dwell reads the same byte in frames 0 and 2, as its table says, and shows it before and after the poke.",
+        [
+            "# A first rehearsal: one region of memory, and three commands to Memory Manager.",
+            f"epoch {EPOCH}",
+            RAM,
+            "start",
+            "",
+            "# Frame 0: no-op, then poke the byte at 0x1010 to 0xAB.",
+            send(no_op(MM)),
+            send(mm_poke(8, 0x1010, 0xAB)),
+            "tick",
+            "",
+            "# Frame 1: both commands are answered; the byte is asked for.",
+            send(mm_peek(8, 0x1010)),
+            "tick",
+            "",
+            "# Frame 2: the byte is shown.",
+            "tick",
+            "end",
+        ],
+        [
+            dwell_packet(0, 1, 0, b"\x00"),
+            event(1, "MM", 0, 16, 2),
+            event(1, "MM", 1, 19, 2),
+            peek_packet(2, 0, 8, 0x1010, 0xAB),
+            event(2, "MM", 2, 18, 2),
+            dwell_packet(2, 1, 1, b"\xAB"),
+        ],
+        {"dwell1.table": dwell_table(1, True, [(1, 2, 0x1010)])},
+    )
+
+
+def dwell():
+    return Example(
+        "dwell",
+        "A table that its file leaves disabled is started in frame 1 and reads its two entries in frames 1 and 2; the packet comes with the last one. "
+        "A jam in frame 4 writes entry 2 and begins a new round in that frame, so the round that began in frame 3 is never sent. "
+        "A stop in frame 6 comes before that frame's reading, and housekeeping then shows no enabled table.",
+        [
+            "# Dwell table 1: two bytes at 0x1000, and a wakeup later one byte at 0x1002.",
+            f"epoch {EPOCH}",
+            RAM,
+            "start",
+            "",
+            "# Frame 0: values to read, and a start of table 1.",
+            "upset 0x1000 0x11",
+            "upset 0x1001 0x22",
+            "upset 0x1002 0x33",
+            "upset 0x1004 0x44",
+            "upset 0x1005 0x55",
+            "upset 0x1006 0x66",
+            "upset 0x1007 0x77",
+            send(md_start(1)),
+            "tick",
+            "",
+            "# Frame 1 reads entry 1. Frame 2 reads entry 2, whose byte changes in that frame.",
+            "tick",
+            "upset 0x1002 0x34",
+            "tick",
+            "",
+            "# Frame 3 begins the next round; the jam that it sends ends it.",
+            send(md_jam(1, 2, 4, 1, 0x1004)),
+            "tick",
+            "",
+            "# Frames 4 and 5: the round with the new entry. Frame 5 sends a stop.",
+            "tick",
+            send(md_stop(1)),
+            "tick",
+            "",
+            "# Frame 6: stopped.",
+            send(housekeeping(MD_HOUSEKEEPING)),
+            "tick",
+            "tick",
+            "end",
+        ],
+        [
+            event(1, "MD", 0, 18, 2),
+            dwell_packet(2, 1, 0, bytes.fromhex("112234")),
+            event(4, "MD", 1, 20, 2),
+            dwell_packet(5, 1, 1, bytes.fromhex("112244556677")),
+            event(6, "MD", 2, 19, 2),
+            md_housekeeping_packet(7, 0, 3, 0, 0),
+        ],
+        {"dwell1.table": dwell_table(1, False, [(2, 1, 0x1000), (1, 1, 0x1002)])},
+    )
+
+
+def checksum():
+    baseline = crc16(b"\x01" + bytes(15))
+    return Example(
+        "checksum",
+        "Checksum reads entry 1 (1,500 bytes) in two slices and entry 3 (16 bytes) in one, round and round, and keeps the check of each first pass as the baseline. "
+        "A byte of entry 3 is upset in frame 4, behind its first pass, so the passes of frames 5 and 8 miscompare: event 101 each. "
+        "The baseline stays, as the report of frame 6 shows, and the housekeeping of frame 8 counts what came before that frame's slice.",
+        [
+            "# The memory table has entry 1 from 0x1000, 1,500 bytes, and entry 3 from 0x1800, 16 bytes.",
+            f"epoch {EPOCH}",
+            "region RAM 0x1000 4096",
+            "start",
+            "",
+            "# Frames 0 and 1: entry 1. Frame 2: entry 3. Frames 3 and 4: entry 1 again.",
+            "upset 0x1800 1",
+            "tick",
+            "tick",
+            "tick",
+            "tick",
+            "upset 0x1800 3",
+            "tick",
+            "",
+            "# Frame 5: entry 3 again. Its baseline is asked for, and reported in frame 6.",
+            send(cs_report(2, 3)),
+            "tick",
+            "tick",
+            "",
+            "# Frame 7 asks for housekeeping. Frame 8: entry 3 for the third time.",
+            send(housekeeping(CS_HOUSEKEEPING)),
+            "tick",
+            "tick",
+            "end",
+        ],
+        [
+            event(5, "CS", 0, 101, 3),
+            baseline_packet(6, 0, 2, 3, baseline),
+            event(6, "CS", 1, 24, 2),
+            cs_housekeeping_packet(8, 0, 1, 0, 7, 0, 1, 5),
+            event(8, "CS", 2, 101, 3),
+        ],
+        {"memory.table": checksum_table(MEMORY_TABLE, {1: (1, 0x1000, 1500), 3: (1, 0x1800, 16)})},
+    )
+
+
+def eeprom():
+    return Example(
+        "eeprom",
+        "A poke of EEPROM is refused with 7 until the region was opened, and again once it was closed; what counts is the protection with which the frame began. "
+        "The byte that was poked between reads back two frames later. "
+        "Housekeeping shows the open region as bit 1, since it is the second region of the map, still in the frame that closes it.",
+        [
+            "# The EEPROM is region 2.",
+            f"epoch {EPOCH}",
+            RAM,
+            "region EEPROM 0x2000 64",
+            "start",
+            "",
+            "# Frame 0: a poke that comes too early, and the opening.",
+            send(mm_poke(8, 0x2000, 0x11)),
+            send(mm_eeprom_enable(2)),
+            "tick",
+            "",
+            "# Frame 1: a poke of the open region.",
+            send(mm_poke(8, 0x2000, 0x22)),
+            "tick",
+            "",
+            "# Frame 2: the closing, and a request for housekeeping.",
+            send(mm_eeprom_disable(2)),
+            send(housekeeping(MM_HOUSEKEEPING)),
+            "tick",
+            "",
+            "# Frame 3: the byte is asked for, a poke comes too late, and housekeeping again.",
+            send(mm_peek(8, 0x2000)),
+            send(mm_poke(8, 0x2000, 0x33)),
+            send(housekeeping(MM_HOUSEKEEPING)),
+            "tick",
+            "tick",
+            "end",
+        ],
+        [
+            event(1, "MM", 0, 7, 3),
+            event(1, "MM", 1, 27, 2),
+            event(2, "MM", 2, 19, 2),
+            event(3, "MM", 3, 28, 2),
+            mm_housekeeping_packet(3, 0, 3, 1, 2),
+            peek_packet(4, 0, 8, 0x2000, 0x22),
+            event(4, "MM", 4, 18, 2),
+            event(4, "MM", 5, 7, 3),
+            mm_housekeeping_packet(4, 1, 4, 2, 0),
+        ],
+    )
+
+
+def held():
+    line = send(no_op(MM))
+    return Example(
+        "held",
+        "Memory Manager is held in frames 1 and 2, so its pipe keeps the ten no-ops of frame 0 and takes six of the seven of frame 1. "
+        "The seventh is dropped for the limit of 16 packets of one id, and the request behind it, of another id, because the pipe is full. "
+        "In frame 3 it takes all 16 and answers each.",
+        [
+            f"epoch {EPOCH}",
+            RAM,
+            "start",
+            "",
+            "# Frame 0: ten no-ops.",
+            *([line] * 10),
+            "tick",
+            "",
+            "# Frame 1: MM is held; seven no-ops more, and a request for housekeeping.",
+            "hold MM",
+            *([line] * 7),
+            send(housekeeping(MM_HOUSEKEEPING)),
+            "tick",
+            "hold MM",
+            "tick",
+            "",
+            "# Frame 3: all that the pipe kept is answered.",
+            "tick",
+            "end",
+        ],
+        [
+            drop(1, "MM", "limit", no_op(MM)),
+            drop(1, "MM", "full", housekeeping(MM_HOUSEKEEPING)),
+            *(event(3, "MM", count, 16, 2) for count in range(16)),
+        ],
+    )
+
+
+def refused_file():
+    return Example(
+        "refused_file",
+        "Entry 2 of the dwell table has the length 3, which is none of 0, 1, 2 and 4. "
+        "The program says which FILE, the reason 11 (docs/FILES.md) and the entry, and ends with status 2. "
+        "The scenario isn't opened, and nothing is written to standard output.",
+        [f"epoch {EPOCH}", RAM, "start", "tick", "end"],
+        [],
+        {
+            "a.table": checksum_table(MEMORY_TABLE, {1: (1, 0x1000, 16)}),
+            "b.table": dwell_table(1, True, [(1, 1, 0x1000), (3, 1, 0x1004)]),
+        },
+        report=("FileRefused", 2, 2, 11),
+        error="vigil: file 2 refused, reason 11, entry 2\n",
+        frames=0,
+    )
+
+
+def refused_scenario():
+    return Example(
+        "refused_scenario",
+        "Line 7 begins with a word that is none of the grammar's, which is reason 1 (docs/SCENARIO.md). "
+        "The two frames before it were whole, so they run and their line is written. "
+        "The program then names line and reason, and ends with status 3.",
+        [f"epoch {EPOCH}", RAM, "start", send(no_op(MM)), "tick", "tick", "jump 3", "tick", "end"],
+        [event(1, "MM", 0, 16, 2)],
+        report=("ScenarioRefused", 0, 7, 1),
+        error="vigil: scenario refused at line 7, reason 1\n",
+        frames=2,
+    )
+
+
+def commands():
+    baseline = crc16(b"\x5A" + bytes(15))
+    return Example(
+        "commands",
+        "Each code of Memory Manager, Memory Dwell and Checksum once, and each request for housekeeping; all of them are accepted. "
+        "An accepted command of code c is answered by event 16 + c, behind the packets that it asks for. "
+        "The `send` lines are those of docs/COMMANDS.md.",
+        [
+            f"epoch {EPOCH}",
+            RAM,
+            "region EEPROM 0x2000 64",
+            "start",
+            "upset 0x1080 0x5A",
+            "",
+            "# Memory Manager: codes 0, 1, 2, 3, 11, 12, and the request.",
+            send(no_op(MM)),
+            send(reset_counts(MM)),
+            send(mm_peek(8, 0x1080)),
+            send(mm_poke(16, 0x1010, 0xBEEF)),
+            send(mm_eeprom_enable(2)),
+            send(mm_eeprom_disable(2)),
+            send(housekeeping(MM_HOUSEKEEPING)),
+            "tick",
+            "",
+            "# Memory Dwell: codes 0 to 4, and the request.",
+            send(no_op(MD)),
+            send(reset_counts(MD)),
+            send(md_start(1)),
+            send(md_stop(1)),
+            send(md_jam(1, 2, 2, 1, 0x1082)),
+            send(housekeeping(MD_HOUSEKEEPING)),
+            "tick",
+            "",
+            "# Checksum: codes 0 to 8, and the request.",
+            send(no_op(CS)),
+            send(reset_counts(CS)),
+            send(cs_off()),
+            send(cs_on()),
+            send(cs_table_off(2)),
+            send(cs_table_on(2)),
+            send(cs_entry_off(2, 1)),
+            send(cs_entry_on(2, 1)),
+            send(cs_report(2, 1)),
+            send(housekeeping(CS_HOUSEKEEPING)),
+            "tick",
+            "tick",
+            "end",
+        ],
+        [
+            event(1, "MM", 0, 16, 2),
+            event(1, "MM", 1, 17, 2),
+            peek_packet(1, 0, 8, 0x1080, 0x5A),
+            event(1, "MM", 2, 18, 2),
+            event(1, "MM", 3, 19, 2),
+            event(1, "MM", 4, 27, 2),
+            event(1, "MM", 5, 28, 2),
+            mm_housekeeping_packet(1, 0, 4, 0, 0),
+            event(2, "MD", 6, 16, 2),
+            event(2, "MD", 7, 17, 2),
+            event(2, "MD", 8, 18, 2),
+            event(2, "MD", 9, 19, 2),
+            event(2, "MD", 10, 20, 2),
+            md_housekeeping_packet(2, 0, 3, 0, 0),
+            event(3, "CS", 11, 16, 2),
+            event(3, "CS", 12, 17, 2),
+            event(3, "CS", 13, 19, 2),
+            event(3, "CS", 14, 18, 2),
+            event(3, "CS", 15, 21, 2),
+            event(3, "CS", 16, 20, 2),
+            event(3, "CS", 17, 23, 2),
+            event(3, "CS", 18, 22, 2),
+            baseline_packet(3, 0, 2, 1, baseline),
+            event(3, "CS", 19, 24, 2),
+            cs_housekeeping_packet(3, 0, 7, 0, 7, 0, 0, 3),
+        ],
+        {
+            "dwell1.table": dwell_table(1, False, [(1, 1, 0x1080)]),
+            "memory.table": checksum_table(MEMORY_TABLE, {1: (1, 0x1080, 16)}),
+        },
+    )
+
+
+EXAMPLES = [first(), dwell(), checksum(), eeprom(), held(), refused_file(), refused_scenario(), commands()]

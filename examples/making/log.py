@@ -1,0 +1,54 @@
+"""Lines of the log: a function for each packet that an application makes, and for a drop."""
+
+import struct
+
+EPOCH = 1000
+
+
+def telemetry(frame, message_id, count, payload):
+    """The line of a packet that an application made: its frame, its id, how many of that id came before, and its payload."""
+    head = struct.pack(">HHHIH", message_id, 0xC000 + count % 16384, 6 + len(payload) - 1, EPOCH + frame, 0)
+    return f"{frame} pkt {(head + payload).hex().upper()}"
+
+
+def event(frame, application, count, number, kind):
+    """The line of an event: type 2 is information, 3 an error."""
+    return telemetry(frame, 0x0808, count, struct.pack(">20sHHII", application.encode(), number, kind, 66, 1))
+
+
+def peek_packet(frame, count, size, at, value):
+    return telemetry(frame, 0x088A, count, struct.pack(">BII", size, at, value))
+
+
+def mm_housekeeping_packet(frame, count, accepted, errors, open_regions):
+    return telemetry(frame, 0x0887, count, bytes([accepted, errors, open_regions, 0]))
+
+
+def dwell_packet(frame, table, count, values):
+    return telemetry(frame, 0x0890 + table, count, struct.pack(">HH", table, len(values)) + values)
+
+
+def md_housekeeping_packet(frame, count, accepted, errors, enabled):
+    return telemetry(frame, 0x0890, count, bytes([accepted, errors, enabled, 0]))
+
+
+def baseline_packet(frame, count, table, entry, baseline):
+    given = (0, 0) if baseline is None else (1, baseline)
+    return telemetry(frame, 0x08A5, count, struct.pack(">HHHH", table, entry, *given))
+
+
+def cs_housekeeping_packet(frame, count, accepted, errors, flags, eeprom, memory, passes):
+    return telemetry(frame, 0x08A4, count, struct.pack(">BBBBHHI", accepted, errors, flags, 0, eeprom, memory, passes))
+
+
+def drop(frame, pipe, why, lost):
+    return f"{frame} drop {pipe} {why} {lost.hex().upper()}"
+
+
+def crc16(data, crc=0):
+    """CRC-16/ARC: each byte's lowest bit first, polynomial 0xA001, no final change."""
+    for byte in data:
+        for place in range(8):
+            odd = (crc ^ (byte >> place)) & 1
+            crc = (crc >> 1) ^ (0xA001 if odd else 0)
+    return crc

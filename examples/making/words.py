@@ -1,0 +1,97 @@
+"""The words of the command line, and what they mean."""
+
+import re
+
+from making import Wrong
+from making.commands import *
+from making.tables import EEPROM_TABLE, MEMORY_TABLE
+
+U8, U16, U32 = range(1 << 8), range(1 << 16), range(1 << 32)
+NUMBER = re.compile("0x[0-9a-fA-F]{1,16}|[0-9]{1,20}")
+
+APPLICATIONS = {"MM": MM, "MD": MD, "CS": CS}
+IDS = {**APPLICATIONS, "MM_HOUSEKEEPING": MM_HOUSEKEEPING, "MD_HOUSEKEEPING": MD_HOUSEKEEPING, "CS_HOUSEKEEPING": CS_HOUSEKEEPING}
+TABLE_NAMES = {"eeprom": EEPROM_TABLE, "memory": MEMORY_TABLE}
+
+# The functions of `send` and their words, in the order of docs/COMMANDS.md.
+SENT = {
+    no_op: "APP",
+    reset_counts: "APP",
+    housekeeping: "APP",
+    mm_peek: "SIZE ADDRESS",
+    mm_poke: "SIZE ADDRESS VALUE",
+    mm_eeprom_enable: "REGION",
+    mm_eeprom_disable: "REGION",
+    md_start: "TABLE..",
+    md_stop: "TABLE..",
+    md_jam: "TABLE ENTRY LENGTH DELAY ADDRESS",
+    cs_on: "",
+    cs_off: "",
+    cs_table_on: "TABLE",
+    cs_table_off: "TABLE",
+    cs_entry_on: "TABLE ENTRY",
+    cs_entry_off: "TABLE ENTRY",
+    cs_report: "TABLE ENTRY",
+    command: "ID CODE",
+}
+
+# What fits the field of each word; TABLE.. are the bits of a mask.
+FIELDS = {
+    **dict.fromkeys(["SIZE", "REGION", "CODE"], U8),
+    **dict.fromkeys(["TABLE", "ENTRY", "LENGTH", "DELAY", "ID"], U16),
+    **dict.fromkeys(["ADDRESS", "VALUE"], U32),
+    "TABLE..": range(1, 17),
+}
+DWELL_ENTRY = {"LENGTH": U16, "DELAY": U16, "ADDRESS": U32}
+CHECKSUM_ENTRY = {"STATE": U16, "START": U32, "LENGTH": U32}
+
+
+def usage(function):
+    return f"{function.__name__} {SENT[function]}".rstrip()
+
+
+def listed(words):
+    *most, last = words
+    return f"{', '.join(most)} or {last}"
+
+
+def choice(word, meanings):
+    """What a word means that is one of a few."""
+    if word not in meanings:
+        raise Wrong(f"{word!r} isn't {listed(meanings)}")
+    return meanings[word]
+
+
+def number(name, word, allowed):
+    """A number of decimal digits, or of hexadecimal ones behind 0x."""
+    value = int(word, 16 if word.startswith("0x") else 10) if NUMBER.fullmatch(word) else -1
+    if value not in allowed:
+        last = allowed[-1] if allowed[-1] < 256 else f"0x{allowed[-1]:X}"
+        raise Wrong(f"{name.rstrip('.')} {word!r} isn't a number from {allowed[0]} to {last}")
+    return value
+
+
+def entry(word, fields):
+    """The numbers of a table's entry, with commas between them."""
+    parts = word.split(",")
+    if len(parts) != len(fields):
+        raise Wrong(f"{word!r} isn't {','.join(fields)}")
+    return tuple(number(name, part, allowed) for part, (name, allowed) in zip(parts, fields.items()))
+
+
+def counted(words, form):
+    """Refuses too few or too many words for a form, whose last name may end in two dots for one or more."""
+    names = form.split()
+    if len(words) < len(names):
+        raise Wrong(f"too few words; write: {form}")
+    if len(words) > len(names) and not form.endswith(".."):
+        raise Wrong(f"too many words; write: {form}")
+
+
+def argument(name, word):
+    """A word behind a function of `send`."""
+    if name == "APP":
+        return choice(word, APPLICATIONS)
+    if name == "ID" and word.isidentifier():
+        return choice(word, IDS)
+    return number(name, word, FIELDS[name])
