@@ -65,11 +65,11 @@ line_of r = record { bytes = r.line.value; takes = if r.whole then length r.line
 abbrev pub is_finished : Reader → Bool
 is_finished r = r.finished
 
--- the last answer was More, and nothing was fed since
+-- no line is whole that wasn't looked at: so it is at the beginning, and where the last answer was More
 abbrev pub Waits : Reader → Type 0
 Waits r = has_line r ≡ false
 
--- the last answer was Frame, and `next` wasn't called since
+-- a frame is shown: the last answer was Frame
 abbrev pub Shows : Reader → Type 0
 Shows r = r.progress.shown ≡ true
 
