@@ -1,7 +1,8 @@
 -- What a report says of the scenario's text and of the bytes of the output.
-use Rattle.std.specs.Prelude.{◌≡◌, ℕ, ◌+◌, ◌==◌, ◌&&◌, ◌<◌, ◌≤◌, List, [], ◌∷◌, ◌++◌, length, slice_index, Bool, IsTrue, IsFalse, Option, Some, None, ◌⊎◌}
+use Rattle.std.specs.Prelude.{◌≡◌, ◌≢◌, ℕ, ◌+◌, ◌==◌, ◌&&◌, ◌<◌, ◌≤◌, List, [], ◌∷◌, ◌++◌, length, slice_index, Bool, IsTrue, IsFalse, Option, Some, None, ◌⊎◌}
 use Rattle.std.specs.List.{flat_map}
 use Rattle.fsw_outside.specs.Told.{WhereTold}
+use Rattle.fsw_outside.specs.Causes.{HasRisen}
 use Rattle.fsw_outside.specs.Files.{Content, file_named}
 use Rattle.fsw_outside.specs.Written.{AppendsPart}
 use Rattle.scenario.specs.declared.item.Item.TheVariants as answers
@@ -136,6 +137,13 @@ ReadsAheadBy statuses.NoMemory report text = length text.bytes ≤ slice_index (
 -- how far reading went ahead, by a report
 abbrev pub ReadsAhead : Report → Text → Type 0
 ReadsAhead report text = ReadsAheadBy report.status report text
+
+-- The causes of a report: the shelf's count of faults rose exactly where a read failed, and the output's where a write did; else each stays.
+pub record HasCauses {A B : Type 0} (status : Status) (told : Option A) (faults_before faults_now : ℕ) (held : Option B) (wrote_before wrote_now : ℕ) : Type 0 where
+  pub read_failed : status ≡ statuses.ReadFailed → HasRisen told faults_before faults_now
+  pub read_well : status ≢ statuses.ReadFailed → faults_now ≡ faults_before
+  pub write_failed : status ≡ statuses.WriteFailed → HasRisen held wrote_before wrote_now
+  pub wrote_well : status ≢ statuses.WriteFailed → wrote_now ≡ wrote_before
 
 -- What was seen of the outside: whether a file is open, the shelf's count of faults before and now, and the bytes of the output before and now,
 -- where they are told.

@@ -1,6 +1,6 @@
 //! Laws of rehearsals: each function answers nothing, and its contract is the law.
 
-ghost use Rattle.std.specs.Prelude.{◌≡◌, ◌≢◌, ℕ, ◌+◌, ◌<◌, List, [], Some, None};
+ghost use Rattle.std.specs.Prelude.{◌≡◌, ◌≢◌, ℕ, ◌+◌, ◌<◌, List, [], Option, Some, None, IsSome};
 ghost use Rattle.fsw_outside.specs.Files.{Content};
 ghost use Rattle.scenario.specs.Texts.{Text, Ended, Open, reading};
 ghost use Rattle.frame_exec.specs.Tables.{tables_fault};
@@ -8,9 +8,16 @@ ghost use Rattle.frame_exec.specs.declared.loading.TablesFault.{TablesFault};
 ghost use Rattle.rehearsal.specs.Words.{Asked};
 ghost use Rattle.rehearsal.specs.Files.{Refusal, AreTaken};
 ghost use Rattle.rehearsal.specs.Lines.{Rehearsed, FailsOn, Refuses, ReadsText};
-ghost use Rattle.rehearsal.specs.Outcome.{refused_read, Seen, GivesReads, IsRefusedAt};
+ghost use Rattle.rehearsal.specs.Outcome.{refused_read, HasCauses, Seen, GivesReads, IsRefusedAt, Rehearses};
 ghost use Rattle.rehearsal.specs.declared.report.Report.{Report};
 ghost use Rattle.rehearsal.specs.declared.report.Status.TheVariants as statuses;
+
+/// What `vigil`'s clauses outcome and causes say of accepted words is `Rehearsed`, where both objects tell.
+pub fn rehearsals_are_told()
+    ensures { (report : Report) (asked : Asked) (seen : Seen) (wrote_before wrote_now : ℕ) (told : Option Content) (held : Option (List ℕ)) (before after : Content)
+        → Rehearses report asked seen before after → HasCauses report.status told seen.faults_before seen.faults_now held wrote_before wrote_now → IsSome told → IsSome held
+        → Rehearsed report asked seen wrote_before wrote_now before after }
+{}
 
 /// The first line of this list that holds decides how a rehearsal of accepted words ends over a shelf and an output that
 /// tell, unless memory ran out: from each line's condition to the report. Words that aren't accepted are refused by `vigil`'s own clause.

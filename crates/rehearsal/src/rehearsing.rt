@@ -3,12 +3,11 @@
 ghost use Rattle.std.specs.Prelude.{◌≡◌, ◌≢◌, ℕ, ◌⊎◌, List, true, Some, None, IsTrue};
 ghost use Rattle.fsw_outside.specs.Told.{WhereTold};
 ghost use Rattle.fsw_outside.specs.Files.{file_named};
-ghost use Rattle.fsw_outside.specs.Causes.{HasRisen};
 ghost use Rattle.scenario.specs.Texts.{Ended, reading};
 ghost use Rattle.frame_exec.specs.Tables.{tables_fault};
 ghost use Rattle.rehearsal.specs.Words.{Asked, accepted_words, words_to_open};
 ghost use Rattle.rehearsal.specs.Files.{AsksFor, AreTaken};
-ghost use Rattle.rehearsal.specs.Outcome.{GivesReads, Seen, Rehearses, Completes};
+ghost use Rattle.rehearsal.specs.Outcome.{GivesReads, HasCauses, Seen, Rehearses, Completes};
 ghost use Rattle.rehearsal.specs.Report.{error_line, Tells};
 
 use crate::files::take_files;
@@ -43,10 +42,7 @@ fn carry_out<R: Threads + Sync, S: Shelf, O: Sink, G: Gate>(
     ensures opened { result.status ≢ Status.ReadFailed → IsTrue (S.is_open shelf.new) }
     ensures file_refused { result.status ≡ Status.FileRefused → out.new ≡ out.old }
     ensures no_memory { result.status ≡ Status.NoMemory → (out.new ≡ out.old) × (result.frames ≡ 0) }
-    ensures read_failed { result.status ≡ Status.ReadFailed → HasRisen (S.told shelf.new) (S.faults shelf.old) (S.faults shelf.new) }
-    ensures read_well { result.status ≢ Status.ReadFailed → S.faults shelf.new ≡ S.faults shelf.old }
-    ensures write_failed { result.status ≡ Status.WriteFailed → HasRisen (O.held out.new) (O.faults out.old) (O.faults out.new) }
-    ensures wrote_well { result.status ≢ Status.WriteFailed → O.faults out.new ≡ O.faults out.old }
+    ensures causes { HasCauses result.status (S.told shelf.new) (S.faults shelf.old) (S.faults shelf.new) (O.held out.new) (O.faults out.old) (O.faults out.new) }
 {
     // it takes no memory
     let mut files = Files::open(alloc).unwrap();
@@ -124,10 +120,7 @@ pub fn vigil<R: Threads + Sync, S: Shelf, O: Sink, E: Sink, G: Gate>(
     ensures no_memory { result.status ≡ Status.NoMemory → (out.new ≡ out.old) × (result.frames ≡ 0) }
 
     // No fault is invented, and none is kept back.
-    ensures read_failed { result.status ≡ Status.ReadFailed → HasRisen (S.told shelf.new) (S.faults shelf.old) (S.faults shelf.new) }
-    ensures read_well { result.status ≢ Status.ReadFailed → S.faults shelf.new ≡ S.faults shelf.old }
-    ensures write_failed { result.status ≡ Status.WriteFailed → HasRisen (O.held out.new) (O.faults out.old) (O.faults out.new) }
-    ensures wrote_well { result.status ≢ Status.WriteFailed → O.faults out.new ≡ O.faults out.old }
+    ensures causes { HasCauses result.status (S.told shelf.new) (S.faults shelf.old) (S.faults shelf.new) (O.held out.new) (O.faults out.old) (O.faults out.new) }
 
     // Files that can be taken and whose tables load, and a scenario that ends well and whose map gives their reads, are run to its end, or memory ran out, where neither object failed.
     ensures complete { (asked : Asked) (files : List (List ℕ)) (bytes : List ℕ) → accepted_words words.now ≡ Some asked → tables_fault files ≡ None

@@ -12,7 +12,7 @@ ghost use Rattle.frame_exec.specs.Following.{Follows};
 ghost use Rattle.frame_exec.specs.Tables.{AreLoaded};
 ghost use Rattle.rehearsal.specs.Files.{OpensOnce};
 ghost use Rattle.rehearsal.specs.Text.{IsRead, Holds};
-ghost use Rattle.rehearsal.specs.Outcome.{fault_report, IsText, IsTextOf, ReadsAhead, Outcome};
+ghost use Rattle.rehearsal.specs.Outcome.{fault_report, HasCauses, IsText, IsTextOf, ReadsAhead, Outcome};
 ghost use Rattle.rehearsal.specs.Run.{Begins, HandsOn};
 
 use crate::report::{Report, Status};
@@ -60,10 +60,7 @@ pub fn run_frames<R: Threads + Sync, S: Source, O: Sink, G: Gate>(
         × WhereTold (O.held out.old) (O.held out.new) (Outcome result files whole)) }
     ensures is_open { IsTrue (S.is_open source.new) }
     ensures mark { S.mark source.new ≡ S.mark source.old }
-    ensures read_failed { result.status ≡ Status.ReadFailed → HasRisen (S.told source.new) (S.faults source.old) (S.faults source.new) }
-    ensures read_well { result.status ≢ Status.ReadFailed → S.faults source.new ≡ S.faults source.old }
-    ensures write_failed { result.status ≡ Status.WriteFailed → HasRisen (O.held out.new) (O.faults out.old) (O.faults out.new) }
-    ensures wrote_well { result.status ≢ Status.WriteFailed → O.faults out.new ≡ O.faults out.old }
+    ensures causes { HasCauses result.status (S.told source.new) (S.faults source.old) (S.faults source.new) (O.held out.new) (O.faults out.old) (O.faults out.new) }
     ensures accepted { (result.status ≢ Status.WordsRefused) × (result.status ≢ Status.FileRefused) × (result.status ≢ Status.NoMemory) }
 {
     let mut frames = 0;
@@ -119,10 +116,7 @@ fn run_open<R: Threads + Sync, S: Source, O: Sink, G: Gate>(
         × WhereTold (O.held out.old) (O.held out.new) (Outcome result files.now whole)) }
     ensures is_open { IsTrue (S.is_open source.new) }
     ensures mark { S.mark source.new ≡ S.mark source.old }
-    ensures read_failed { result.status ≡ Status.ReadFailed → HasRisen (S.told source.new) (S.faults source.old) (S.faults source.new) }
-    ensures read_well { result.status ≢ Status.ReadFailed → S.faults source.new ≡ S.faults source.old }
-    ensures write_failed { result.status ≡ Status.WriteFailed → HasRisen (O.held out.new) (O.faults out.old) (O.faults out.new) }
-    ensures wrote_well { result.status ≢ Status.WriteFailed → O.faults out.new ≡ O.faults out.old }
+    ensures causes { HasCauses result.status (S.told source.new) (S.faults source.old) (S.faults source.new) (O.held out.new) (O.faults out.old) (O.faults out.new) }
     ensures accepted { result.status ≢ Status.WordsRefused }
     ensures file_refused { result.status ≡ Status.FileRefused → out.new ≡ out.old }
     ensures no_memory { result.status ≡ Status.NoMemory → (out.new ≡ out.old) × (result.frames ≡ 0) }
@@ -164,10 +158,7 @@ pub fn run_scenario<R: Threads + Sync, S: Shelf, O: Sink, G: Gate>(
         × WhereTold (O.held out.old) (O.held out.new) (Outcome result files.now text)) }
     ensures opening { WhereTold (S.told shelf.old) (S.told shelf.new) (OpensOnce name.now) }
     ensures mark { S.mark shelf.new ≡ S.faults shelf.old }
-    ensures read_failed { result.status ≡ Status.ReadFailed → HasRisen (S.told shelf.new) (S.faults shelf.old) (S.faults shelf.new) }
-    ensures read_well { result.status ≢ Status.ReadFailed → S.faults shelf.new ≡ S.faults shelf.old }
-    ensures write_failed { result.status ≡ Status.WriteFailed → HasRisen (O.held out.new) (O.faults out.old) (O.faults out.new) }
-    ensures wrote_well { result.status ≢ Status.WriteFailed → O.faults out.new ≡ O.faults out.old }
+    ensures causes { HasCauses result.status (S.told shelf.new) (S.faults shelf.old) (S.faults shelf.new) (O.held out.new) (O.faults out.old) (O.faults out.new) }
     ensures accepted { result.status ≢ Status.WordsRefused }
     ensures file_refused { result.status ≡ Status.FileRefused → out.new ≡ out.old }
     ensures no_memory { result.status ≡ Status.NoMemory → (out.new ≡ out.old) × (result.frames ≡ 0) }

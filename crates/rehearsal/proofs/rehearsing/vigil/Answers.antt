@@ -12,11 +12,11 @@ returns-in-Ok-Some-clause-complete g c = λ asked files bytes is loaded ended gi
     let o = c.carry_out.ensures.outcome after tells in
     let same : c.in-Ok-Some.plan ≡ asked = asked_once _ c.in-Ok-Some.plan asked (c.in-Ok-Some.ensures ∙ c.in-Ok-Some.field-0-is) is in
     let whole = rehearses_as c.carry_out.result c.in-Ok-Some.plan asked _ o.0 after same o.2 in
-    let read = λ (failed : c.carry_out.result.status ≡ statuses.ReadFailed). not_risen _ after _ _ tells well (c.carry_out.ensures.read_failed failed) in (
+    let read = λ (failed : c.carry_out.result.status ≡ statuses.ReadFailed). not_risen _ after _ _ tells well (c.carry_out.ensures.causes.read_failed failed) in (
       o.0,
       o.1,
       λ taken file.
           subst (λ (report : Report). WhereTold (g.O.Sink.held c.args.out.now) (g.O.Sink.held c.carry_out.new.out) (Completes report files (record { bytes = bytes; closed = true }))) (sym c.told.ensures.same)
           (rehearses_complete c.carry_out.result asked _ o.0 after files bytes whole taken file loaded ended given read (λ reading some. c.carry_out.ensures.opened reading)
-          (λ new told failed. not_risen _ new _ _ told wrote (c.carry_out.ensures.write_failed failed))),
+          (λ new told failed. not_risen _ new _ _ told wrote (c.carry_out.ensures.causes.write_failed failed))),
     )
