@@ -1,0 +1,6 @@
+use Rattle.std.proofs.Common.{◌∙◌, ap}
+use Rattle.rehearsal.specs.Words.{accepted_words}
+use Rattle.vigil.proofs.rehearse_given.Goals as goal
+
+pub returns-clause-complete : goal.returns-clause-complete
+returns-clause-complete g c = rw c.in-Ok.is (λ asked files bytes is. c.vigil.ensures.complete asked files bytes (ap accepted_words c.in-Ok-words_behind_name.ensures ∙ is))
