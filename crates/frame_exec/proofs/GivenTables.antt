@@ -10,6 +10,11 @@ use Rattle.md_dwell.specs.declared.tables.DwellEntry.{DwellEntry}
 use Rattle.md_dwell.specs.Given.{is_given, first_refused, TablesGiven}
 use Rattle.md_dwell.proofs.Gifts.{none_refused}
 use Rattle.cs_slices.specs.declared.segments.Segment.{Segment}
+use Rattle.hs_tables.specs.Apps as apps
+use Rattle.hs_tables.specs.Events as events
+use Rattle.hs_tables.specs.Counters as counters
+use Rattle.hs_tables.specs.Actions as actions
+use Rattle.hs_tables.specs.declared.tables.HsTables.{HsTables}
 use Rattle.cs_slices.specs.Tables.{segments_of, segments_fault_of, blank_segment, blank_segments}
 use Rattle.cs_slices.specs.Given.{is_given as is_segment_given, first_refused as first_refused_segment, SegmentsGiven}
 use Rattle.cs_slices.proofs.Refusing.{none_refused as no_segment_refused}
@@ -40,14 +45,18 @@ module _ (regions : List Region) (tables : TableSet) (given : SetGiven regions t
   memory_given payload None none = record { dwells = given.dwells; eeprom = given.eeprom; memory = no_segment_refused regions (segments_of payload) none }
   memory_given payload (Some fault) none = given
 
+  hs_given : (hs : HsTables) (fault : Option EntryFault) → SetGiven regions (where_well (record tables { hs = hs }) tables fault)
+  hs_given hs None = record { dwells = given.dwells; eeprom = given.eeprom; memory = given.memory }
+  hs_given hs (Some fault) = given
+
   table_given : (kind : TableKind) (payload : List ℕ) → refused_entry regions kind payload ≡ None → SetGiven regions (with_table tables kind payload)
   table_given (Dwell n) payload none = dwell_given n payload (dwell_fault_of payload) none
   table_given Eeprom payload none = eeprom_given payload (segments_fault_of payload) none
   table_given Memory payload none = memory_given payload (segments_fault_of payload) none
-  table_given AppMon payload none = given
-  table_given EventMon payload none = given
-  table_given ExeCount payload none = given
-  table_given MsgActs payload none = given
+  table_given AppMon payload none = hs_given (record tables.hs { apps = apps.rows_of payload }) (apps.rows_fault_of payload)
+  table_given EventMon payload none = hs_given (record tables.hs { events = events.rows_of payload }) (events.rows_fault_of payload)
+  table_given ExeCount payload none = hs_given (record tables.hs { counts = counters.rows_of payload }) (counters.rows_fault_of payload)
+  table_given MsgActs payload none = hs_given (record tables.hs { acts = actions.rows_of payload }) (actions.rows_fault_of payload)
   table_given (Ats n) payload none = given
   table_given (Rts n) payload none = given
 

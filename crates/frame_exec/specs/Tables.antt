@@ -10,19 +10,29 @@ use Rattle.cs_slices.specs.Tables.{blank_segments, segments_of, segments_fault_o
 use Rattle.cs_slices.specs.Given.{SegmentsGiven, first_refused as first_refused_segment}
 use Rattle.md_dwell.specs.Tables.{DwellTable, blank_table, dwell_of, dwell_fault_of}
 use Rattle.md_dwell.specs.Given.{TablesGiven, first_refused}
+use Rattle.hs_tables.specs.Apps as apps
+use Rattle.hs_tables.specs.Events as events
+use Rattle.hs_tables.specs.Counters as counters
+use Rattle.hs_tables.specs.Actions as actions
+use Rattle.hs_tables.specs.declared.tables.HsTables.{HsTables}
 use Rattle.frame_exec.specs.declared.loading.TablesFault.{TablesFault}
 use Rattle.frame_exec.specs.declared.giving.OpenFault.{OpenFault}
 use Rattle.frame_exec.specs.declared.giving.OpenFault.TheVariants.{Region as AtRegion, NoMemory}
 
--- the tables of the applications: MD's four, and CS's two
+-- the tables of the applications: MD's four, CS's two, and those of HS
 pub record TableSet : Type 0 where
   pub dwells : List DwellTable
   pub eeprom : List Segment
   pub memory : List Segment
+  pub hs : HsTables
+
+-- the tables of HS where no file is named
+abbrev pub blank_hs : HsTables
+blank_hs = record { apps = apps.blank_rows; events = events.blank_rows; counts = counters.blank_rows; acts = actions.blank_rows }
 
 -- the tables where no file is named: all their bytes are 0
 unfoldable pub blank_tables : TableSet
-blank_tables = record { dwells = replicate 4 blank_table; eeprom = blank_segments; memory = blank_segments }
+blank_tables = record { dwells = replicate 4 blank_table; eeprom = blank_segments; memory = blank_segments; hs = blank_hs }
 
 -- what is said of a table of this kind and payload, or else of what is no table
 abbrev pub by_kind : {A : Type 0} → A → (TableKind → List ℕ → A) → Option TableKind → List ℕ → A
@@ -43,10 +53,10 @@ abbrev pub is_loaded : TableKind → Bool
 is_loaded (Dwell n) = true
 is_loaded Eeprom = true
 is_loaded Memory = true
-is_loaded AppMon = false
-is_loaded EventMon = false
-is_loaded ExeCount = false
-is_loaded MsgActs = false
+is_loaded AppMon = true
+is_loaded EventMon = true
+is_loaded ExeCount = true
+is_loaded MsgActs = true
 is_loaded (Ats n) = false
 is_loaded (Rts n) = false
 
@@ -55,10 +65,10 @@ abbrev pub entry_fault : TableKind → List ℕ → Option EntryFault
 entry_fault (Dwell n) payload = dwell_fault_of payload
 entry_fault Eeprom payload = segments_fault_of payload
 entry_fault Memory payload = segments_fault_of payload
-entry_fault AppMon payload = None
-entry_fault EventMon payload = None
-entry_fault ExeCount payload = None
-entry_fault MsgActs payload = None
+entry_fault AppMon payload = apps.rows_fault_of payload
+entry_fault EventMon payload = events.rows_fault_of payload
+entry_fault ExeCount payload = counters.rows_fault_of payload
+entry_fault MsgActs payload = actions.rows_fault_of payload
 entry_fault (Ats n) payload = None
 entry_fault (Rts n) payload = None
 
@@ -67,10 +77,10 @@ abbrev pub with_table : TableSet → TableKind → List ℕ → TableSet
 with_table tables (Dwell n) payload = where_well (record tables { dwells = slice_set tables.dwells (n - 1) (dwell_of payload) }) tables (dwell_fault_of payload)
 with_table tables Eeprom payload = where_well (record tables { eeprom = segments_of payload }) tables (segments_fault_of payload)
 with_table tables Memory payload = where_well (record tables { memory = segments_of payload }) tables (segments_fault_of payload)
-with_table tables AppMon payload = tables
-with_table tables EventMon payload = tables
-with_table tables ExeCount payload = tables
-with_table tables MsgActs payload = tables
+with_table tables AppMon payload = where_well (record tables { hs = record tables.hs { apps = apps.rows_of payload } }) tables (apps.rows_fault_of payload)
+with_table tables EventMon payload = where_well (record tables { hs = record tables.hs { events = events.rows_of payload } }) tables (events.rows_fault_of payload)
+with_table tables ExeCount payload = where_well (record tables { hs = record tables.hs { counts = counters.rows_of payload } }) tables (counters.rows_fault_of payload)
+with_table tables MsgActs payload = where_well (record tables { hs = record tables.hs { acts = actions.rows_of payload } }) tables (actions.rows_fault_of payload)
 with_table tables (Ats n) payload = tables
 with_table tables (Rts n) payload = tables
 

@@ -6,6 +6,7 @@ ghost use Rattle.table_files.specs.Kinds.{IsTable};
 ghost use Rattle.frame_exec.specs.Tables.{entry_fault, entry_fault_in, tables_fault};
 
 use cs_slices::load_segments;
+use hs_tables::{load_appmon, load_eventmon, load_execount, load_msgacts};
 use md_dwell::load_dwell;
 use table_files::{EntryFault, FileImage, Files, TableKind};
 
@@ -22,7 +23,7 @@ pub struct TablesFault {
 fn fault_in(image: FileImage<'_>) -> Option<EntryFault>
     requires { (file : List ℕ) × Shows file image }
     ensures fault { (file : List ℕ) → Shows file image.entry → result ≡ entry_fault_in file }
-    ensures small { IfSome result (λ fault. fault.reason ≤ 3) }
+    ensures small { IfSome result (λ fault. fault.reason ≤ 5) }
 {
     match image {
         FileImage::Load { .. } => None,
@@ -34,16 +35,16 @@ fn fault_in(image: FileImage<'_>) -> Option<EntryFault>
 fn fault_of(kind: TableKind, payload: &[u8]) -> Option<EntryFault>
     requires { IsTable kind (length payload.now) }
     ensures fault { result ≡ entry_fault kind payload.now }
-    ensures small { IfSome result (λ fault. fault.reason ≤ 3) }
+    ensures small { IfSome result (λ fault. fault.reason ≤ 5) }
 {
     match kind {
         TableKind::Dwell(_) => load_dwell(payload).err(),
         TableKind::Eeprom => load_segments(payload).err(),
         TableKind::Memory => load_segments(payload).err(),
-        TableKind::AppMon => None,
-        TableKind::EventMon => None,
-        TableKind::ExeCount => None,
-        TableKind::MsgActs => None,
+        TableKind::AppMon => load_appmon(payload).err(),
+        TableKind::EventMon => load_eventmon(payload).err(),
+        TableKind::ExeCount => load_execount(payload).err(),
+        TableKind::MsgActs => load_msgacts(payload).err(),
         TableKind::Ats(_) => None,
         TableKind::Rts(_) => None,
     }
@@ -52,7 +53,7 @@ fn fault_of(kind: TableKind, payload: &[u8]) -> Option<EntryFault>
 /// The first fault that the entries of the files have.
 pub(crate) fn first_fault(files: &Files) -> Option<TablesFault>
     ensures fault { result ≡ tables_fault files.now }
-    ensures small { IfSome result (λ fault. fault.reason ≤ 3) }
+    ensures small { IfSome result (λ fault. fault.reason ≤ 5) }
 {
     'files: for i in 0..files.len() {
         if let Some(fault) = fault_in(files.get(i + 1)) {

@@ -5,10 +5,18 @@ ghost use Rattle.table_files.specs.Headers.{Shows};
 ghost use Rattle.table_files.specs.Kinds.{IsTable};
 ghost use Rattle.table_files.specs.declared.kinds.TableKind.{TableKind};
 ghost use Rattle.cs_slices.specs.Tables.{segments_of, segments_fault_of};
+ghost use Rattle.hs_tables.specs.Apps as apps;
+ghost use Rattle.hs_tables.specs.Events as events;
+ghost use Rattle.hs_tables.specs.Counters as counters;
+ghost use Rattle.hs_tables.specs.Actions as actions;
 ghost use Rattle.frame_exec.specs.Tables.{where_well, with_table, with_file, tables_fault};
 
 use crate::loading::{TablesFault, first_fault};
 use cs_slices::{Segments, load_segments};
+use hs_tables::{
+    AppMon, EventMon, ExeCount, HsTables, MsgActs, load_appmon, load_eventmon, load_execount,
+    load_msgacts,
+};
 use md_dwell::{Dwell, load_dwell};
 use std::marker::Model;
 use table_files::{FileImage, Files, TableKind};
@@ -19,6 +27,7 @@ pub struct Tables {
     dwells: [Dwell; 4],
     eeprom: Segments,
     memory: Segments,
+    hs: HsTables,
 }
 
 impl Model for Tables {
@@ -27,11 +36,11 @@ impl Model for Tables {
 
     ghost Value = { TableSet };
 
-    ghost view = { λ t. record { dwells = t.dwells; eeprom = t.eeprom; memory = t.memory } };
+    ghost view = { λ t. record { dwells = t.dwells; eeprom = t.eeprom; memory = t.memory; hs = t.hs } };
 
     ghost invariant = { λ t. length t.dwells ≡ 4 };
 
-    ghost inverse = { λ t. record { dwells = t.dwells; eeprom = t.eeprom; memory = t.memory } };
+    ghost inverse = { λ t. record { dwells = t.dwells; eeprom = t.eeprom; memory = t.memory; hs = t.hs } };
 }
 
 impl Tables {
@@ -46,6 +55,7 @@ impl Tables {
             dwells: [Dwell::blank(); 4],
             eeprom: Segments::blank(),
             memory: Segments::blank(),
+            hs: HsTables::blank(),
         }
     }
 
@@ -55,7 +65,7 @@ impl Tables {
         ensures tables { IfOk result (λ tables. tables ≡ tables_of files.now) }
         ensures well { IfOk result (λ tables. tables_fault files.now ≡ None) }
         ensures fault { IfErr result (λ fault. tables_fault files.now ≡ Some fault) }
-        ensures small { IfErr result (λ fault. fault.reason ≤ 3) }
+        ensures small { IfErr result (λ fault. fault.reason ≤ 5) }
     {
         match first_fault(files) {
             Some(fault) => Err(fault),
@@ -98,6 +108,13 @@ impl Tables {
         &self.memory
     }
 
+    /// The tables of HS.
+    pub(crate) fn hs(&self) -> &HsTables
+        ensures { result.now ≡ self.now.hs }
+    {
+        &self.hs
+    }
+
     // Puts the table of a file in its place, if it is one.
     fn put_file(&mut self, image: FileImage<'_>)
         requires { (file : List ℕ) × Shows file image }
@@ -118,10 +135,10 @@ impl Tables {
             TableKind::Dwell(n) => self.put_dwell(n, payload),
             TableKind::Eeprom => put_segments(&mut self.eeprom, payload),
             TableKind::Memory => put_segments(&mut self.memory, payload),
-            TableKind::AppMon => {}
-            TableKind::EventMon => {}
-            TableKind::ExeCount => {}
-            TableKind::MsgActs => {}
+            TableKind::AppMon => put_apps(&mut self.hs.apps, payload),
+            TableKind::EventMon => put_events(&mut self.hs.events, payload),
+            TableKind::ExeCount => put_counts(&mut self.hs.counts, payload),
+            TableKind::MsgActs => put_acts(&mut self.hs.acts, payload),
             TableKind::Ats(_) => {}
             TableKind::Rts(_) => {}
         }
@@ -146,6 +163,50 @@ fn put_segments(place: &mut Segments, payload: &[u8])
     ensures { place.new ≡ where_well (segments_of payload.now) place.old (segments_fault_of payload.now) }
 {
     match load_segments(payload) {
+        Ok(table) => *place = table,
+        Err(_) => {}
+    }
+}
+
+// Puts an application monitor table in a place.
+fn put_apps(place: &mut AppMon, payload: &[u8])
+    requires { length payload.now ≡ 768 }
+    ensures { place.new ≡ where_well (apps.rows_of payload.now) place.old (apps.rows_fault_of payload.now) }
+{
+    match load_appmon(payload) {
+        Ok(table) => *place = table,
+        Err(_) => {}
+    }
+}
+
+// Puts an event monitor table in a place.
+fn put_events(place: &mut EventMon, payload: &[u8])
+    requires { length payload.now ≡ 384 }
+    ensures { place.new ≡ where_well (events.rows_of payload.now) place.old (events.rows_fault_of payload.now) }
+{
+    match load_eventmon(payload) {
+        Ok(table) => *place = table,
+        Err(_) => {}
+    }
+}
+
+// Puts an execution counter table in a place.
+fn put_counts(place: &mut ExeCount, payload: &[u8])
+    requires { length payload.now ≡ 704 }
+    ensures { place.new ≡ where_well (counters.rows_of payload.now) place.old (counters.rows_fault_of payload.now) }
+{
+    match load_execount(payload) {
+        Ok(table) => *place = table,
+        Err(_) => {}
+    }
+}
+
+// Puts a message action table in a place.
+fn put_acts(place: &mut MsgActs, payload: &[u8])
+    requires { length payload.now ≡ 544 }
+    ensures { place.new ≡ where_well (actions.rows_of payload.now) place.old (actions.rows_fault_of payload.now) }
+{
+    match load_msgacts(payload) {
         Ok(table) => *place = table,
         Err(_) => {}
     }

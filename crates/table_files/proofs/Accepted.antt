@@ -64,7 +64,7 @@ pub named_known : (field : List ℕ) (kind : TableKind) → named_kind field ≡
 unfolding named_kind
 named_known field kind named =
     among IsKnown known_tables field kind
-    ((lit≤ tt, lit≤ tt), ((lit≤ tt, lit≤ tt), ((lit≤ tt, lit≤ tt), ((lit≤ tt, lit≤ tt), (tt, (tt, tt))))))
+    (tt, (tt, (tt, (tt, ((lit≤ tt, lit≤ tt), ((lit≤ tt, lit≤ tt), ((lit≤ tt, lit≤ tt), ((lit≤ tt, lit≤ tt), (tt, (tt, tt))))))))))
     named
 
 -- the name field of a dwell table
@@ -82,10 +82,10 @@ known_named (Dwell (suc (suc (suc (suc zero))))) known = (dwell_field 4, refl)
 known_named (Dwell (suc (suc (suc (suc (suc n)))))) known = absurd (omega arith)
 known_named Eeprom known = (codes "CS.DefEepromTbl" ++ replicate 25 0, refl)
 known_named Memory known = (codes "CS.DefMemoryTbl" ++ replicate 25 0, refl)
-known_named AppMon known = absurd known
-known_named EventMon known = absurd known
-known_named ExeCount known = absurd known
-known_named MsgActs known = absurd known
+known_named AppMon known = (codes "HS.AppMon_Tbl" ++ replicate 27 0, refl)
+known_named EventMon known = (codes "HS.EventMon_Tbl" ++ replicate 25 0, refl)
+known_named ExeCount known = (codes "HS.ExeCount_Tbl" ++ replicate 25 0, refl)
+known_named MsgActs known = (codes "HS.MsgActs_Tbl" ++ replicate 26 0, refl)
 known_named (Ats n) known = absurd known
 known_named (Rts n) known = absurd known
 
@@ -97,10 +97,10 @@ sized_table : (kind : TableKind) (size : ℕ) → IsKnown kind → fits_kind kin
 sized_table (Dwell n) size known fits = (known.0, known.1, grind (arith, nat_tests))
 sized_table Eeprom size known fits = grind (arith, nat_tests)
 sized_table Memory size known fits = grind (arith, nat_tests)
-sized_table AppMon size known fits = absurd known
-sized_table EventMon size known fits = absurd known
-sized_table ExeCount size known fits = absurd known
-sized_table MsgActs size known fits = absurd known
+sized_table AppMon size known fits = grind (arith, nat_tests)
+sized_table EventMon size known fits = grind (arith, nat_tests)
+sized_table ExeCount size known fits = grind (arith, nat_tests)
+sized_table MsgActs size known fits = grind (arith, nat_tests)
 sized_table (Ats n) size known fits = absurd known
 sized_table (Rts n) size known fits = absurd known
 

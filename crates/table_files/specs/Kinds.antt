@@ -35,10 +35,10 @@ fits_kind Memory size = size == 192
 
 -- the kinds whose tables are known by a name
 abbrev pub IsKnown : TableKind → Type 0
-IsKnown AppMon = ⊥
-IsKnown EventMon = ⊥
-IsKnown ExeCount = ⊥
-IsKnown MsgActs = ⊥
+IsKnown AppMon = Unit {0}
+IsKnown EventMon = Unit {0}
+IsKnown ExeCount = Unit {0}
+IsKnown MsgActs = Unit {0}
 IsKnown (Ats n) = ⊥
 IsKnown (Rts n) = ⊥
 IsKnown (Dwell n) = (1 ≤ n) × (n ≤ 4)
@@ -47,10 +47,10 @@ IsKnown Memory = Unit {0}
 
 -- what holds of the kind of a table that is known, and of how many bytes its payload has
 abbrev pub IsTable : TableKind → ℕ → Type 0
-IsTable AppMon size = ⊥
-IsTable EventMon size = ⊥
-IsTable ExeCount size = ⊥
-IsTable MsgActs size = ⊥
+IsTable AppMon size = size ≡ 768
+IsTable EventMon size = size ≡ 384
+IsTable ExeCount size = size ≡ 704
+IsTable MsgActs size = size ≡ 544
 IsTable (Ats n) size = ⊥
 IsTable (Rts n) size = ⊥
 IsTable (Dwell n) size = (1 ≤ n) × (n ≤ 4) × (size ≡ 204)
@@ -65,7 +65,11 @@ pub record KnownTable : Type 0 where
 -- the tables whose names are known
 abbrev pub known_tables : List KnownTable
 known_tables =
-    (record { name = codes "MD.DWELL_TABLE1"; kind = Dwell 1 })
+    (record { name = codes "HS.AppMon_Tbl"; kind = AppMon })
+    ∷ (record { name = codes "HS.EventMon_Tbl"; kind = EventMon })
+    ∷ (record { name = codes "HS.ExeCount_Tbl"; kind = ExeCount })
+    ∷ (record { name = codes "HS.MsgActs_Tbl"; kind = MsgActs })
+    ∷ (record { name = codes "MD.DWELL_TABLE1"; kind = Dwell 1 })
     ∷ (record { name = codes "MD.DWELL_TABLE2"; kind = Dwell 2 })
     ∷ (record { name = codes "MD.DWELL_TABLE3"; kind = Dwell 3 })
     ∷ (record { name = codes "MD.DWELL_TABLE4"; kind = Dwell 4 })

@@ -34,7 +34,23 @@ struct TableRow {
 }
 
 /// The tables whose names are known.
-const TABLE_ROWS: [TableRow; 6] = [
+const TABLE_ROWS: [TableRow; 10] = [
+    TableRow {
+        name: "HS.AppMon_Tbl",
+        kind: TableKind::AppMon,
+    },
+    TableRow {
+        name: "HS.EventMon_Tbl",
+        kind: TableKind::EventMon,
+    },
+    TableRow {
+        name: "HS.ExeCount_Tbl",
+        kind: TableKind::ExeCount,
+    },
+    TableRow {
+        name: "HS.MsgActs_Tbl",
+        kind: TableKind::MsgActs,
+    },
     TableRow {
         name: "MD.DWELL_TABLE1",
         kind: TableKind::Dwell(1),

@@ -11,7 +11,7 @@ ghost use Rattle.table_files.specs.Faults.{file_fault_number};
 ghost use Rattle.table_files.specs.Kinds.{IsTable, IsKnown, is_same_kind, named_kind, fits_kind};
 ghost use Rattle.table_files.specs.Headers.{IsFile, IsTableOf, content_type, subtype, table_offset, table_size, table_name, is_load, kind_of_file, payload_of_file, address_of_file, file_fault_of};
 ghost use Rattle.table_files.specs.Files.{AreFiles, file_at};
-ghost use Rattle.table_files.specs.Rows.{dwell_headers, dwell_file, load_file, eeprom_name, memory_name};
+ghost use Rattle.table_files.specs.Rows.{dwell_headers, dwell_file, load_file, eeprom_name, memory_name, appmon_name, eventmon_name, execount_name, msgacts_name};
 
 /// The files without a fault are those with the headers of a known table, and no file is two tables.
 pub fn accepted_files_have_headers()
@@ -56,6 +56,7 @@ pub fn name_rows()
         ≡ None ∷ Some (Dwell 1) ∷ Some (Dwell 2) ∷ Some (Dwell 3) ∷ Some (Dwell 4) ∷ None ∷ [] }
     ensures eeprom { named_kind eeprom_name ≡ Some Eeprom }
     ensures memory { named_kind memory_name ≡ Some Memory }
+    ensures health { map named_kind (appmon_name ∷ eventmon_name ∷ execount_name ∷ msgacts_name ∷ []) ≡ Some AppMon ∷ Some EventMon ∷ Some ExeCount ∷ Some MsgActs ∷ [] }
     ensures padded { named_kind (slice_set eeprom_name 39 1) ≡ None }
     ensures whole { named_kind (slice_set eeprom_name 14 0) ≡ None }
 {}

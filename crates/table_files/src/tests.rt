@@ -52,7 +52,7 @@ const FAULTY: [(Draft, FileFault, u8); 15] = [
         FileFault::Name,
         5,
     ),
-    ((TYPE, 8, 0, 768, "HS.AppMon_Tbl", 884), FileFault::Name, 5),
+    ((TYPE, 8, 0, 768, "HS.AppMon_TBL", 884), FileFault::Name, 5),
     (
         (TYPE, 8, 0, 204, "MD.DWELL_TABLE1", 319),
         FileFault::Size,
@@ -81,7 +81,11 @@ const FAULTY: [(Draft, FileFault, u8); 15] = [
 ];
 
 /// The tables that are known, and the sizes of their payloads.
-const TABLES: [(&str, TableKind, u16); 6] = [
+const TABLES: [(&str, TableKind, u16); 10] = [
+    ("HS.AppMon_Tbl", TableKind::AppMon, 768),
+    ("HS.EventMon_Tbl", TableKind::EventMon, 384),
+    ("HS.ExeCount_Tbl", TableKind::ExeCount, 704),
+    ("HS.MsgActs_Tbl", TableKind::MsgActs, 544),
     ("MD.DWELL_TABLE1", TableKind::Dwell(1), 204),
     ("MD.DWELL_TABLE2", TableKind::Dwell(2), 204),
     ("MD.DWELL_TABLE3", TableKind::Dwell(3), 204),
@@ -183,8 +187,8 @@ fn files_are_held_once(rt: HostRuntime) -> Result<(), Fail> {
     let file = file_of(rt.alloc(), (TYPE, 8, 0, 204, "MD.DWELL_TABLE1", 319))?;
     let fault = AddFault::File(FileFault::Size);
     assert_eq!(rt; add_to(&mut files, file), Some(Err(fault)));
-    assert_eq!(rt; files.len(), 6);
-    assert!(rt; shown(&files, 5) == Some((TableKind::Eeprom, 192)));
+    assert_eq!(rt; files.len(), 10);
+    assert!(rt; shown(&files, 9) == Some((TableKind::Eeprom, 192)));
     assert_eq!(rt; last_bytes(&files), [7; 4]);
     assert!(rt; files.load(0).is_none());
     assert!(rt; files.load(1).is_none());
