@@ -23,7 +23,7 @@ pub has_beside : (b : Bench) (block : Waiting) (room : b.drops.room ≡ 1525) (s
 has_beside b block room s has = record {
   number = has.number;
   tables = has.tables;
-  apps = record { cs = has.apps.cs; mm = has.apps.mm; md = has.apps.md };
+  apps = record { hs = has.apps.hs; cs = has.apps.cs; mm = has.apps.mm; md = has.apps.md };
   pipes = has.pipes;
   made = has.made;
   memory = has.memory;

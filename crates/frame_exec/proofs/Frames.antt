@@ -22,6 +22,7 @@ use Rattle.packet_log.specs.Standing.{Stands as LogStands}
 use Rattle.scenario.specs.declared.frame.Upset.{Upset}
 use Rattle.scenario.specs.FrameLists.{Frame}
 use Rattle.frame_exec.specs.declared.bench.Bench.{Bench}
+use Rattle.hs_monitors.specs.declared.state.Hs.{Hs}
 use Rattle.mm_core.specs.declared.state.Mm.{Mm}
 use Rattle.cs_slices.specs.declared.state.Cs.{Cs}
 use Rattle.cs_slices.specs.declared.segments.Segment.{Segment}
@@ -29,7 +30,7 @@ use Rattle.md_dwell.specs.declared.state.Md.{Md}
 use Rattle.md_dwell.specs.State.{AllGiven}
 use Rattle.frame_exec.specs.Tables.{TableSet, SetGiven, tables_of}
 use Rattle.frame_exec.specs.Ready.{CsIsReady}
-use Rattle.frame_exec.specs.Applications.{cs_stands, mm_stands, md_stands}
+use Rattle.frame_exec.specs.Applications.{hs_stands, cs_stands, mm_stands, md_stands}
 use Rattle.frame_exec.specs.Sending.{upset_by}
 use Rattle.frame_exec.specs.Runs.{Setup, State, beginning, image_at, left_by, sent_at, offers_at, after_frame, run_of, frame_lines, log_of, lines_at, operations_at}
 use Rattle.frame_exec.specs.Standing.{AppsStand, Has, IsReady, Stands, CanRun}
@@ -95,6 +96,7 @@ run_regions setup frames = regions_from setup (beginning setup) frames ∙ regio
 -- the states of the applications stand for their histories, where they were kept
 pub apps_kept : (before b : Bench) (s : State) → KeepsApps before b → AppsStand before s → AppsStand b s
 apps_kept before b s kept stand = record {
+  hs = subst (λ (state : Box Hs Global). hs_stands s.tables s.hs state.value) (sym kept.hs) stand.hs;
   cs = subst (λ (state : Box Cs Global). cs_stands s.tables s.cs state.value) (sym kept.cs) stand.cs;
   mm = subst (λ (state : Box Mm Global). mm_stands s.tables s.mm state.value) (sym kept.mm) stand.mm;
   md = subst (λ (state : Box Md Global). md_stands s.tables s.md state.value) (sym kept.md) stand.md;
@@ -136,7 +138,7 @@ has_after before b setup s frame kept pipes log memory number tables ran = recor
 
 -- the states of the applications were kept twice
 kept_twice : (a b c : Bench) → KeepsApps a b → KeepsApps b c → KeepsApps a c
-kept_twice a b c first second = record { cs = second.cs ∙ first.cs; mm = second.mm ∙ first.mm; md = second.md ∙ first.md }
+kept_twice a b c first second = record { hs = second.hs ∙ first.hs; cs = second.cs ∙ first.cs; mm = second.mm ∙ first.mm; md = second.md ∙ first.md }
 
 -- A frame was run after these frames, its lines were given away, and then its operations landed.
 module _ (before middle b : Bench) (setup : Setup) (frames : List Frame) (frame : Frame) (same : IsSameFrame before middle) (lands : Lands middle b) where
@@ -163,10 +165,10 @@ can_land_still before middle same can = subst (λ (m : Memory). CanLand m middle
 
 -- a bench that was opened stands for no frames
 pub stands_opened : (b : Bench) (setup : Setup) → b.epoch ≡ setup.epoch → b.failed ≡ false → b.block ≡ empty_block → b.number ≡ 0 → b.tables ≡ tables_of setup.files
-    → cs_stands b.tables [] b.cs.state.value → mm_stands b.tables [] b.mm.state.value → md_stands b.tables [] b.md.state.value
+    → hs_stands b.tables [] b.hs.state.value → cs_stands b.tables [] b.cs.state.value → mm_stands b.tables [] b.mm.state.value → md_stands b.tables [] b.md.state.value
     → SetGiven setup.regions b.tables → AllGiven setup.regions b.md.state.value → b.bus ≡ empty_pipes → LogStands [] b.log → b.ram ≡ start_memory setup.regions → Stands b setup []
 unfolding run_of beginning
-stands_opened b setup epoch well waits number tables cs mm md given dwells pipes made memory =
+stands_opened b setup epoch well waits number tables hs cs mm md given dwells pipes made memory =
     let same : regions_of b.ram.areas ≡ setup.regions = ap (λ (m : Memory). regions_of m.areas) memory ∙ regions-cut setup.regions _ in
     record {
       epoch = epoch;
@@ -176,6 +178,7 @@ stands_opened b setup epoch well waits number tables cs mm md given dwells pipes
         number = number;
         tables = tables;
         apps = record {
+          hs = subst (λ (t : TableSet). hs_stands t [] b.hs.state.value) tables hs;
           cs = subst (λ (t : TableSet). cs_stands t [] b.cs.state.value) tables cs;
           mm = mm;
           md = subst (λ (t : TableSet). md_stands t [] b.md.state.value) tables md;

@@ -13,18 +13,18 @@ use Rattle.scenario.specs.declared.frame.App.TheVariants as names
 use Rattle.scenario.specs.FrameLists.{Frame}
 use Rattle.frame_exec.specs.declared.bench.Bench.{Bench}
 use Rattle.frame_exec.specs.Tables.{TableSet}
-use Rattle.frame_exec.specs.Applications.{cs_stands, mm_stands, md_stands, cs_gives, mm_gives, md_gives, cs_reads, mm_reads, md_reads}
+use Rattle.frame_exec.specs.Applications.{hs_stands, cs_stands, mm_stands, md_stands, hs_gives, cs_gives, mm_gives, md_gives, hs_reads, cs_reads, mm_reads, md_reads}
 use Rattle.frame_exec.specs.Wakes.{HasTaken, IsWoken, unless, joined}
-use Rattle.frame_exec.specs.Runs.{Setup, State, is_held, time_at, image_at, cs_input_at, mm_input_at, md_input_at, items_at, operations_at, left_by, sent_at, offers_at, after_frame}
+use Rattle.frame_exec.specs.Runs.{Setup, State, is_held, time_at, image_at, hs_input_at, cs_input_at, mm_input_at, md_input_at, items_at, operations_at, left_by, sent_at, offers_at, after_frame}
 use Rattle.frame_exec.specs.Standing.{AppsStand}
 use Rattle.frame_exec.specs.Stages.{Takes, Steps, Sends, RunsIn, time_of, items_in}
 use Rattle.frame_exec.proofs.Frames.{apps_kept}
-use Rattle.frame_exec.proofs.Waking.{woken_state, woken_items, woken_beside, moved}
+use Rattle.frame_exec.proofs.Waking.{woken_state, woken_items, woken_beside, seen_by, moved}
 
 -- A bench that has what a run has come to but for the frame's upsets, which are written; then what the applications took, and then that
 -- they were woken.
 module _ (setup : Setup) (s : State) (frame : Frame) (start took stepped : Bench) (epoch : start.epoch ≡ setup.epoch) (number : start.number ≡ s.number) (tables : start.tables ≡ s.tables) (pipes : start.bus ≡ s.pipes)
-    (image : start.ram ≡ image_at s frame) (apps : AppsStand start s) (takes : Takes frame.held start took) (steps : Steps took stepped) where
+    (image : start.ram ≡ image_at s frame) (apps : AppsStand start s) (takes : Takes frame.held start took) (steps : Steps frame.counters took stepped) where
   same_tables : took.tables ≡ s.tables
   same_tables = takes.run.tables ∙ tables
 
@@ -37,6 +37,9 @@ module _ (setup : Setup) (s : State) (frame : Frame) (start took stepped : Bench
   stand : AppsStand took s
   stand = apps_kept start took s takes.apps apps
 
+  hs_took : HasTaken (is_held names.Hs frame) s.pipes.hs took.hs.held took.hs.commands took.hs.out.items
+  hs_took = subst (λ (p : Pipes). HasTaken (is_held names.Hs frame) p.hs took.hs.held took.hs.commands took.hs.out.items) pipes takes.hs
+
   cs_took : HasTaken (is_held names.Cs frame) s.pipes.cs took.cs.held took.cs.commands took.cs.out.items
   cs_took = subst (λ (p : Pipes). HasTaken (is_held names.Cs frame) p.cs took.cs.held took.cs.commands took.cs.out.items) pipes takes.cs
 
@@ -45,6 +48,13 @@ module _ (setup : Setup) (s : State) (frame : Frame) (start took stepped : Bench
 
   md_took : HasTaken (is_held names.Md frame) s.pipes.md took.md.held took.md.commands took.md.out.items
   md_took = subst (λ (p : Pipes). HasTaken (is_held names.Md frame) p.md took.md.held took.md.commands took.md.out.items) pipes takes.md
+
+  hs_woken : IsWoken (hs_stands s.tables) (hs_gives s.tables) took.hs.held (hs_reads (time_at setup s) took.hs.commands s.pipes.hs_ev frame.counters) took.hs.state.value stepped.hs.state.value stepped.hs.out.items
+  hs_woken =
+      seen_by (hs_stands s.tables) (hs_gives s.tables) (λ events. hs_reads (time_at setup s) took.hs.commands events frame.counters) (is_held names.Hs frame) took.hs.held took.events s.pipes.hs_ev took.hs.state.value
+      stepped.hs.state.value stepped.hs.out.items hs_took.same (λ free. takes.events free ∙ ap (λ (p : Pipes). p.hs_ev) pipes)
+      (moved (λ (t : TableSet) (n : ℕ) (m : Memory). IsWoken (hs_stands t) (hs_gives t) took.hs.held (hs_reads n took.hs.commands took.events frame.counters) took.hs.state.value stepped.hs.state.value stepped.hs.out.items)
+      took.tables s.tables (time_of took) (time_at setup s) took.ram (image_at s frame) same_tables same_time same_image steps.hs)
 
   cs_woken : IsWoken (cs_stands s.tables) (cs_gives s.tables) took.cs.held (cs_reads (time_at setup s) took.cs.commands (image_at s frame)) took.cs.state.value stepped.cs.state.value stepped.cs.out.items
   cs_woken = moved (λ (t : TableSet) (n : ℕ) (m : Memory). IsWoken (cs_stands t) (cs_gives t) took.cs.held (cs_reads n took.cs.commands m) took.cs.state.value stepped.cs.state.value stepped.cs.out.items)
@@ -59,8 +69,10 @@ module _ (setup : Setup) (s : State) (frame : Frame) (start took stepped : Bench
       took.tables s.tables (time_of took) (time_at setup s) took.ram (image_at s frame) same_tables same_time same_image (steps.md took.tables)
 
   pub apps_after : AppsStand stepped (after_frame setup s frame)
-  unfolding after_frame cs_input_at mm_input_at md_input_at
+  unfolding after_frame hs_input_at cs_input_at mm_input_at md_input_at
   apps_after = record {
+    hs = woken_state (hs_stands s.tables) (hs_gives s.tables) (λ commands. hs_reads (time_at setup s) commands s.pipes.hs_ev frame.counters) _ took.hs.held s.pipes.hs took.hs.commands took.hs.out.items stepped.hs.out.items took.hs.state.value
+        stepped.hs.state.value s.hs hs_took hs_woken stand.hs;
     cs = woken_state (cs_stands s.tables) (cs_gives s.tables) (λ commands. cs_reads (time_at setup s) commands (image_at s frame)) _ took.cs.held s.pipes.cs took.cs.commands took.cs.out.items stepped.cs.out.items took.cs.state.value
         stepped.cs.state.value s.cs cs_took cs_woken stand.cs;
     mm = woken_state (mm_stands s.tables) (mm_gives s.tables) (λ commands. mm_reads (time_at setup s) commands (image_at s frame)) _ took.mm.held s.pipes.mm took.mm.commands took.mm.out.items stepped.mm.out.items took.mm.state.value
@@ -70,15 +82,17 @@ module _ (setup : Setup) (s : State) (frame : Frame) (start took stepped : Bench
   }
 
   pub items_after : items_in stepped ≡ items_at setup s frame
-  unfolding items_at cs_input_at mm_input_at md_input_at
+  unfolding items_at hs_input_at cs_input_at mm_input_at md_input_at
   items_after =
+      let hs = woken_items (hs_stands s.tables) (hs_gives s.tables) (λ commands. hs_reads (time_at setup s) commands s.pipes.hs_ev frame.counters) _ took.hs.held s.pipes.hs took.hs.commands took.hs.out.items stepped.hs.out.items
+      took.hs.state.value stepped.hs.state.value s.hs hs_took hs_woken stand.hs in
       let cs = woken_items (cs_stands s.tables) (cs_gives s.tables) (λ commands. cs_reads (time_at setup s) commands (image_at s frame)) _ took.cs.held s.pipes.cs took.cs.commands took.cs.out.items stepped.cs.out.items
       took.cs.state.value stepped.cs.state.value s.cs cs_took cs_woken stand.cs in
       let mm = woken_items (mm_stands s.tables) (mm_gives s.tables) (λ commands. mm_reads (time_at setup s) commands (image_at s frame)) _ took.mm.held s.pipes.mm took.mm.commands took.mm.out.items stepped.mm.out.items
       took.mm.state.value stepped.mm.state.value s.mm mm_took mm_woken stand.mm in
       let md = woken_items (md_stands s.tables) (md_gives s.tables) (λ commands. md_reads (time_at setup s) commands (image_at s frame)) _ took.md.held s.pipes.md took.md.commands took.md.out.items stepped.md.out.items
       took.md.state.value stepped.md.state.value s.md md_took md_woken stand.md in
-      rw (cs, mm, md) refl
+      rw (hs, cs, mm, md) refl
 
   pub operations_after : stepped.ops ≡ operations_at setup s frame
   unfolding operations_at mm_input_at

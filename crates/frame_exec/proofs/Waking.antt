@@ -1,5 +1,5 @@
 -- The applications of a frame, by what they took and how they were woken.
-use Rattle.std.proofs.Common.{◌≡◌, ℕ, Bool, true, false, List, [], ◌∷◌, ◌++◌, ◌∙◌, ap, refl, subst, fold}
+use Rattle.std.proofs.Common.{◌≡◌, ℕ, Bool, true, false, List, [], ◌∷◌, ◌++◌, ◌∙◌, ap, refl, subst, sym, fold}
 use Rattle.std.specs.List.{list_any}
 use Rattle.bus_pipes.specs.Pipes.{Pipes}
 use Rattle.bus_pipes.specs.declared.names.Out.{Out}
@@ -38,6 +38,12 @@ module _ {Input State : Type 0} (stands : List Input → State → Type 0) (give
       by_case : (held : Bool) → (held ≡ false → commands ≡ packets) → unless held (gives history (reads commands)) ≡ unless held (gives history (reads packets))
       by_case true same = refl
       by_case false same = ap (λ (c : List (List ℕ)). gives history (reads c)) (same refl)
+
+-- an application that was woken, by another name of what it saw beside the packets
+pub seen_by : {Input State A : Type 0} (stands : List Input → State → Type 0) (gives : List Input → Input → List Out) (sees : A → Input) (held is_held : Bool) (seen others : A) (old new : State) (items : List Out)
+    → is_held ≡ held → (held ≡ false → seen ≡ others) → IsWoken stands gives is_held (sees seen) old new items → IsWoken stands gives is_held (sees others) old new items
+seen_by stands gives sees held true seen others old new items same there woken = record { state = woken.state; given = woken.given }
+seen_by {A} stands gives sees held false seen others old new items same there woken = subst (λ (a : A). IsWoken stands gives false (sees a) old new items) (there (sym same)) woken
 
 -- what it left beside its items
 pub woken_beside : {A : Type 0} (of : List (List ℕ) → List A) (held is_held : Bool) (packets commands : List (List ℕ)) (given : List Out) (left : List A)

@@ -1,7 +1,13 @@
 -- The words of the applications, by the tables in force.
-use Rattle.std.specs.Prelude.{ℕ, List, []}
+use Rattle.std.specs.Prelude.{ℕ, List, [], map}
+use Rattle.histories.specs.Entries.Entry.{Woken}
+use Rattle.packet_forms.specs.declared.name.Counter.{Counter}
 use Rattle.bus_pipes.specs.declared.names.Out.{Out}
 use Rattle.memory_window.specs.Memory.{Memory}
+use Rattle.hs_monitors.specs.Histories.{Input as HsInput, HsEntry, Setup as HsSetup, setup_of}
+use Rattle.hs_monitors.specs.Step.{hs_items}
+use Rattle.hs_monitors.specs.State.{Stands as HsStands}
+use Rattle.hs_monitors.specs.declared.state.Hs.{Hs}
 use Rattle.cs_slices.specs.Wakeups.{Input as CsInput}
 use Rattle.cs_slices.specs.Step.{cs_items}
 use Rattle.cs_slices.specs.State.{Stands as CsStands}
@@ -15,7 +21,18 @@ use Rattle.md_dwell.specs.State.{Stands as MdStands}
 use Rattle.md_dwell.specs.declared.state.Md.{Md}
 use Rattle.frame_exec.specs.Tables.{TableSet}
 
+-- what a history of HS begins with: the tables, no reset made, and at most three
+abbrev pub hs_setup : TableSet → HsSetup
+hs_setup tables = setup_of tables.hs 0 3
+
+-- the entries of such a history: all are wakeups
+abbrev pub hs_entries : List HsInput → List HsEntry
+hs_entries history = map Woken history
+
 -- when a state stands for a history
+abbrev pub hs_stands : TableSet → List HsInput → Hs → Type 0
+hs_stands tables history hs = HsStands (hs_setup tables) (hs_entries history) hs
+
 abbrev pub cs_stands : TableSet → List CsInput → Cs → Type 0
 cs_stands tables history cs = CsStands tables.eeprom tables.memory history cs
 
@@ -26,6 +43,9 @@ abbrev pub md_stands : TableSet → List MdInput → Md → Type 0
 md_stands tables history md = MdStands tables.dwells history md
 
 -- what a wakeup gives behind a history
+abbrev pub hs_gives : TableSet → List HsInput → HsInput → List Out
+hs_gives tables history input = hs_items (hs_setup tables) (hs_entries history) input
+
 abbrev pub cs_gives : TableSet → List CsInput → CsInput → List Out
 cs_gives tables history input = cs_items tables.eeprom tables.memory history input
 
@@ -35,7 +55,11 @@ mm_gives tables history input = mm_items history input
 abbrev pub md_gives : TableSet → List MdInput → MdInput → List Out
 md_gives tables history input = md_items tables.dwells history input
 
--- what a wakeup reads, by its time, the packets of the pipe, and memory
+-- what a wakeup of HS reads, by its time, the packets of both pipes, and the frame's execution counters
+abbrev pub hs_reads : ℕ → List (List ℕ) → List (List ℕ) → List Counter → HsInput
+hs_reads time commands events counters = record { time = time; commands = commands; seen = record { events = events; counters = counters } }
+
+-- what a wakeup of another application reads, by its time, the packets of the pipe, and memory
 abbrev pub cs_reads : ℕ → List (List ℕ) → Memory → CsInput
 cs_reads time commands memory = record { time = time; commands = commands; seen = memory }
 

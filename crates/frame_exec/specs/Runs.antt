@@ -10,6 +10,7 @@ use Rattle.memory_window.specs.Landing.{land}
 use Rattle.memory_window.specs.declared.regions.Region.{Region}
 use Rattle.memory_window.specs.declared.operations.MemOp.{MemOp}
 use Rattle.mm_core.specs.Step.{Input as MmInput, mm_operations}
+use Rattle.hs_monitors.specs.Histories.{Input as HsInput}
 use Rattle.cs_slices.specs.Wakeups.{Input as CsInput}
 use Rattle.md_dwell.specs.Orders.{Input as MdInput}
 use Rattle.packet_log.specs.Lines.{drop_line}
@@ -21,7 +22,7 @@ use Rattle.frame_exec.specs.Tables.{TableSet, tables_of}
 use Rattle.frame_exec.specs.Sending.{is_same, upset_by, left_in_pipe, sent_of, packet_in}
 use Rattle.packet_log.specs.Sent.{makes}
 use Rattle.frame_exec.specs.Wakes.{history_after, unless, joined}
-use Rattle.frame_exec.specs.Applications.{cs_gives, mm_gives, md_gives, cs_reads, mm_reads, md_reads}
+use Rattle.frame_exec.specs.Applications.{hs_gives, cs_gives, mm_gives, md_gives, hs_reads, cs_reads, mm_reads, md_reads}
 
 -- what a run begins with: the time of frame 0, the regions of memory, and the named files
 pub record Setup : Type 0 where
@@ -34,6 +35,7 @@ pub record Setup : Type 0 where
 pub record State : Type 0 where
   pub number : ℕ
   pub tables : TableSet
+  pub hs : List HsInput
   pub cs : List CsInput
   pub mm : List MmInput
   pub md : List MdInput
@@ -43,7 +45,7 @@ pub record State : Type 0 where
 
 -- before the first frame
 unfoldable pub beginning : Setup → State
-beginning setup = record { number = 0; tables = tables_of setup.files; cs = []; mm = []; md = []; pipes = empty_pipes; made = []; memory = start_memory setup.regions }
+beginning setup = record { number = 0; tables = tables_of setup.files; hs = []; cs = []; mm = []; md = []; pipes = empty_pipes; made = []; memory = start_memory setup.regions }
 
 -- whether an application is held in a frame
 abbrev pub is_held : App → Frame → Bool
@@ -57,7 +59,10 @@ image_at s frame = fold upset_by s.memory frame.upsets
 abbrev pub time_at : Setup → State → ℕ
 time_at setup s = setup.epoch + s.number
 
--- what CS, MM and MD read in a frame
+-- what HS, CS, MM and MD read in a frame
+unfoldable pub hs_input_at : Setup → State → Frame → HsInput
+hs_input_at setup s frame = hs_reads (time_at setup s) s.pipes.hs s.pipes.hs_ev frame.counters
+
 unfoldable pub cs_input_at : Setup → State → Frame → CsInput
 cs_input_at setup s frame = cs_reads (time_at setup s) s.pipes.cs (image_at s frame)
 
@@ -70,7 +75,8 @@ md_input_at setup s frame = md_reads (time_at setup s) s.pipes.md (image_at s fr
 -- what the applications give in a frame, a list each, in their order
 unfoldable pub items_at : Setup → State → Frame → List (List Out)
 items_at setup s frame =
-    unless (is_held apps.Cs frame) (cs_gives s.tables s.cs (cs_input_at setup s frame))
+    unless (is_held apps.Hs frame) (hs_gives s.tables s.hs (hs_input_at setup s frame))
+    ∷ unless (is_held apps.Cs frame) (cs_gives s.tables s.cs (cs_input_at setup s frame))
     ∷ unless (is_held apps.Mm frame) (mm_gives s.tables s.mm (mm_input_at setup s frame))
     ∷ unless (is_held apps.Md frame) (md_gives s.tables s.md (md_input_at setup s frame))
     ∷ []
@@ -109,6 +115,7 @@ unfoldable pub after_frame : Setup → State → Frame → State
 after_frame setup s frame = record {
   number = s.number + 1;
   tables = s.tables;
+  hs = history_after (is_held apps.Hs frame) s.hs (hs_input_at setup s frame);
   cs = history_after (is_held apps.Cs frame) s.cs (cs_input_at setup s frame);
   mm = history_after (is_held apps.Mm frame) s.mm (mm_input_at setup s frame);
   md = history_after (is_held apps.Md frame) s.md (md_input_at setup s frame);

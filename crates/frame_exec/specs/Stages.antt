@@ -1,10 +1,11 @@
 -- What the stages of a frame change in the bench.
-use Rattle.std.specs.Prelude.{◌≡◌, ℕ, ◌+◌, List, [], ◌∷◌, ◌++◌}
+use Rattle.std.specs.Prelude.{◌≡◌, ℕ, ◌+◌, false, List, [], ◌∷◌, ◌++◌}
 use Rattle.std.specs.List.{flat_map, fold, list_any}
 use Rattle.bus_pipes.specs.Delivery.{after_offers, drops_from}
 use Rattle.bus_pipes.specs.declared.names.Out.{Out}
 use Rattle.memory_window.specs.Landing.{land}
 use Rattle.mm_core.specs.Step.{mm_operations}
+use Rattle.packet_forms.specs.declared.name.Counter.{Counter}
 use Rattle.packet_log.specs.Items.{item_line}
 use Rattle.packet_log.specs.Lines.{drop_line}
 use Rattle.packet_log.specs.Standing.{Stands as LogStands}
@@ -17,7 +18,7 @@ use Rattle.frame_exec.specs.Tables.{TableSet}
 use Rattle.frame_exec.specs.Sending.{is_same, upset_by, sent_of, packet_in}
 use Rattle.packet_log.specs.Sent.{makes}
 use Rattle.frame_exec.specs.Wakes.{joined, unless, AreSendable, HasTaken, IsWoken}
-use Rattle.frame_exec.specs.Applications.{cs_stands, mm_stands, md_stands, cs_gives, mm_gives, md_gives, cs_reads, mm_reads, md_reads}
+use Rattle.frame_exec.specs.Applications.{hs_stands, cs_stands, mm_stands, md_stands, hs_gives, cs_gives, mm_gives, md_gives, hs_reads, cs_reads, mm_reads, md_reads}
 use Rattle.frame_exec.specs.Runs.{Setup, State, image_at, items_at, operations_at, left_by, sent_at, offers_at, after_frame}
 use Rattle.frame_exec.specs.Landable.{CanLand}
 use Rattle.frame_exec.specs.Standing.{AppsStand}
@@ -32,13 +33,14 @@ pub record IsSameRun (old new : Bench) : Type 0 where
 
 -- the states of the applications stay
 pub record KeepsApps (old new : Bench) : Type 0 where
+  pub hs : new.hs.state ≡ old.hs.state
   pub cs : new.cs.state ≡ old.cs.state
   pub mm : new.mm.state ≡ old.mm.state
   pub md : new.md.state ≡ old.md.state
 
 -- what the applications gave, a list each, in their order
 abbrev pub items_in : Bench → List (List Out)
-items_in b = b.cs.out.items ∷ b.mm.out.items ∷ b.md.out.items ∷ []
+items_in b = b.hs.out.items ∷ b.cs.out.items ∷ b.mm.out.items ∷ b.md.out.items ∷ []
 
 -- the upsets of a frame were written
 pub record IsUpset (upsets : List Upset) (old new : Bench) : Type 0 where
@@ -52,6 +54,8 @@ pub record IsUpset (upsets : List Upset) (old new : Bench) : Type 0 where
 pub record Takes (held : List App) (old new : Bench) : Type 0 where
   pub run : IsSameRun old new
   pub apps : KeepsApps old new
+  pub hs : HasTaken (list_any (is_same names.Hs) held) old.bus.hs new.hs.held new.hs.commands new.hs.out.items
+  pub events : list_any (is_same names.Hs) held ≡ false → new.events ≡ old.bus.hs_ev
   pub cs : HasTaken (list_any (is_same names.Cs) held) old.bus.cs new.cs.held new.cs.commands new.cs.out.items
   pub mm : HasTaken (list_any (is_same names.Mm) held) old.bus.mm new.mm.held new.mm.commands new.mm.out.items
   pub md : HasTaken (list_any (is_same names.Md) held) old.bus.md new.md.held new.md.commands new.md.out.items
@@ -62,6 +66,7 @@ pub record Takes (held : List App) (old new : Bench) : Type 0 where
 
 -- no application gave anything yet
 pub record IsClear (b : Bench) : Type 0 where
+  pub hs : b.hs.out.items ≡ []
   pub cs : b.cs.out.items ≡ []
   pub mm : b.mm.out.items ≡ []
   pub md : b.md.out.items ≡ []
@@ -71,9 +76,10 @@ pub record IsClear (b : Bench) : Type 0 where
 abbrev pub time_of : Bench → ℕ
 time_of b = b.epoch + b.number
 
--- the applications were woken on what they took and on memory, unless they were held
-pub record Steps (old new : Bench) : Type 0 where
+-- the applications were woken on what they took, and on these execution counters or memory, unless they were held
+pub record Steps (counters : List Counter) (old new : Bench) : Type 0 where
   pub run : IsSameRun old new
+  pub hs : IsWoken (hs_stands old.tables) (hs_gives old.tables) old.hs.held (hs_reads (time_of old) old.hs.commands old.events counters) old.hs.state.value new.hs.state.value new.hs.out.items
   pub cs : IsWoken (cs_stands old.tables) (cs_gives old.tables) old.cs.held (cs_reads (time_of old) old.cs.commands old.ram) old.cs.state.value new.cs.state.value new.cs.out.items
   pub mm : (tables : TableSet) → IsWoken (mm_stands tables) (mm_gives tables) old.mm.held (mm_reads (time_of old) old.mm.commands old.ram) old.mm.state.value new.mm.state.value new.mm.out.items
   pub md : (tables : TableSet) → IsWoken (md_stands tables) (md_gives tables) old.md.held (md_reads (time_of old) old.md.commands old.ram) old.md.state.value new.md.state.value new.md.out.items
@@ -84,6 +90,7 @@ pub record Steps (old new : Bench) : Type 0 where
 
 -- What the wakeups leave can be sent, and landed on the frame's image.
 pub record CanSend (b : Bench) : Type 0 where
+  pub hs : AreSendable 1104 b.hs.out.items
   pub cs : AreSendable 33 b.cs.out.items
   pub mm : AreSendable 272 b.mm.out.items
   pub md : AreSendable 20 b.md.out.items

@@ -9,12 +9,13 @@ use Rattle.scenario.specs.declared.progress.Header.{Header}
 use Rattle.scenario.specs.declared.frame.Upset.{Upset}
 use Rattle.scenario.specs.FrameLists.{Frame}
 use Rattle.frame_exec.specs.declared.bench.Bench.{Bench}
-use Rattle.frame_exec.specs.Applications.{cs_stands, mm_stands, md_stands}
+use Rattle.frame_exec.specs.Applications.{hs_stands, cs_stands, mm_stands, md_stands}
 use Rattle.frame_exec.specs.Ready.{CsIsReady}
 use Rattle.frame_exec.specs.Runs.{Setup, State, image_at, run_of}
 
 -- the state of each application stands for its history
 pub record AppsStand (b : Bench) (s : State) : Type 0 where
+  pub hs : hs_stands s.tables s.hs b.hs.state.value
   pub cs : cs_stands s.tables s.cs b.cs.state.value
   pub mm : mm_stands s.tables s.mm b.mm.state.value
   pub md : md_stands s.tables s.md b.md.state.value

@@ -5,6 +5,7 @@ ghost use Rattle.std.specs.Prelude.{◌≡◌};
 use crate::cs_slot::{CsReads, CsSlot};
 use crate::cut::Cut;
 use crate::giving::{OpenFault, refused_place};
+use crate::hs_slot::{HsReads, HsSlot};
 use crate::md_slot::{MdReads, MdSlot};
 use crate::mm_slot::{MmReads, MmSlot};
 use crate::slot::Slot;
@@ -13,9 +14,11 @@ use crate::tables::Tables;
 use bus_pipes::{Batch, Bus, Drops, PipeName};
 use cs_slices::Cs;
 use fsw_outside::{Failed, Gate, NoMemory, Sink};
+use hs_monitors::Hs;
 use md_dwell::Md;
 use memory_window::{Ops, Ram};
 use mm_core::Mm;
+use packet_forms::Counter;
 use packet_log::{Block, Log};
 use scenario::{App, FrameInput, Header, Upset};
 use std::alloc::Global;
@@ -33,12 +36,15 @@ pub struct Bench {
     number: u64,
     failed: bool,
     tables: Tables,
+    hs: HsSlot,
+    // the packets that HS took from its pipe of events
+    events: Batch,
     cs: CsSlot,
     mm: MmSlot,
     md: MdSlot,
     ops: Ops,
     drops: Drops,
-    // what is taken for the applications that give nothing yet
+    // what is taken for SC, which gives nothing yet
     others: Batch,
     bus: Bus,
     log: Log,
@@ -106,6 +112,8 @@ impl Bench {
             number: 0,
             failed: false,
             tables: *tables,
+            hs: Slot::open(alloc, Hs::start(tables.hs(), 0, 3))?,
+            events: Batch::new(),
             cs: Slot::open(alloc, Cs::start(tables.eeprom(), tables.memory()))?,
             mm: Slot::open(alloc, Mm::start())?,
             md: Slot::open(alloc, Md::start(tables.dwells()))?,
@@ -240,8 +248,8 @@ impl Bench {
         ensures { Takes held.now self.old self.new }
     {
         let hs_held = is_held(App::Hs, held);
-        take_unless(&mut self.bus, PipeName::Hs, hs_held, &mut self.others);
-        take_unless(&mut self.bus, PipeName::HsEv, hs_held, &mut self.others);
+        self.hs.take(&mut self.bus, PipeName::Hs, hs_held);
+        take_unless(&mut self.bus, PipeName::HsEv, hs_held, &mut self.events);
         self.cs
             .take(&mut self.bus, PipeName::Cs, is_held(App::Cs, held));
         take_unless(
@@ -257,23 +265,30 @@ impl Bench {
         self.ops.clear();
     }
 
-    // Wakes the applications on what they took, and on the frame's image.
-    fn step(&mut self)
+    // Wakes the applications on what they took, on the frame's execution counters, and on its image.
+    fn step(&mut self, counters: &[Counter])
         requires time { self.old.epoch + self.old.number < 4294967296 }
         requires clear { IsClear self.old }
         requires ready { IsReady self.old }
-        ensures steps { Steps self.old self.new }
+        ensures steps { Steps counters.now self.old self.new }
         ensures can_send { CanSend self.new }
         ensures ready { IsReady self.new }
     {
         let time = self.epoch + self.number as u32;
         let window = self.ram.window();
+        let hs = HsReads {
+            tables: self.tables.hs(),
+            events: self.events.packets(),
+            counters,
+            time,
+        };
         let cs = CsReads {
             eeprom: self.tables.eeprom(),
             memory: self.tables.memory(),
             window,
             time,
         };
+        self.hs.step(hs, &mut ());
         self.cs.step(cs, &mut ());
         self.mm.step(MmReads { window, time }, &mut self.ops);
         self.md.step(MdReads { window, time }, &mut ());
@@ -284,12 +299,20 @@ impl Bench {
         requires { CanSend self.old }
         ensures { Sends input.now.sends self.old self.new }
     {
+        stamp_all(&mut self.log, &mut self.hs.out);
         stamp_all(&mut self.log, &mut self.cs.out);
         stamp_all(&mut self.log, &mut self.mm.out);
         stamp_all(&mut self.log, &mut self.md.out);
         self.drops.clear();
         self.bus.deliver(input.sends(), &mut self.drops);
-        deliver_all(&mut self.bus, &self.cs, &self.mm, &self.md, &mut self.drops);
+        deliver_all(
+            &mut self.bus,
+            &self.hs,
+            &self.cs,
+            &self.mm,
+            &self.md,
+            &mut self.drops,
+        );
     }
 
     // Runs a frame up to its lines: writes its upsets, wakes the applications on its image, and sends what they gave.
@@ -304,7 +327,7 @@ impl Bench {
     {
         self.upset(input.upsets());
         self.take(input.held());
-        self.step();
+        self.step(input.counters());
         self.send(input);
     }
 
@@ -347,7 +370,7 @@ impl Bench {
         if self.is_silent() {
             return Ok(());
         }
-        let lists = in_order(&self.cs, &self.mm, &self.md);
+        let lists = in_order(&self.hs, &self.cs, &self.mm, &self.md);
         put_frame(
             &mut self.block,
             sink,
@@ -362,7 +385,8 @@ impl Bench {
     fn is_silent(&self) -> bool
         ensures { result ≡ true → lines_in self.now ≡ [] }
     {
-        self.cs.out.is_empty()
+        self.hs.out.is_empty()
+            && self.cs.out.is_empty()
             && self.mm.out.is_empty()
             && self.md.out.is_empty()
             && self.drops.is_empty()

@@ -6,6 +6,7 @@ mod bench;
 mod cs_slot;
 mod cut;
 mod giving;
+mod hs_slot;
 pub mod laws;
 mod loading;
 mod md_slot;

@@ -1,10 +1,11 @@
 //! The loops of a frame, over the parts of the bench.
 
-ghost use Rattle.std.specs.Prelude.{◌≡◌, ℕ, ◌+◌, ◌<◌, ◌≤◌, ◌++◌, true, OnErr, List, [], ◌∷◌, length, All, decimal};
+ghost use Rattle.std.specs.Prelude.{◌≡◌, ℕ, ◌+◌, ◌<◌, ◌≤◌, ◌++◌, true, false, OnErr, List, [], ◌∷◌, length, All, decimal};
 ghost use Rattle.std.specs.List.{AllPass, flat_map, fold, list_any};
 ghost use Rattle.fsw_outside.specs.Causes.{HasCause};
 ghost use Rattle.bus_pipes.specs.Held.{adding};
 ghost use Rattle.bus_pipes.specs.Counted.{is_item_counted};
+ghost use Rattle.bus_pipes.specs.Pipes.{packets_in};
 ghost use Rattle.bus_pipes.specs.Delivery.{after_offers, drops_from};
 ghost use Rattle.memory_window.specs.Regions.{is_mapped};
 ghost use Rattle.memory_window.specs.Memory.{regions_of};
@@ -17,6 +18,7 @@ ghost use Rattle.frame_exec.specs.Wakes.{joined};
 ghost use Rattle.frame_exec.specs.Sending.{place_of, is_same, taken, upset_by, sent_of, packet_in, shown};
 
 use crate::cs_slot::CsSlot;
+use crate::hs_slot::HsSlot;
 use crate::md_slot::MdSlot;
 use crate::mm_slot::MmSlot;
 use bus_pipes::{Batch, Bus, Dropped, Drops, Out, Outbox, PipeName};
@@ -47,7 +49,8 @@ pub(crate) fn is_held(app: App, held: &[App]) -> bool
 
 /// Takes all packets of a pipe, unless its application is held.
 pub(crate) fn take_unless(bus: &mut Bus, pipe: PipeName, held: bool, batch: &mut Batch)
-    ensures { bus.new ≡ taken pipe held bus.old }
+    ensures pipes { bus.new ≡ taken pipe held bus.old }
+    ensures taken { held ≡ false → batch.new ≡ packets_in pipe bus.old }
 {
     if held {
         return;
@@ -109,21 +112,38 @@ fn deliver_items(bus: &mut Bus, items: &[Out], drops: &mut Drops)
 }
 
 /// What the applications gave, a list each, in their order.
-pub(crate) fn in_order<'a>(cs: &'a CsSlot, mm: &'a MmSlot, md: &'a MdSlot) -> [&'a [Out]; 3]
-    ensures shown { shown result ≡ joined (cs.now.out.items ∷ mm.now.out.items ∷ md.now.out.items ∷ []) }
-    ensures three { length result ≡ 3 }
+pub(crate) fn in_order<'a>(
+    hs: &'a HsSlot,
+    cs: &'a CsSlot,
+    mm: &'a MmSlot,
+    md: &'a MdSlot,
+) -> [&'a [Out]; 4]
+    ensures shown { shown result ≡ joined (hs.now.out.items ∷ cs.now.out.items ∷ mm.now.out.items ∷ md.now.out.items ∷ []) }
+    ensures four { length result ≡ 4 }
 {
-    [cs.out.items(), mm.out.items(), md.out.items()]
+    [
+        hs.out.items(),
+        cs.out.items(),
+        mm.out.items(),
+        md.out.items(),
+    ]
 }
 
 /// Offers the packets of what the applications sent to their pipes, in the order of the applications.
-pub(crate) fn deliver_all(bus: &mut Bus, cs: &CsSlot, mm: &MmSlot, md: &MdSlot, drops: &mut Drops)
-    requires { length drops.old.items + length (joined (cs.now.out.items ∷ mm.now.out.items ∷ md.now.out.items ∷ [])) ≤ drops.old.room }
-    ensures after { bus.new ≡ after_offers bus.old (flat_map packet_in (joined (cs.now.out.items ∷ mm.now.out.items ∷ md.now.out.items ∷ []))) }
-    ensures drops { drops.new ≡ adding drops.old (drops_from bus.old (flat_map packet_in (joined (cs.now.out.items ∷ mm.now.out.items ∷ md.now.out.items ∷ [])))) }
+pub(crate) fn deliver_all(
+    bus: &mut Bus,
+    hs: &HsSlot,
+    cs: &CsSlot,
+    mm: &MmSlot,
+    md: &MdSlot,
+    drops: &mut Drops,
+)
+    requires { length drops.old.items + length (joined (hs.now.out.items ∷ cs.now.out.items ∷ mm.now.out.items ∷ md.now.out.items ∷ [])) ≤ drops.old.room }
+    ensures after { bus.new ≡ after_offers bus.old (flat_map packet_in (joined (hs.now.out.items ∷ cs.now.out.items ∷ mm.now.out.items ∷ md.now.out.items ∷ []))) }
+    ensures drops { drops.new ≡ adding drops.old (drops_from bus.old (flat_map packet_in (joined (hs.now.out.items ∷ cs.now.out.items ∷ mm.now.out.items ∷ md.now.out.items ∷ [])))) }
     ensures room { drops.new.room ≡ drops.old.room }
 {
-    deliver_lists(bus, &in_order(cs, mm, md), drops);
+    deliver_lists(bus, &in_order(hs, cs, mm, md), drops);
 }
 
 /// Offers the packets of lists of items that were sent to their pipes, one list after another.

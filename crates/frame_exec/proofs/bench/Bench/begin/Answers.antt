@@ -5,6 +5,9 @@ use Rattle.md_dwell.specs.State.{Stands as MdStands, AllGiven}
 use Rattle.md_dwell.specs.Tables.{DwellTable}
 use Rattle.cs_slices.specs.State.{Stands as CsStands}
 use Rattle.mm_core.specs.State.{Stands as MmStands}
+use Rattle.hs_tables.specs.declared.tables.HsTables.{HsTables}
+use Rattle.hs_monitors.specs.Histories.{setup_of}
+use Rattle.hs_monitors.specs.State.{Stands as HsStands}
 use Rattle.frame_exec.proofs.Frames.{stands_opened}
 use Rattle.frame_exec.proofs.bench.Bench.begin.Goals as goal
 
@@ -12,10 +15,11 @@ pub returns : goal.returns
 returns c = λ files loaded.
     let tables = c.args.tables.now in
     let regions = c.args.header.now.map in
-    let dwells = c.start-3.ensures.given regions (subst (TablesGiven regions) (sym c.dwells.ensures.dwells) c.requires.given.dwells) in
-    stands_opened _ _ refl refl c.in_ok-open-6.ensures.empty refl loaded.named
-    (subst (CsStands tables.eeprom tables.memory []) (sym c.in_ok-open.ensures)
-    (subst (λ (memory : List Segment). CsStands tables.eeprom memory [] c.start.result) c.memory.ensures (subst (λ (eeprom : List Segment). CsStands eeprom c.memory.result.now [] c.start.result) c.eeprom.ensures c.start.ensures)))
-    (subst (MmStands []) (sym c.in_ok-open-2.ensures) c.start-2.ensures)
-    (subst (MdStands tables.dwells []) (sym c.in_ok-open-3.ensures) (subst (λ (ts : List DwellTable). MdStands ts [] c.start-3.result) c.dwells.ensures.dwells c.start-3.ensures.stands))
-    c.requires.given (subst (AllGiven regions) (sym c.in_ok-open-3.ensures) dwells) c.in_ok-open-5.ensures c.start-4.ensures c.in_ok-new.ensures.start
+    let dwells = c.start-4.ensures.given regions (subst (TablesGiven regions) (sym c.dwells.ensures.dwells) c.requires.given.dwells) in
+    stands_opened _ _ refl refl c.in_ok-open-7.ensures.empty refl loaded.named
+    (subst (HsStands (setup_of tables.hs 0 3) []) (sym c.in_ok-open.ensures) (subst (λ (hs : HsTables). HsStands (setup_of hs 0 3) [] c.start.result) c.hs.ensures c.start.ensures))
+    (subst (CsStands tables.eeprom tables.memory []) (sym c.in_ok-open-2.ensures)
+    (subst (λ (memory : List Segment). CsStands tables.eeprom memory [] c.start-2.result) c.memory.ensures (subst (λ (eeprom : List Segment). CsStands eeprom c.memory.result.now [] c.start-2.result) c.eeprom.ensures c.start-2.ensures)))
+    (subst (MmStands []) (sym c.in_ok-open-3.ensures) c.start-3.ensures)
+    (subst (MdStands tables.dwells []) (sym c.in_ok-open-4.ensures) (subst (λ (ts : List DwellTable). MdStands ts [] c.start-4.result) c.dwells.ensures.dwells c.start-4.ensures.stands))
+    c.requires.given (subst (AllGiven regions) (sym c.in_ok-open-4.ensures) dwells) c.in_ok-open-6.ensures c.start-5.ensures c.in_ok-new.ensures.start

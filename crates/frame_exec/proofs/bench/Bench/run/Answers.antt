@@ -4,7 +4,8 @@ use Rattle.memory_window.specs.Memory.{Memory, regions_of}
 use Rattle.scenario.specs.declared.frame.Upset.{Upset}
 use Rattle.packet_log.specs.Standing.{Stands as LogStands}
 use Rattle.scenario.specs.declared.frame.App.{App}
-use Rattle.frame_exec.specs.Stages.{Takes}
+use Rattle.packet_forms.specs.declared.name.Counter.{Counter}
+use Rattle.frame_exec.specs.Stages.{Takes, Steps}
 use Rattle.frame_exec.proofs.Frames.{apps_kept, ready_by, regions_same}
 use Rattle.frame_exec.proofs.Waking.{image_is}
 use Rattle.frame_exec.proofs.Stepping.{ran}
@@ -24,6 +25,7 @@ returns-clause-runs c = λ setup s epoch has.
     let old = c.args.self.now in
     let frame = c.args.input.now in
     let upset = c.upset.ensures in
+    let steps = subst (λ (counters : List Counter). Steps counters c.take.new.self c.step.new.self) c.counters.ensures.value c.step.ensures.steps in
     ran setup s frame c.upset.new.self c.take.new.self c.step.new.self (upset.run.epoch ∙ epoch) (upset.run.number ∙ has.number) (upset.run.tables ∙ has.tables) (upset.pipes ∙ has.pipes)
     (image_is s frame old.ram c.upset.new.self.ram c.upsets.result.now has.memory c.upsets.ensures.value upset.memory) (apps_kept old c.upset.new.self s upset.apps has.apps)
-    (subst (λ (held : List App). Takes held c.upset.new.self c.take.new.self) c.held.ensures.value c.take.ensures) c.step.ensures.steps c.send.new.self (subst (LogStands s.made) (sym upset.log) has.made) c.send.ensures
+    (subst (λ (held : List App). Takes held c.upset.new.self c.take.new.self) c.held.ensures.value c.take.ensures) steps c.send.new.self (subst (LogStands s.made) (sym upset.log) has.made) c.send.ensures
