@@ -6,6 +6,7 @@ mod examples;
 mod faults;
 mod files;
 mod given;
+mod health;
 mod lengths;
 mod refusals;
 mod rows;

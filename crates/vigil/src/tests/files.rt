@@ -3,7 +3,10 @@
 use super::runs::{
     HEADER, HONEST, Line, Outside, Rehearsal, assert_rehearsal, assert_text, run_beside,
 };
-use super::tables::{Dwelling, Segment, dwell_file, headers, pad, segments_file};
+use super::tables::{
+    Action, Count, Dwelling, Monitor, Segment, actions_file, apps_file, counts_file, dwell_file,
+    events_file, headers, pad, segments_file,
+};
 use rehearsal::{Report, Status};
 use std::process::Abort;
 use std::test::Fail;
@@ -127,6 +130,71 @@ fn checksum_entries_are_refused(rt: HostRuntime) -> Result<(), Fail> {
         assert_refused(&rt, &["s", "a", "b"], &[&first, &file], (2, line, reason))?;
     }
     Ok(())
+}
+
+/// Entries of Health and Safety's tables that are refused, with the entry and the reason that are told.
+const REFUSED_APPS: [(&[Monitor<'static>], u32, u8); 4] = [
+    (&[(1, "LOAD", 1, 11), (3, "LOAD", 1, 12)], 3, 12),
+    (&[(32, "", 0, 12)], 32, 12),
+    (&[(2, "LO AD", 1, 12)], 2, 11),
+    (&[(1, "", 1, 0), (4, "", 1, 1), (5, "", 0, 12)], 4, 11),
+];
+
+const REFUSED_EVENTS: [(&[Monitor<'static>], u32, u8); 2] = [
+    (&[(1, "", 7, 0), (16, "", 7, 11)], 16, 11),
+    (&[(2, "LOAD", 7, 12)], 2, 12),
+];
+
+const REFUSED_COUNTS: [(&[Count<'static>], u32, u8); 2] = [
+    (&[(1, "LOAD", 4), (32, "", 1)], 32, 11),
+    (&[(1, "LOAD", 5)], 1, 13),
+];
+
+const REFUSED_ACTIONS: [(&[Action<'static>], u32, u8); 3] = [
+    (&[(1, 0, 1, b"\x18"), (8, 1, 0, b"")], 8, 14),
+    (&[(2, 3, 0, b"\x18\x88\xC0\x00\x00\x01\x00\xAE")], 2, 15),
+    (&[(3, 3, 0, b"\x18\x88\xC0\x00\x00\x3A\x00\xAE")], 3, 14),
+];
+
+#[test]
+fn health_entries_are_refused(rt: HostRuntime) -> Result<(), Fail> {
+    let words = &["s", "a"];
+    for (entries, line, reason) in REFUSED_APPS {
+        let file = apps_file(rt.alloc(), entries)?;
+        assert_refused(&rt, words, &[&file], (1, line, reason))?;
+    }
+    for (entries, line, reason) in REFUSED_EVENTS {
+        let file = events_file(rt.alloc(), entries)?;
+        assert_refused(&rt, words, &[&file], (1, line, reason))?;
+    }
+    for (entries, line, reason) in REFUSED_COUNTS {
+        let file = counts_file(rt.alloc(), entries)?;
+        assert_refused(&rt, words, &[&file], (1, line, reason))?;
+    }
+    for (entries, line, reason) in REFUSED_ACTIONS {
+        let file = actions_file(rt.alloc(), entries)?;
+        assert_refused(&rt, words, &[&file], (1, line, reason))?;
+    }
+    Ok(())
+}
+
+#[test]
+fn health_headers_are_refused(rt: HostRuntime) -> Result<(), Fail> {
+    let whole = apps_file(rt.alloc(), &[(1, "LOAD", 1, 3)])?;
+    assert_eq!(rt; whole.len(), 884);
+    let mut long = apps_file(rt.alloc(), &[(1, "LOAD", 1, 3)])?;
+    long.push(0)?;
+    let mut offset = headers(rt.alloc(), "HS.AppMon_Tbl", 4, 768)?;
+    pad(&mut offset, 884)?;
+    let mut too_large = headers(rt.alloc(), "HS.AppMon_Tbl", 0, 768)?;
+    pad(&mut too_large, 65_701)?;
+    let words = &["s", "a"];
+    assert_refused(&rt, words, &[first_bytes(&whole, 883)], (1, 0, 6))?;
+    assert_refused(&rt, words, &[&long], (1, 0, 6))?;
+    assert_refused(&rt, &["s", "a", "a"], &[&whole], (2, 0, 8))?;
+    assert_refused(&rt, words, &[&offset], (1, 0, 4))?;
+    assert_refused(&rt, words, &[first_bytes(&whole, 10)], (1, 0, 1))?;
+    assert_refused(&rt, words, &[&too_large], (1, 0, 9))
 }
 
 // Every file's entries are looked at before any is asked of the map, and then the first file is told.

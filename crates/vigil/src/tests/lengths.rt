@@ -97,7 +97,7 @@ fn assert_held<R: Threads + Sync + AllocGlobal + Abort>(
 
 #[test]
 fn each_held_application_keeps_its_pipe(rt: HostRuntime) -> Result<(), Fail> {
-    assert_held(&rt, "HS", "18AEC00000010088", false)?;
+    assert_held(&rt, "HS", "18AEC00000010088", true)?;
     assert_held(&rt, "CS", "189FC000000100B9", true)?;
     assert_held(&rt, "SC", "18A9C0000001008F", false)?;
     assert_held(&rt, "MM", "1888C000000100AE", true)?;

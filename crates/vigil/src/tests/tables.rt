@@ -76,3 +76,75 @@ pub fn segments_file(alloc: Global, name: &str, entries: &[Segment]) -> Result<V
     pad(&mut bytes, 308)?;
     Ok(bytes)
 }
+
+/// An entry of application monitors or event monitors: its place from 1, its name, its cycle count or event, and its action.
+pub type Monitor<'a> = (usize, &'a str, u16, u16);
+
+/// An entry of execution counters: its place from 1, its name and its type.
+pub type Count<'a> = (usize, &'a str, u16);
+
+/// An entry of message actions: its place from 1, its state, its cooldown and its packet.
+pub type Action<'a> = (usize, u16, u16, &'a [u8]);
+
+// Appends a name, in 20 bytes.
+fn push_name(bytes: &mut Vec<u8>, name: &str) -> Result<(), Fail> {
+    let len = bytes.len().saturating_add(20);
+    bytes.extend_from_slice(name.as_bytes())?;
+    pad(bytes, len)
+}
+
+// A file of monitors whose payload has so many bytes. The places of the entries rise.
+fn monitors_file(
+    alloc: Global,
+    name: &str,
+    payload: u16,
+    entries: &[Monitor<'_>],
+) -> Result<Vec<u8>, Fail> {
+    let mut bytes = headers(alloc, name, 0, u32::from(payload))?;
+    for entry in entries.iter() {
+        let (place, name, number, action) = *entry;
+        pad(&mut bytes, place.saturating_mul(24).saturating_add(92))?;
+        push_name(&mut bytes, name)?;
+        push_u16(&mut bytes, number)?;
+        push_u16(&mut bytes, action)?;
+    }
+    pad(&mut bytes, usize::from(payload).saturating_add(116))?;
+    Ok(bytes)
+}
+
+/// A file of application monitors with these entries, whose places rise.
+pub fn apps_file(alloc: Global, entries: &[Monitor<'_>]) -> Result<Vec<u8>, Fail> {
+    monitors_file(alloc, "HS.AppMon_Tbl", 768, entries)
+}
+
+/// A file of event monitors with these entries, whose places rise.
+pub fn events_file(alloc: Global, entries: &[Monitor<'_>]) -> Result<Vec<u8>, Fail> {
+    monitors_file(alloc, "HS.EventMon_Tbl", 384, entries)
+}
+
+/// A file of execution counters with these entries, whose places rise.
+pub fn counts_file(alloc: Global, entries: &[Count<'_>]) -> Result<Vec<u8>, Fail> {
+    let mut bytes = headers(alloc, "HS.ExeCount_Tbl", 0, 704)?;
+    for entry in entries.iter() {
+        let (place, name, sort) = *entry;
+        pad(&mut bytes, place.saturating_mul(22).saturating_add(94))?;
+        push_name(&mut bytes, name)?;
+        push_u16(&mut bytes, sort)?;
+    }
+    pad(&mut bytes, 820)?;
+    Ok(bytes)
+}
+
+/// A file of message actions with these entries, whose places rise.
+pub fn actions_file(alloc: Global, entries: &[Action<'_>]) -> Result<Vec<u8>, Fail> {
+    let mut bytes = headers(alloc, "HS.MsgActs_Tbl", 0, 544)?;
+    for entry in entries.iter() {
+        let (place, state, cooldown, packet) = *entry;
+        pad(&mut bytes, place.saturating_mul(68).saturating_add(48))?;
+        push_u16(&mut bytes, state)?;
+        push_u16(&mut bytes, cooldown)?;
+        bytes.extend_from_slice(packet)?;
+    }
+    pad(&mut bytes, 660)?;
+    Ok(bytes)
+}
