@@ -23,10 +23,11 @@ def send(sent):
     return "send " + sent.hex().upper()
 
 
+HS, HS_HOUSEKEEPING = 0x18AE, 0x18AF
 MM, MM_HOUSEKEEPING = 0x1888, 0x1889
 MD, MD_HOUSEKEEPING = 0x1890, 0x1891
 CS, CS_HOUSEKEEPING = 0x189F, 0x18A0
-REQUESTS = {MM: MM_HOUSEKEEPING, MD: MD_HOUSEKEEPING, CS: CS_HOUSEKEEPING}
+REQUESTS = {HS: HS_HOUSEKEEPING, MM: MM_HOUSEKEEPING, MD: MD_HOUSEKEEPING, CS: CS_HOUSEKEEPING}
 
 
 def no_op(application):
@@ -42,6 +43,41 @@ def reset_counts(application):
 def housekeeping(asked):
     """Requests an application's housekeeping packet."""
     return command(REQUESTS.get(asked, asked), 0)
+
+
+def hs_apps_on():
+    """Switches application monitoring on, and refreshes it."""
+    return command(HS, 2)
+
+
+def hs_apps_off():
+    """Switches application monitoring off."""
+    return command(HS, 3)
+
+
+def hs_events_on():
+    """Switches event monitoring on."""
+    return command(HS, 4)
+
+
+def hs_events_off():
+    """Switches event monitoring off."""
+    return command(HS, 5)
+
+
+def hs_clear_resets():
+    """Sets the number of processor resets to 0."""
+    return command(HS, 8)
+
+
+def hs_max_resets(maximum):
+    """Sets the largest number of processor resets."""
+    return command(HS, 9, struct.pack(">H", maximum))
+
+
+def event_message(name, event):
+    """Is no command: an event of type 2 that an application of this name might have sent, with time 0."""
+    return packet(0x0808, struct.pack(">IH20sHHII", 0, 0, name.encode(), event, 2, 66, 1))
 
 
 def mm_peek(size, at):

@@ -2,7 +2,7 @@
 
 from making.commands import *
 from making.log import *
-from making.tables import MEMORY_TABLE, checksum_table, dwell_table
+from making.tables import MEMORY_TABLE, actions_table, apps_table, checksum_table, counters_table, dwell_table, events_table
 
 RAM = "region RAM 0x1000 256"
 
@@ -72,6 +72,63 @@ def first():
             dwell_packet(2, 1, 1, b"\xAB"),
         ],
         {"dwell1.table": dwell_table(1, True, [(1, 2, 0x1010)])},
+    )
+
+
+def health():
+    peek = send(mm_peek(8, 0x9000))
+    return Example(
+        "health",
+        "Health and Safety watches LOAD by its counter: it goes on in frames 0 and 1 and stands still from frame 2 on, so the monitor acts in frame 4, once. "
+        "It also hears each event 4 of Memory Manager (a peek outside memory) a frame after it was sent, and has the no-op of Memory Manager sent; "
+        "the second event comes within the cooldown of 3, so nothing is sent again. "
+        "Housekeeping shows one message action sent, the monitor that still watches, and the counter. An enable in frame 5 begins the watch anew.",
+        [
+            "# LOAD's counter goes on in frames 0 and 1. A peek outside memory is refused with event 4.",
+            f"epoch {EPOCH}",
+            RAM,
+            "start",
+            "app LOAD 10",
+            peek,
+            "tick",
+            "",
+            "# Frame 1: the event is sent. The same peek again.",
+            "app LOAD 11",
+            peek,
+            "tick",
+            "",
+            "# Frames 2 and 3: the first event is heard, and then the second. LOAD stands still.",
+            "app LOAD 11",
+            "tick",
+            "app LOAD 11",
+            send(housekeeping(HS_HOUSEKEEPING)),
+            "tick",
+            "",
+            "# Frame 4: the third check without a change. Application monitoring is enabled anew.",
+            "app LOAD 11",
+            send(hs_apps_on()),
+            "tick",
+            "app LOAD 11",
+            "tick",
+            "end",
+        ],
+        [
+            event(1, "MM", 0, 4, 3),
+            stored(2, no_op(MM)),
+            event(2, "HS", 1, 114, 3),
+            event(2, "MM", 2, 4, 3),
+            event(3, "MM", 3, 16, 2),
+            hs_housekeeping_packet(4, 0, 0, 0, (1, 1), (0, 3), 1, 1, {1: 11}),
+            event(4, "HS", 4, 102, 3),
+            restart(4, "LOAD"),
+            event(5, "HS", 5, 18, 2),
+        ],
+        {
+            "actions.table": actions_table({1: (1, 3, no_op(MM))}),
+            "apps.table": apps_table({1: ("LOAD", 3, 2)}),
+            "counters.table": counters_table({1: ("LOAD", 1)}),
+            "events.table": events_table({1: ("MM", 4, 4)}),
+        },
     )
 
 
@@ -295,7 +352,7 @@ def commands():
     baseline = crc16(b"\x5A" + bytes(15))
     return Example(
         "commands",
-        "Each code of Memory Manager, Memory Dwell and Checksum once, and each request for housekeeping; all of them are accepted. "
+        "Each code of Memory Manager, Memory Dwell, Checksum and Health and Safety once, and each request for housekeeping; all of them are accepted. "
         "An accepted command of code c is answered by event 16 + c, behind the packets that it asks for. "
         "The `send` lines are those of docs/COMMANDS.md.",
         [
@@ -336,6 +393,18 @@ def commands():
             send(cs_report(2, 1)),
             send(housekeeping(CS_HOUSEKEEPING)),
             "tick",
+            "",
+            "# Health and Safety: codes 0 to 5, 8 and 9, and the request.",
+            send(no_op(HS)),
+            send(reset_counts(HS)),
+            send(hs_apps_off()),
+            send(hs_apps_on()),
+            send(hs_events_off()),
+            send(hs_events_on()),
+            send(hs_clear_resets()),
+            send(hs_max_resets(0)),
+            send(housekeeping(HS_HOUSEKEEPING)),
+            "tick",
             "tick",
             "end",
         ],
@@ -365,6 +434,15 @@ def commands():
             baseline_packet(3, 0, 2, 1, baseline),
             event(3, "CS", 19, 24, 2),
             cs_housekeeping_packet(3, 0, 7, 0, 7, 0, 0, 3),
+            event(4, "HS", 20, 16, 2),
+            event(4, "HS", 21, 17, 2),
+            event(4, "HS", 22, 19, 2),
+            event(4, "HS", 23, 18, 2),
+            event(4, "HS", 24, 21, 2),
+            event(4, "HS", 25, 20, 2),
+            event(4, "HS", 26, 24, 2),
+            event(4, "HS", 27, 25, 2),
+            hs_housekeeping_packet(4, 0, 6, 0, (1, 1), (0, 0), 0, 0, {}),
         ],
         {
             "dwell1.table": dwell_table(1, False, [(1, 1, 0x1080)]),
@@ -373,4 +451,4 @@ def commands():
     )
 
 
-EXAMPLES = [first(), dwell(), checksum(), eeprom(), held(), refused_file(), refused_scenario(), commands()]
+EXAMPLES = [first(), health(), dwell(), checksum(), eeprom(), held(), refused_file(), refused_scenario(), commands()]

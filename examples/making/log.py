@@ -16,6 +16,21 @@ def event(frame, application, count, number, kind):
     return telemetry(frame, 0x0808, count, struct.pack(">20sHHII", application.encode(), number, kind, 66, 1))
 
 
+def hs_housekeeping_packet(frame, count, accepted, errors, on, resets, sent, watching, counters):
+    """`on` has both monitorings, `resets` those made and their maximum, and `counters` values by the entry's number."""
+    shown = [counters.get(number, 0xFFFFFFFF) for number in range(1, 33)]
+    return telemetry(frame, 0x08AD, count, struct.pack(">BBBBHHHHI32I", accepted, errors, *on, *resets, sent, 0, watching, *shown))
+
+
+def stored(frame, sent):
+    """The line of a packet that a table stores."""
+    return f"{frame} pkt {sent.hex().upper()}"
+
+
+def restart(frame, name):
+    return f"{frame} restart {name}"
+
+
 def peek_packet(frame, count, size, at, value):
     return telemetry(frame, 0x088A, count, struct.pack(">BII", size, at, value))
 

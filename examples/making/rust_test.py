@@ -9,6 +9,7 @@ HEAD = '''//! The examples, each against its log. Written by examples/make, and 
 use super::runs::{HONEST, assert_text, run_beside};
 use super::tables::pad;
 use rehearsal::{Report, Status};
+use std::alloc::Global;
 use std::process::Abort;
 use std::test::Fail;
 use std::thread::Threads;
@@ -28,25 +29,30 @@ struct Example<'a> {
     report: Report,
 }
 
-// Asserts what an example of at most two tables gives.
+// The file of a table's place, from 0; without bytes where there is none.
+fn file_of(alloc: Global, tables: &[Table<'_>], place: usize) -> Result<Vec<u8>, Fail> {
+    let mut file = Vec::new(alloc);
+    if let Some(table) = tables.get(place) {
+        file.extend_from_slice(table.bytes)?;
+        pad(&mut file, table.len)?;
+    }
+    Ok(file)
+}
+
+// Asserts what an example of at most four tables gives.
 fn assert_example<R: Threads + Sync + AllocGlobal + Abort>(
     rt: &R,
     example: &Example<'_>,
 ) -> Result<(), Fail> {
     let alloc = rt.alloc();
-    let mut first = Vec::new(alloc);
-    let mut second = Vec::new(alloc);
-    if let Some(table) = example.tables.get(0) {
-        first.extend_from_slice(table.bytes)?;
-        pad(&mut first, table.len)?;
-    }
-    if let Some(table) = example.tables.get(1) {
-        second.extend_from_slice(table.bytes)?;
-        pad(&mut second, table.len)?;
-    }
-    let words = ["s", "a", "b"];
-    let words = &words[..example.tables.len().min(2) + 1];
-    let ran = run_beside(rt, words, example.text, &[&first, &second], &HONEST)?;
+    let first = file_of(alloc, example.tables, 0)?;
+    let second = file_of(alloc, example.tables, 1)?;
+    let third = file_of(alloc, example.tables, 2)?;
+    let fourth = file_of(alloc, example.tables, 3)?;
+    let files: [&[u8]; 4] = [&first, &second, &third, &fourth];
+    let words = ["s", "a", "b", "c", "d"];
+    let words = &words[..example.tables.len().min(4) + 1];
+    let ran = run_beside(rt, words, example.text, &files, &HONEST)?;
     assert_text(rt, "out", ran.out.bytes(), example.log);
     assert_text(rt, "err", ran.err.bytes(), example.error);
     assert_eq!(rt; ran.report, example.report);

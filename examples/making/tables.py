@@ -5,6 +5,7 @@ import struct
 from making import Wrong
 
 DWELL_TABLES, DWELL_ENTRIES, CHECKSUM_ENTRIES = range(1, 5), range(1, 26), range(1, 17)
+APP_ENTRIES, EVENT_ENTRIES, COUNTER_ENTRIES, ACTION_ENTRIES = range(1, 33), range(1, 17), range(1, 33), range(1, 9)
 EEPROM_TABLE, MEMORY_TABLE = "CS.DefEepromTbl", "CS.DefMemoryTbl"
 
 
@@ -26,10 +27,41 @@ def dwell_table(number, enabled, entries):
     return table_file(f"MD.DWELL_TABLE{number}", payload)
 
 
+def placed(about, entries, places, size):
+    """Entries of `size` bytes in their places, with zero bytes in all others."""
+    for number in entries:
+        if number not in places:
+            raise Wrong(f"{about} has entries 1 to {len(places)}, and no entry {number}")
+    return b"".join(entries.get(number, b"").ljust(size, b"\0") for number in places)
+
+
 def checksum_table(name, entries):
     """The file of a checksum table. `entries` gives (state, start, length) by the entry's number, 1 to 16."""
-    for number in entries:
-        if number not in CHECKSUM_ENTRIES:
-            raise Wrong(f"a checksum table has entries 1 to 16, and no entry {number}")
-    rows = [entries.get(number, (0, 0, 0)) for number in CHECKSUM_ENTRIES]
-    return table_file(name, b"".join(struct.pack(">HHII", state, 0, start, length) for state, start, length in rows))
+    rows = {number: struct.pack(">HHII", state, 0, start, length) for number, (state, start, length) in entries.items()}
+    return table_file(name, placed("a checksum table", rows, CHECKSUM_ENTRIES, 12))
+
+
+def monitors(entries):
+    return {number: struct.pack(">20sHH", name.encode(), *numbers) for number, (name, *numbers) in entries.items()}
+
+
+def apps_table(entries):
+    """The file of the application monitors. `entries` gives (name, cycles, action) by the entry's number, 1 to 32."""
+    return table_file("HS.AppMon_Tbl", placed("the table of application monitors", monitors(entries), APP_ENTRIES, 24))
+
+
+def events_table(entries):
+    """The file of the event monitors. `entries` gives (name, event, action) by the entry's number, 1 to 16."""
+    return table_file("HS.EventMon_Tbl", placed("the table of event monitors", monitors(entries), EVENT_ENTRIES, 24))
+
+
+def counters_table(entries):
+    """The file of the execution counters. `entries` gives (name, type) by the entry's number, 1 to 32."""
+    rows = {number: struct.pack(">20sH", name.encode(), sort) for number, (name, sort) in entries.items()}
+    return table_file("HS.ExeCount_Tbl", placed("the table of execution counters", rows, COUNTER_ENTRIES, 22))
+
+
+def actions_table(entries):
+    """The file of the message actions. `entries` gives (state, cooldown, packet) by the entry's number, 1 to 8."""
+    rows = {number: struct.pack(">HH", state, cooldown) + packet for number, (state, cooldown, packet) in entries.items()}
+    return table_file("HS.MsgActs_Tbl", placed("the table of message actions", rows, ACTION_ENTRIES, 68))

@@ -4,13 +4,15 @@ import re
 
 from making import Wrong
 from making.commands import *
-from making.tables import EEPROM_TABLE, MEMORY_TABLE
+from making.tables import ACTION_ENTRIES, COUNTER_ENTRIES, EEPROM_TABLE, EVENT_ENTRIES, APP_ENTRIES, MEMORY_TABLE, actions_table, apps_table, counters_table, events_table
 
 U8, U16, U32 = range(1 << 8), range(1 << 16), range(1 << 32)
 NUMBER = re.compile("0x[0-9a-fA-F]{1,16}|[0-9]{1,20}")
+NAME = re.compile("[0-9A-Za-z_]{1,19}")
+HEX = re.compile("([0-9A-Fa-f]{2}){8,64}")
 
-APPLICATIONS = {"MM": MM, "MD": MD, "CS": CS}
-IDS = {**APPLICATIONS, "MM_HOUSEKEEPING": MM_HOUSEKEEPING, "MD_HOUSEKEEPING": MD_HOUSEKEEPING, "CS_HOUSEKEEPING": CS_HOUSEKEEPING}
+APPLICATIONS = {"HS": HS, "MM": MM, "MD": MD, "CS": CS}
+IDS = {**APPLICATIONS, "HS_HOUSEKEEPING": HS_HOUSEKEEPING, "MM_HOUSEKEEPING": MM_HOUSEKEEPING, "MD_HOUSEKEEPING": MD_HOUSEKEEPING, "CS_HOUSEKEEPING": CS_HOUSEKEEPING}
 TABLE_NAMES = {"eeprom": EEPROM_TABLE, "memory": MEMORY_TABLE}
 
 # The functions of `send` and their words, in the order of docs/COMMANDS.md.
@@ -18,6 +20,13 @@ SENT = {
     no_op: "APP",
     reset_counts: "APP",
     housekeeping: "APP",
+    hs_apps_on: "",
+    hs_apps_off: "",
+    hs_events_on: "",
+    hs_events_off: "",
+    hs_clear_resets: "",
+    hs_max_resets: "MAXIMUM",
+    event_message: "NAME EVENT",
     mm_peek: "SIZE ADDRESS",
     mm_poke: "SIZE ADDRESS VALUE",
     mm_eeprom_enable: "REGION",
@@ -38,12 +47,20 @@ SENT = {
 # What fits the field of each word; TABLE.. are the bits of a mask.
 FIELDS = {
     **dict.fromkeys(["SIZE", "REGION", "CODE"], U8),
-    **dict.fromkeys(["TABLE", "ENTRY", "LENGTH", "DELAY", "ID"], U16),
+    **dict.fromkeys(["TABLE", "ENTRY", "LENGTH", "DELAY", "ID", "MAXIMUM", "EVENT"], U16),
     **dict.fromkeys(["ADDRESS", "VALUE"], U32),
     "TABLE..": range(1, 17),
 }
 DWELL_ENTRY = {"LENGTH": U16, "DELAY": U16, "ADDRESS": U32}
 CHECKSUM_ENTRY = {"STATE": U16, "START": U32, "LENGTH": U32}
+
+# The tables of Health and Safety: which entries each has, the fields of one, and what makes its file.
+HEALTH_TABLES = {
+    "apps": (APP_ENTRIES, {"NAME": NAME, "CYCLES": U16, "ACTION": U16}, apps_table),
+    "events": (EVENT_ENTRIES, {"NAME": NAME, "EVENT": U16, "ACTION": U16}, events_table),
+    "counters": (COUNTER_ENTRIES, {"NAME": NAME, "TYPE": U16}, counters_table),
+    "actions": (ACTION_ENTRIES, {"STATE": U16, "COOLDOWN": U16, "HEX": HEX}, actions_table),
+}
 
 
 def usage(function):
@@ -71,12 +88,35 @@ def number(name, word, allowed):
     return value
 
 
+def field(name, word, allowed):
+    """A field of a table's entry: a number, a name, or the bytes of a packet."""
+    if allowed not in (NAME, HEX):
+        return number(name, word, allowed)
+    if not allowed.fullmatch(word):
+        raise Wrong(f"{word!r} isn't {'1 to 19 letters, digits and _' if allowed is NAME else 'HEX of 8 to 64 bytes'}")
+    return word if allowed is NAME else bytes.fromhex(word)
+
+
 def entry(word, fields):
-    """The numbers of a table's entry, with commas between them."""
+    """The fields of a table's entry, with commas between them."""
     parts = word.split(",")
     if len(parts) != len(fields):
         raise Wrong(f"{word!r} isn't {','.join(fields)}")
-    return tuple(number(name, part, allowed) for part, (name, allowed) in zip(parts, fields.items()))
+    return tuple(field(name, part, allowed) for part, (name, allowed) in zip(parts, fields.items()))
+
+
+def numbered(words, places, fields):
+    """Entries of a table by their numbers: each word is the number, a colon, and the fields of the entry."""
+    entries = {}
+    for word in words:
+        if word.count(":") != 1:
+            raise Wrong(f"{word!r} isn't ENTRY:{','.join(fields)}")
+        place, rest = word.split(":")
+        place = number("ENTRY", place, places)
+        if place in entries:
+            raise Wrong(f"entry {place} is given twice")
+        entries[place] = entry(rest, fields)
+    return entries
 
 
 def counted(words, form):
@@ -94,4 +134,6 @@ def argument(name, word):
         return choice(word, APPLICATIONS)
     if name == "ID" and word.isidentifier():
         return choice(word, IDS)
+    if name == "NAME":
+        return field(name, word, NAME)
     return number(name, word, FIELDS[name])
