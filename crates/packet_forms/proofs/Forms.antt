@@ -1,5 +1,5 @@
 -- What the definitions of packets give: when there is no fault, and how what is built reads back.
-use Rattle.std.proofs.Common.{◌≡◌, ◌≤◌, ◌<◌, ℕ, ◌+◌, Bool, true, false, cond, List, [], ◌∷◌, ◌++◌, length, drop, refl, sym, ap, ◌∙◌, arith, eq-eqb, lit<, lit≤, length-append, append_assoc}
+use Rattle.std.proofs.Common.{◌≡◌, ◌≤◌, ◌<◌, ℕ, zero, suc, replicate, ◌+◌, Bool, true, false, cond, List, [], ◌∷◌, ◌++◌, length, drop, refl, sym, ap, ◌∙◌, arith, eq-eqb, lit<, lit≤, length-append, append_assoc}
 use Rattle.std.proofs.lemmas.Bool.Decides.{nat_tests}
 use Rattle.std.specs.Prelude.{None, bit_xor}
 use Rattle.std.specs.List.{fold}
@@ -216,3 +216,12 @@ recounted n _ small w = absurd (omega arith)
 pub shortest : IsPacket shortest_packet
 unfolding version_of sequence_flags length_field be16_at
 shortest = record { long = lit≤ tt; short = lit≤ tt; version = refl; whole = refl; field = refl }
+
+-- zeros behind a list change nothing in its exclusive or
+pub checksum_padded : (bytes : List ℕ) (n : ℕ) → checksum_of (bytes ++ replicate n 0) ≡ checksum_of bytes
+unfolding checksum_of
+checksum_padded bytes n = fold-append bit_xor 0 bytes (replicate n 0) ∙ zeros_kept (fold bit_xor 0 bytes) n
+  where
+    zeros_kept : (a n : ℕ) → fold bit_xor a (replicate n 0) ≡ a
+    zeros_kept a zero = refl
+    zeros_kept a (suc n) = ap (λ (k : ℕ). fold bit_xor k (replicate n 0)) (xor_zero_r a) ∙ zeros_kept a n

@@ -7,7 +7,8 @@ ghost use Rattle.packet_forms.specs.Built.{command_of, telemetry_of, event_of, e
 use crate::byte_list::ByteList;
 use crate::message_ids::EVENT;
 use crate::name::Name;
-use crate::packet::{PACKET_BYTES, Packet, exclusive_or};
+use crate::packet::{PACKET_BYTES, Packet};
+use crate::pieces::exclusive_or;
 
 /// The most bytes of a command's payload.
 pub const COMMAND_PAYLOAD: usize = 248;
@@ -40,12 +41,9 @@ pub fn telemetry(mid: u16, secs: u32, payload: &[u8]) -> Packet
     ensures bytes { result ≡ telemetry_of mid secs payload.now }
     ensures reads_back { IsTelemetryOf mid payload.now result }
 {
-    let mut draft = ByteList::new();
-    begin(&mut draft, mid, payload.len() + 12);
-    draft.append(&secs.to_be_bytes());
-    draft.append(&[0, 0]);
-    draft.append(payload);
-    Packet::of_list(&draft)
+    let mut packet = Packet::default();
+    packet.set_telemetry(mid, secs, payload);
+    packet
 }
 
 /// An event message of an application: `kind` is 2 for information and 3 for an error.
@@ -53,27 +51,58 @@ pub fn event(name: Name, id: u16, kind: u16, secs: u32) -> Packet
     ensures bytes { result ≡ event_of name id kind secs }
     ensures reads_back { IsTelemetryOf EVENT (event_payload name id kind) result }
 {
-    let mut draft = ByteList::new();
-    begin(&mut draft, EVENT, 44);
+    let mut packet = Packet::default();
+    packet.set_event(name, id, kind, secs);
+    packet
+}
+
+/// Drafts telemetry, over what was drafted before.
+pub(crate) fn draft_telemetry(
+    draft: &mut ByteList<PACKET_BYTES>,
+    mid: u16,
+    secs: u32,
+    payload: &[u8],
+)
+    requires version { mid < 8192 }
+    requires size { length payload.now ≤ TELEMETRY_PAYLOAD }
+    ensures bytes { draft.new ≡ telemetry_of mid secs payload.now }
+    ensures reads_back { IsTelemetryOf mid payload.now draft.new }
+{
+    begin(draft, mid, payload.len() + 12);
+    draft.append(&secs.to_be_bytes());
+    draft.append(&[0, 0]);
+    draft.append(payload);
+}
+
+/// Drafts an event message, over what was drafted before.
+pub(crate) fn draft_event(
+    draft: &mut ByteList<PACKET_BYTES>,
+    name: Name,
+    id: u16,
+    kind: u16,
+    secs: u32,
+)
+    ensures bytes { draft.new ≡ event_of name id kind secs }
+    ensures reads_back { IsTelemetryOf EVENT (event_payload name id kind) draft.new }
+{
+    begin(draft, EVENT, 44);
     draft.append(&secs.to_be_bytes());
     draft.append(&[0, 0]);
     draft.append(name.bytes());
     draft.append(&id.to_be_bytes());
     draft.append(&kind.to_be_bytes());
     draft.append(&[0, 0, 0, 66, 0, 0, 0, 1]);
-    Packet::of_list(&draft)
 }
 
+/// Begins a packet of `size` bytes with its header of six bytes, over what was drafted before.
 #[tactic(auto, unfolding(crate::specs::Built::primary_header, crate::specs::Numbers::be16_bytes))]
-/// Begins a packet of `size` bytes with its header of six bytes.
 fn begin(draft: &mut ByteList<PACKET_BYTES>, mid: u16, size: usize)
-    requires fresh { length draft.old ≡ 0 }
     requires long { 7 < size }
     requires short { size ≤ PACKET_BYTES }
     ensures header { draft.new ≡ primary_header mid size }
     ensures six { length draft.new ≡ 6 }
 {
-    draft.append(&mid.to_be_bytes());
-    draft.append(&[0xC0, 0]);
-    draft.append(&((size - 7) as u16).to_be_bytes());
+    let [a, b] = mid.to_be_bytes();
+    let [c, d] = ((size - 7) as u16).to_be_bytes();
+    draft.set(&[a, b, 0xC0, 0, c, d]);
 }

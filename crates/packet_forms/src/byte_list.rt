@@ -1,8 +1,9 @@
 //! Bounded lists of bytes, which lie in the value itself.
 
 ghost use Rattle.std.specs.Prelude.{◌≡◌, ◌≤◌, ◌+◌, [], ◌++◌, length, take, drop};
+ghost use Rattle.packet_forms.specs.Packets.{checksum_of};
 
-use crate::pieces::place;
+use crate::pieces::{exclusive_or, place, place_alone};
 use std::marker::Model;
 
 /// A list of at most `N` bytes.
@@ -53,6 +54,22 @@ impl<const N: usize> ByteList<N> {
     {
         place(&mut self.places, self.len, piece);
         self.len += piece.len();
+    }
+
+    /// Becomes a copy of these bytes.
+    pub fn set(&mut self, bytes: &[u8])
+        requires { length bytes.now ≤ N }
+        ensures { self.new ≡ bytes.now }
+    {
+        place_alone(&mut self.places, bytes);
+        self.len = bytes.len();
+    }
+
+    /// The exclusive or of the bytes. The zeros behind them are taken in too, so that all can be taken many at once.
+    pub fn exclusive_or(&self) -> u8
+        ensures { result ≡ checksum_of self.now }
+    {
+        exclusive_or(&self.places)
     }
 
     /// Writes the piece over the bytes from place `at` on.

@@ -1,11 +1,14 @@
 //! A space packet of 8 to 256 bytes.
 
-ghost use Rattle.std.specs.Prelude.{◌≡◌, ◌≤◌, ◌<◌, ◌==◌, length, IfOk, MatchResult, Some, None};
-ghost use Rattle.packet_forms.specs.Packets.{IsPacket, shortest_packet, message_id, is_command, function_code, is_checksum_right, payload_of, checksum_of};
+ghost use Rattle.std.specs.Prelude.{◌≡◌, ◌≤◌, ◌<◌, ◌==◌, length, IfOk, IfErr, MatchResult, Some, None};
+ghost use Rattle.packet_forms.specs.Packets.{IsPacket, shortest_packet, message_id, is_command, function_code, is_checksum_right, payload_of};
 ghost use Rattle.packet_forms.specs.Faults.{fault_of, fault_number};
-ghost use Rattle.packet_forms.specs.Built.{with_sequence, IsRecounted};
+ghost use Rattle.packet_forms.specs.Built.{with_sequence, telemetry_of, event_of, event_payload, IsRecounted, IsTelemetryOf};
 
+use crate::build::{TELEMETRY_PAYLOAD, draft_event, draft_telemetry};
 use crate::byte_list::ByteList;
+use crate::message_ids::EVENT;
+use crate::name::Name;
 use crate::numbers::be16;
 use crate::pieces::behind;
 use std::marker::Model;
@@ -74,6 +77,38 @@ impl Packet {
         Ok(Packet::of_list(&ByteList::copy_of(bytes)))
     }
 
+    /// Becomes the packet of these bytes, where it lies. Where they are none it stays as it is, and the first of the faults is the
+    /// answer.
+    pub fn set_bytes(&mut self, bytes: &[u8]) -> Result<(), PacketFault>
+        ensures packet { IfOk result (λ _. self.new ≡ bytes.now) }
+        ensures fault { MatchResult result (λ _. fault_of bytes.now ≡ None) (λ fault. fault_of bytes.now ≡ Some fault) }
+        ensures kept { IfErr result (λ _. self.new ≡ self.old) }
+    {
+        if let Some(fault) = find_fault(bytes) {
+            return Err(fault);
+        }
+        self.list.set(bytes);
+        Ok(())
+    }
+
+    /// Becomes telemetry of at most 244 payload bytes, where it lies: subseconds 0, sequence count 0.
+    pub fn set_telemetry(&mut self, mid: u16, secs: u32, payload: &[u8])
+        requires version { mid < 8192 }
+        requires size { length payload.now ≤ TELEMETRY_PAYLOAD }
+        ensures bytes { self.new ≡ telemetry_of mid secs payload.now }
+        ensures reads_back { IsTelemetryOf mid payload.now self.new }
+    {
+        draft_telemetry(&mut self.list, mid, secs, payload);
+    }
+
+    /// Becomes an event message of an application, where it lies: `kind` is 2 for information and 3 for an error.
+    pub fn set_event(&mut self, name: Name, id: u16, kind: u16, secs: u32)
+        ensures bytes { self.new ≡ event_of name id kind secs }
+        ensures reads_back { IsTelemetryOf EVENT (event_payload name id kind) self.new }
+    {
+        draft_event(&mut self.list, name, id, kind, secs);
+    }
+
     /// The packet of these bytes.
     pub(crate) fn of_list(list: &ByteList<PACKET_BYTES>) -> Packet
         requires { IsPacket list.now }
@@ -121,7 +156,7 @@ impl Packet {
     pub fn checksum_ok(&self) -> bool
         ensures { result ≡ is_checksum_right self.now }
     {
-        exclusive_or(self.bytes()) == 0xFF
+        self.list.exclusive_or() == 0xFF
     }
 
     /// The bytes from byte 8 of a command on, from byte 12 of any other packet on; none where it is shorter.
@@ -178,14 +213,6 @@ fn find_fault(bytes: &[u8]) -> Option<PacketFault>
         return Some(PacketFault::Length);
     }
     None
-}
-
-/// The exclusive or of all these bytes.
-#[tactic(auto, unfolding(crate::specs::Packets::checksum_of))]
-pub fn exclusive_or(bytes: &[u8]) -> u8
-    ensures { result ≡ checksum_of bytes.now }
-{
-    bytes.iter().fold(0, |sum, byte| sum ^ *byte)
 }
 
 impl Default for Packet {
