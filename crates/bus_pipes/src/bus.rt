@@ -7,7 +7,8 @@ ghost use Rattle.bus_pipes.specs.Held.{adding};
 ghost use Rattle.bus_pipes.specs.Delivery.{pipe_in, after_offer_to, after_offer, drop_of, after_offers, drops_from};
 
 use crate::batch::Batch;
-use crate::names::{Dropped, Drops, EVENT_PIPE_DEPTH, Offer, PIPE_DEPTH, PipeName};
+use crate::made::push_drop;
+use crate::names::{Drops, EVENT_PIPE_DEPTH, Offer, PIPE_DEPTH, PipeName};
 use crate::pipe::Pipe;
 use fsw_outside::NoMemory;
 use packet_forms::Packet;
@@ -73,16 +74,8 @@ impl Bus {
         };
         match self.offer(pipe, packet) {
             Offer::Kept => {}
-            Offer::Limit => drops.push(Dropped {
-                pipe,
-                full: false,
-                packet: *packet,
-            }),
-            Offer::Full => drops.push(Dropped {
-                pipe,
-                full: true,
-                packet: *packet,
-            }),
+            Offer::Limit => push_drop(drops, pipe, false, packet),
+            Offer::Full => push_drop(drops, pipe, true, packet),
         }
     }
 

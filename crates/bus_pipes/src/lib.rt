@@ -4,12 +4,14 @@
 mod batch;
 mod bus;
 pub mod laws;
+mod made;
 mod names;
 mod pipe;
 mod reserved;
 
 pub use batch::Batch;
 pub use bus::Bus;
+pub use made::{push_event, push_telemetry};
 pub use names::{
     Counts, Dropped, Drops, EVENT_PIPE_DEPTH, Offer, Out, Outbox, PIPE_DEPTH, PipeName,
 };

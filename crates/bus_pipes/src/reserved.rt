@@ -8,22 +8,24 @@ use fsw_outside::NoMemory;
 use std::alloc::Global;
 use std::marker::Model;
 
-/// A list whose room was reserved, so that no push asks for memory.
+/// A list whose room was reserved, so that no push asks for memory. Behind its items lie those that were cleared, so that the
+/// next one needn't be moved to its place.
 #[derive(Drop)]
 pub struct ReservedList<T> {
-    items: Vec<T>,
+    pub(crate) places: Vec<T>,
+    pub(crate) count: usize,
     room: u32,
 }
 
 impl<T> Model for ReservedList<T> {
-    ghost use Rattle.std.specs.Prelude.{◌≤◌, vec_capacity};
+    ghost use Rattle.std.specs.Prelude.{◌≤◌, length, take, vec_capacity};
     ghost use Rattle.bus_pipes.specs.Held.{Held};
 
     ghost Value = { Held T };
 
-    ghost view = { λ a. record { items = a.items.items; room = a.room } };
+    ghost view = { λ a. record { items = take a.count a.places.items; room = a.room } };
 
-    ghost invariant = { λ a. a.room ≤ vec_capacity a.items };
+    ghost invariant = { λ a. (a.count ≤ length a.places.items) × (a.room ≤ vec_capacity a.places) };
 }
 
 impl<T> ReservedList<T> {
@@ -34,27 +36,20 @@ impl<T> ReservedList<T> {
         ensures { IfOk result (λ list. list ≡ record { items = []; room = room }) }
     {
         match Vec::with_capacity(alloc, room as usize) {
-            Ok(items) => Ok(ReservedList { items, room }),
+            Ok(places) => Ok(ReservedList {
+                places,
+                count: 0,
+                room,
+            }),
             Err(_) => Err(NoMemory),
         }
-    }
-
-    /// Puts an item behind the others.
-    #[tactic(auto, unfolding(crate::specs::Held::adding))]
-    pub fn push(&mut self, item: T)
-        requires { length self.old.items < self.old.room }
-        ensures after { self.new ≡ adding self.old (item ∷ []) }
-        ensures size { length self.new.items ≡ length self.old.items + 1 }
-        ensures room { self.new.room ≡ self.old.room }
-    {
-        self.items.push_reserved(item);
     }
 
     /// The items in order.
     pub fn items(&self) -> &[T]
         ensures { result.now ≡ self.now.items }
     {
-        self.items.as_slice()
+        &self.places[..self.count]
     }
 
     /// The item at a place, for writing.
@@ -63,21 +58,21 @@ impl<T> ReservedList<T> {
         ensures* writes_back { sem 𝓛 (lends_item T.row self.entry at result) }
         ensures value { result.now ≡ slice_index_or self.old.items at result.now }
     {
-        &mut self.items[at]
+        &mut self.places[at]
     }
 
     /// The number of items.
     pub fn len(&self) -> usize
         ensures { result ≡ length self.now.items }
     {
-        self.items.len()
+        self.count
     }
 
     /// Whether there is no item.
     pub fn is_empty(&self) -> bool
         ensures { result ≡ (length self.now.items == 0) }
     {
-        self.items.len() == 0
+        self.count == 0
     }
 
     /// How many items there is room for.
@@ -89,12 +84,28 @@ impl<T> ReservedList<T> {
 }
 
 impl<T: Drop> ReservedList<T> {
+    /// Puts an item behind the others.
+    #[tactic(auto, unfolding(crate::specs::Held::adding))]
+    pub fn push(&mut self, item: T)
+        requires { length self.old.items < self.old.room }
+        ensures after { self.new ≡ adding self.old (item ∷ []) }
+        ensures size { length self.new.items ≡ length self.old.items + 1 }
+        ensures room { self.new.room ≡ self.old.room }
+    {
+        if self.count < self.places.len() {
+            self.places[self.count] = item;
+        } else {
+            self.places.push_reserved(item);
+        }
+        self.count += 1;
+    }
+
     /// Removes all items. The room stays.
     pub fn clear(&mut self)
         ensures after { self.new ≡ emptied self.old }
         ensures none { self.new.items ≡ [] }
         ensures room { self.new.room ≡ self.old.room }
     {
-        self.items.clear();
+        self.count = 0;
     }
 }

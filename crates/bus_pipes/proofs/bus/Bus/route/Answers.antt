@@ -26,7 +26,7 @@ returns-in-Limit-clause-after c =
 
 pub returns-in-Limit-clause-drops : goal.returns-in-Limit-clause-drops
 returns-in-Limit-clause-drops c =
-    c.push.ensures.after
+    c.push_drop.ensures.after
     ∙ dropped c.in-Some.pipe c.args.self.now c.args.packet.now Limit c.args.drops.now (ap pipe_of (sym c.mid.ensures) ∙ sym c.pipe_of.ensures ∙ c.in-Some.is) c.in-Limit.ensures.answer
 
 pub returns-in-Full-clause-after : goal.returns-in-Full-clause-after
@@ -35,5 +35,5 @@ returns-in-Full-clause-after c =
 
 pub returns-in-Full-clause-drops : goal.returns-in-Full-clause-drops
 returns-in-Full-clause-drops c =
-    c.push-in-Full.ensures.after
+    c.push_drop-in-Full.ensures.after
     ∙ dropped c.in-Some.pipe c.args.self.now c.args.packet.now Full c.args.drops.now (ap pipe_of (sym c.mid.ensures) ∙ sym c.pipe_of.ensures ∙ c.in-Some.is) c.in-Full.ensures.answer

@@ -1,0 +1,12 @@
+-- Items that are written over those that lie behind the others.
+use Rattle.std.proofs.Common.{◌≡◌, ◌∙◌, ◌<◌, ◌+◌, ℕ, List, [], ◌∷◌, ◌++◌, length, take, set, ap}
+use Rattle.std.proofs.lemmas.List.{take_more_set}
+use Rattle.bus_pipes.specs.Held.{Held, adding}
+
+-- the place behind the items, once an item was written there and is counted
+pub placed : {X : Type 0} (places : List X) (count room : ℕ) (item wanted : X) (held : Held X) → count < length places → record { items = take count places; room = room } ≡ held → item ≡ wanted
+    → record { items = take (count + 1) (set places count item); room = room } ≡ adding held (wanted ∷ [])
+unfolding adding
+placed {X} places count room item wanted held within is same =
+    ap (λ (items : List X). (let x : Held X = record { items = items; room = room } in x)) (take_more_set places count item within ∙ ap (λ (one : X). take count places ++ one ∷ []) same)
+    ∙ ap (λ (h : Held X). adding h (wanted ∷ [])) is
