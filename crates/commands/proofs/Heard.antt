@@ -128,9 +128,8 @@ pub one_more_counted : (start end : Held Out) (item : Out) → end ≡ adding st
 one_more_counted start end item behind here before = counted_more start end (item ∷ []) behind (one_passes (λ (one : Out). is_item_counted one ≡ true) item here) before
 
 -- and an event
-pub event_behind : (start end : Held Out) (p name : List ℕ) (id kind time : ℕ) → p ≡ event_of name id kind time → end ≡ adding start (Made p ∷ []) → AllPass is_item_counted start.items → AllPass is_item_counted end.items
-event_behind start end p name id kind time made behind before =
-    one_more_counted start end (Made p) behind (ap (λ (q : List ℕ). is_item_counted (Made q)) made ∙ event_counted name id kind time) before
+pub event_behind : (start end : Held Out) (name : List ℕ) (id kind time : ℕ) → end ≡ adding start (Made (event_of name id kind time) ∷ []) → AllPass is_item_counted start.items → AllPass is_item_counted end.items
+event_behind start end name id kind time behind before = one_more_counted start end (Made (event_of name id kind time)) behind (event_counted name id kind time) before
 
 -- there is room for a packet more of at most 16
 pub room_step : (most i n room : ℕ) → n ≤ (1 + most) * i → i < 16 → (1 + most) * 16 ≤ room → n + (1 + most) ≤ room

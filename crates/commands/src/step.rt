@@ -12,8 +12,8 @@ ghost use Rattle.commands.specs.declared.verdicts.Verdict.{Verdict};
 use crate::commanded::{Command, Commanded, Reason};
 use crate::counting::note;
 use crate::verdicts::{Verdict, is_length_allowed, row_of};
-use bus_pipes::{Counts, Out, Outbox};
-use packet_forms::{Name, Packet, event};
+use bus_pipes::{Counts, Out, Outbox, push_event};
+use packet_forms::{Name, Packet};
 
 /// Handles the packets of a wakeup, at most 16, in order: each is judged, answered and counted. What is sent goes to `out`, which is
 /// empty, and what is left beside it to `left`.
@@ -137,11 +137,11 @@ fn act<R: Copy + Drop, S: Commanded<R>>(
         Verdict::Other => {}
         Verdict::Request => out.push(Out::Made(state.housekeeping(counts, reads, now))),
         Verdict::Refused(reason) => {
-            out.push(Out::Made(event(S::Instruction::name(), u16::from(*reason), 3, now)));
+            push_event(out, S::Instruction::name(), u16::from(*reason), 3, now);
         }
         Verdict::Accepted(code, instruction) => {
             state.obey(instruction, reads, now, left, out);
-            out.push(Out::Made(event(S::Instruction::name(), 16 + u16::from(*code), 2, now)));
+            push_event(out, S::Instruction::name(), 16 + u16::from(*code), 2, now);
         }
     }
 }

@@ -9,9 +9,9 @@ ghost use Rattle.hs_actions.specs.Outcomes.{act_at};
 ghost use Rattle.hs_actions.specs.Items.{hs_name, event_base, event_out, report_items, message_items, performed};
 
 use crate::action::{Action, Source};
-use bus_pipes::{Out, Outbox};
+use bus_pipes::{Out, Outbox, push_event};
 use hs_tables::MsgActs;
-use packet_forms::{Name, event};
+use packet_forms::Name;
 
 /// The type of the events: an error.
 const ERROR: u16 = 3;
@@ -48,11 +48,11 @@ fn put_reset(from: Source, went: bool, now: u32, out: &mut Outbox)
     ensures room { out.new.room ≡ out.old.room }
 {
     if went {
-        out.push(event_out(from, 1, now));
+        put_event(from, 1, now, out);
         out.push(Out::Reset);
         return;
     }
-    out.push(event_out(from, 5, now));
+    put_event(from, 5, now, out);
 }
 
 #[tactic(auto, unfolding(bus_pipes::specs::Held::adding))]
@@ -62,7 +62,7 @@ fn put_restart(from: Source, name: Name, now: u32, out: &mut Outbox)
     ensures few { length out.new.items ≤ length out.old.items + 2 }
     ensures room { out.new.room ≡ out.old.room }
 {
-    out.push(event_out(from, 2, now));
+    put_event(from, 2, now, out);
     out.push(Out::Restart(name));
 }
 
@@ -74,9 +74,9 @@ fn put_report(from: Source, name: Name, now: u32, out: &mut Outbox)
     ensures room { out.new.room ≡ out.old.room }
 {
     match from {
-        Source::AppMonitor => out.push(event_out(Source::AppMonitor, 3, now)),
+        Source::AppMonitor => put_event(Source::AppMonitor, 3, now, out),
         Source::EventMonitor => {
-            out.push(event_out(Source::EventMonitor, 3, now));
+            put_event(Source::EventMonitor, 3, now, out);
             out.push(Out::Delete(name));
         }
     }
@@ -98,17 +98,20 @@ fn put_message(from: Source, place: u16, acts: &MsgActs, went: bool, now: u32, o
     };
     out.push(Out::Stored(entry.packet));
     if entry.state != 2 {
-        out.push(event_out(from, 4, now));
+        put_event(from, 4, now, out);
     }
 }
 
-// The n-th event of a monitor.
+// Puts the n-th event of a monitor.
 #[tactic(auto, unfolding(crate::specs::Items::event_out))]
-fn event_out(from: Source, n: u16, now: u32) -> Out
-    requires { n ≤ 5 }
-    ensures { result ≡ event_out now from n }
+fn put_event(from: Source, n: u16, now: u32, out: &mut Outbox)
+    requires number { n ≤ 5 }
+    requires room { length out.old.items < out.old.room }
+    ensures items { out.new ≡ adding out.old (event_out now from n ∷ []) }
+    ensures few { length out.new.items ≡ length out.old.items + 1 }
+    ensures room { out.new.room ≡ out.old.room }
 {
-    Out::Made(event(hs_name(), event_base(from) + n, ERROR, now))
+    push_event(out, hs_name(), event_base(from) + n, ERROR, now);
 }
 
 fn event_base(from: Source) -> u16

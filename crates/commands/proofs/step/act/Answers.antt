@@ -13,7 +13,7 @@ pub returns-in-Refused-clause-stands : goal.returns-in-Refused-clause-stands
 returns-in-Refused-clause-stands g c = λ turn heard belongs stood. rw (c.in-Refused.is, orders_same heard (Refused c.in-Refused.reason) refl) stood
 
 pub returns-in-Refused-clause-counted : goal.returns-in-Refused-clause-counted
-returns-in-Refused-clause-counted g c = λ before. event_behind c.args.out.now c.push-in-Refused.new.self c.event.result _ _ _ _ c.event.ensures.bytes c.push-in-Refused.ensures.after before
+returns-in-Refused-clause-counted g c = λ before. event_behind c.args.out.now c.push_event.new.out _ _ _ _ c.push_event.ensures.after before
 
 pub returns-in-Accepted-clause-stands : goal.returns-in-Accepted-clause-stands
 returns-in-Accepted-clause-stands g c = λ turn heard belongs stood.
@@ -21,4 +21,4 @@ returns-in-Accepted-clause-stands g c = λ turn heard belongs stood.
 
 pub returns-in-Accepted-clause-counted : goal.returns-in-Accepted-clause-counted
 returns-in-Accepted-clause-counted g c = λ before.
-    event_behind c.obey.new.out c.push-in-Accepted.new.self c.event-in-Accepted.result _ _ _ _ c.event-in-Accepted.ensures.bytes c.push-in-Accepted.ensures.after (c.obey.ensures.counted before)
+    event_behind c.obey.new.out c.push_event-in-Accepted.new.out _ _ _ _ c.push_event-in-Accepted.ensures.after (c.obey.ensures.counted before)
