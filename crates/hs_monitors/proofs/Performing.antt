@@ -1,8 +1,8 @@
 -- What an entry attempts, by whether it acts or matches.
-use Rattle.std.proofs.Common.{◌≡◌, ◌≢◌, ℕ, ◌<◌, Bool, true, false, cond, not, ◌&&◌, arith, List, [], ◌∷◌, length, Option, Some, None, refl, sym, ap, ◌∙◌}
+use Rattle.std.proofs.Common.{◌≡◌, ◌≢◌, ℕ, ◌<◌, Bool, true, false, cond, not, ◌&&◌, arith, List, [], ◌∷◌, ◌++◌, length, Option, Some, None, refl, sym, ap, ◌∙◌}
 use Rattle.std.specs.Prelude.{◌==◌, option_map}
-use Rattle.std.specs.List.{flat_map}
-use Rattle.std.proofs.lemmas.Bool.{eqb-true, eqb-false, and_parts}
+use Rattle.std.specs.List.{flat_map, list_any}
+use Rattle.std.proofs.lemmas.Bool.{eqb-true, eqb-false, and_parts, or_parts}
 use Rattle.packet_forms.specs.Packets.{message_id}
 use Rattle.packet_forms.specs.MessageIds.{event_id}
 use Rattle.packet_forms.specs.declared.name.Counter.{Counter}
@@ -12,7 +12,7 @@ use Rattle.hs_tables.specs.declared.apps.AppRow.{AppRow}
 use Rattle.hs_tables.specs.declared.apps.AppEntry.{AppEntry}
 use Rattle.hs_tables.specs.declared.events.EventRow.{EventRow}
 use Rattle.hs_tables.specs.declared.events.EventEntry.{EventEntry}
-use Rattle.hs_actions.specs.Happenings.{attempt_by}
+use Rattle.hs_actions.specs.Happenings.{Happening, attempt_by}
 use Rattle.hs_actions.specs.Happenings.Happening.{Attempts}
 use Rattle.hs_actions.specs.declared.action.Source.TheVariants.{AppMonitor, EventMonitor}
 use Rattle.hs_monitors.specs.Acting.{changes, acts_now}
@@ -93,3 +93,27 @@ event_long p message = eqb-true (length p) 44 (and_parts (message_id p == event_
 pub packet_heard : (k : ℕ) (rows : List EventRow) (p : List ℕ) → is_event p ≡ true → flat_map (event_attempt k p) rows ≡ event_attempts k rows p
 unfolding event_attempts
 packet_heard k rows p message = rw message refl
+
+-- an entry that isn't used attempts nothing
+unused_attempt : (k : ℕ) (p : List ℕ) (row : EventRow) → events.is_used row ≡ false → event_attempt k p row ≡ []
+unfolding event_attempt
+unused_attempt k p row unused = rw unused refl
+
+-- no packet is heard where no entry is used
+unused_attempts : (k : ℕ) (p : List ℕ) (rows : List EventRow) → list_any events.is_used rows ≡ false → flat_map (event_attempt k p) rows ≡ []
+unused_attempts k p [] none = refl
+unused_attempts k p (row ∷ rows) none =
+    let parts = or_parts (events.is_used row) (list_any events.is_used rows) none in
+    ap (λ (h : List Happening). h ++ flat_map (event_attempt k p) rows) (unused_attempt k p row parts.0) ∙ unused_attempts k p rows parts.1
+
+nothing_attempted : (k : ℕ) (rows : List EventRow) (p : List ℕ) → list_any events.is_used rows ≡ false → event_attempts k rows p ≡ []
+unfolding event_attempts
+nothing_attempted k rows p none = by_test (is_event p)
+  where
+    by_test : (t : Bool) → cond t (flat_map (event_attempt k p) rows) [] ≡ []
+    by_test true = unused_attempts k p rows none
+    by_test false = refl
+
+pub nothing_heard : (k : ℕ) (rows : List EventRow) (packets : List (List ℕ)) → list_any events.is_used rows ≡ false → flat_map (event_attempts k rows) packets ≡ []
+nothing_heard k rows [] none = refl
+nothing_heard k rows (p ∷ packets) none = ap (λ (h : List Happening). h ++ flat_map (event_attempts k rows) packets) (nothing_attempted k rows p none) ∙ nothing_heard k rows packets none

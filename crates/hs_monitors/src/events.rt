@@ -30,6 +30,9 @@ pub(crate) fn hear_all(
     ensures few { length out.new.items ≤ length out.old.items + 1024 }
     ensures room { out.new.room ≡ out.old.room }
 {
+    if !tables.events.has_entries() {
+        return;
+    }
     for packet in events {
         hear(tables, packet, now, actions, out);
     }

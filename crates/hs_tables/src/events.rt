@@ -1,5 +1,6 @@
 //! Event monitors.
 ghost use Rattle.std.specs.Prelude.{◌≡◌, ◌≤◌, ◌-◌, length, slice_index_or, IfOk, IfErr, MatchResult, Some, None};
+ghost use Rattle.std.specs.List.{list_any};
 ghost use Rattle.hs_tables.specs.Events.{row_at, row_reason, is_used, rows_of, rows_fault_of};
 
 use packet_forms::{Name, be16};
@@ -87,6 +88,14 @@ impl EventMon {
     {
         let rows: &[EventRow] = &self.rows;
         rows.len() as u32
+    }
+
+    /// Whether an entry is used.
+    pub fn has_entries(&self) -> bool
+        ensures { result ≡ list_any is_used self.now }
+    {
+        let rows: &[EventRow] = &self.rows;
+        rows.iter().any(|row| row.is_used())
     }
 
     /// Entry n, from 1 to 16, where it is used.

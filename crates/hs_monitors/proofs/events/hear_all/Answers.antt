@@ -1,6 +1,7 @@
-use Rattle.std.proofs.Common.{◌∙◌, refl, arith}
-use Rattle.hs_actions.proofs.Series.{performs_begin, performs_front}
+use Rattle.std.proofs.Common.{◌∙◌, sym, refl, arith}
+use Rattle.hs_actions.proofs.Series.{performs_none, performs_begin, performs_front}
 use Rattle.hs_monitors.specs.Events.{event_attempts}
+use Rattle.hs_monitors.proofs.Performing.{nothing_heard}
 use Rattle.hs_monitors.proofs.events.hear_all.Goals as goal
 
 pub loop-packet-init : goal.loop-packet-init
@@ -22,3 +23,8 @@ loop-packet-preserved c =
           performs_front c.args.tables.now.acts c.args.now (λ k. event_attempts k c.args.tables.now.events) c.args.events.now c.loop-packet.packet-index c.packet-item.result c.args.actions.now c.loop-packet.actions c.hear.new.actions
           c.args.out.now c.loop-packet.out c.hear.new.out c.loop-packet-test.true c.packet-item.is held.performs c.hear.ensures.performs;
     }
+
+pub returns-then-not-has_entries-clause-performs : goal.returns-then-not-has_entries-clause-performs
+returns-then-not-has_entries-clause-performs c =
+    performs_none c.args.tables.now.acts c.args.now _ c.args.actions.now c.args.out.now
+    (λ k. nothing_heard k c.args.tables.now.events c.args.events.now (sym c.has_entries.ensures ∙ c.if-not-has_entries.true))
