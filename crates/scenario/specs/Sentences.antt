@@ -131,6 +131,10 @@ IsOfVerb verb (Some s) = verb_said s ≡ verb
 abbrev pub packet_of : List ℕ → Result (List ℕ) Reason
 packet_of bytes = elim (fault_of bytes) [ None ↦ Ok bytes | Some fault ↦ Err reasons.Packet ]
 
+-- `send` of the packet of these bytes
+abbrev pub packet_said : List ℕ → Result Sentence Reason
+packet_said bytes = packet_of bytes >>= (λ packet. Ok (says.Send packet))
+
 -- no word
 abbrev pub none : List (List ℕ) → Result (Unit {0}) Reason
 none [] = Ok tt
@@ -175,16 +179,14 @@ region_line others = do
 unfoldable pub hex_said : List ℕ → Result Sentence Reason
 hex_said word = do
   bytes ← or_bad reasons.Packet (hex word)
-  packet ← packet_of bytes
-  Ok (says.Send packet)
+  packet_said bytes
 
 -- `send HEX`
 unfoldable pub send_line : List (List ℕ) → Result Sentence Reason
 send_line others = do
   word ← one others
   bytes ← or_bad reasons.Packet (hex word)
-  packet ← packet_of bytes
-  Ok (says.Send packet)
+  packet_said bytes
 
 -- `app NAME N`
 unfoldable pub app_line : List (List ℕ) → Result Sentence Reason

@@ -1,7 +1,7 @@
 //! What a line says by itself, where it stands.
 ghost use Rattle.std.specs.Prelude.{◌≡◌, ◌≤◌, ◌∷◌, [], length, IfOk, IfSome, Some, None, true};
 ghost use Rattle.scenario.specs.Words.{words};
-ghost use Rattle.scenario.specs.Sentences.{Gives, IsPlaced, IsOfVerb, as_said, verb_of, Begins, stands_at, none, one, two, three, number_or_bad, epoch_line, region_line, hex_said, send_line, app_line, upset_line, hold_line, bare_line, sentence_of, line_says, packet_of, verb_at};
+ghost use Rattle.scenario.specs.Sentences.{Gives, IsPlaced, IsOfVerb, as_said, verb_of, Begins, stands_at, none, one, two, three, number_or_bad, epoch_line, region_line, hex_said, send_line, app_line, upset_line, hold_line, bare_line, sentence_of, line_says, packet_of, packet_said, verb_at};
 
 use crate::frame::{App, Upset};
 use crate::reason::Reason;
@@ -188,7 +188,22 @@ fn read_hex(word: &[u8], said: &mut Option<Sentence>) -> Result<(), Reason>
     }
     let mut places = [0; PACKET_BYTES];
     let len = hex(word, &mut places).ok_or(Reason::Packet)?;
-    let packet = packet(&places[..len])?;
+    say_send(&places[..len], said)
+}
+
+/// Says `send` with the packet of these bytes. Where the line before said it too, the packet is written over that one, since a
+/// packet is large.
+fn say_send(bytes: &[u8], said: &mut Option<Sentence>) -> Result<(), Reason>
+    ensures value { Gives (λ _. said.new) result (as_said (packet_said bytes.now)) }
+    ensures verb { IfOk result (λ _. IsOfVerb Verb.Send said.new) }
+{
+    if let Some(Sentence::Send(packet)) = said {
+        return match packet.set_bytes(bytes) {
+            Ok(()) => Ok(()),
+            Err(_) => Err(Reason::Packet),
+        };
+    }
+    let packet = packet(bytes)?;
     *said = Some(Sentence::Send(packet));
     Ok(())
 }
