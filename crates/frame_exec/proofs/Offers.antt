@@ -1,5 +1,6 @@
 -- The packets of items that were sent, offered one item after another.
-use Rattle.std.proofs.Common.{◌≡◌, ℕ, ◌+◌, ◌<◌, ◌≤◌, List, [], ◌∷◌, ◌++◌, length, take, drop, get_or, refl, sym, ◌∙◌, ap, arith}
+use Rattle.std.proofs.Common.{◌≡◌, ◌==◌, true, ℕ, ◌+◌, ◌<◌, ◌≤◌, List, [], ◌∷◌, ◌++◌, length, take, drop, get_or, refl, sym, ◌∙◌, ap, arith}
+use Rattle.std.proofs.lemmas.Bool.Decides.{nat_tests}
 use Rattle.std.specs.Borrow.{Bor}
 use Rattle.std.proofs.lemmas.List.{length-append, take-append-drop}
 use Rattle.std.specs.List.{flat_map}
@@ -77,3 +78,8 @@ shown_within lists i list within is =
     let all = ap (λ (ls : List (Bor (List Out))). length (shown ls)) (sym (take-append-drop (i + 1) lists)) ∙ ap (λ (items : List Out). length items) (flat_map-append (λ (l : Bor (List Out)). l.now) (take (i + 1) lists) (drop (i + 1) lists))
     ∙ length-append (shown (take (i + 1) lists)) (shown (drop (i + 1) lists)) in
     omega (arith, front, all)
+
+-- no packets and no items
+pub offers_nothing : (packets : List (List ℕ)) (items : List Out) → true ≡ (length packets == 0) → items ≡ [] → packets ++ flat_map packet_in items ≡ []
+offers_nothing [] items none empty = ap (flat_map packet_in) empty
+offers_nothing (p ∷ packets) items none empty = absurd (grind (arith, nat_tests))

@@ -7,7 +7,7 @@ use Rattle.packet_log.specs.Blocks.{Waiting, Notes, ends_from, joined, tells}
 use Rattle.scenario.specs.FrameLists.{Frame}
 use Rattle.frame_exec.specs.declared.bench.Bench.{Bench}
 use Rattle.frame_exec.specs.Runs.{Setup, run_of, frame_lines, log_of}
-use Rattle.frame_exec.specs.Standing.{Has, has_failed, IsReady}
+use Rattle.frame_exec.specs.Standing.{Has, has_failed, waiting_in, IsReady}
 
 -- the lines of each of the later frames, which come behind the earlier ones
 unfoldable pub lines_behind : Setup → List Frame → List Frame → List (List ℕ)
@@ -20,7 +20,7 @@ pub record Follows (b : Bench) (setup : Setup) (earlier later : List Frame) : Ty
   pub well : has_failed b ≡ false
   pub has : Has b (run_of setup (earlier ++ later))
   pub ready : IsReady b
-  pub notes : Notes (ends_from 0 (lines_behind setup earlier later)) (length (joined (lines_behind setup earlier later))) b.block
+  pub notes : Notes (ends_from 0 (lines_behind setup earlier later)) (length (joined (lines_behind setup earlier later))) (waiting_in b)
 
 -- A log is cut in the lines of one of these frames, behind so many whole ones: what was written is their log, and a proper first part of
 -- its lines.

@@ -3,7 +3,7 @@ use Rattle.std.specs.Prelude.{◌≡◌, ℕ, Bool, ◌+◌, ◌<◌, true, fals
 use Rattle.memory_window.specs.Regions.{is_mapped}
 use Rattle.memory_window.specs.Memory.{regions_of}
 use Rattle.md_dwell.specs.State.{AllGiven}
-use Rattle.packet_log.specs.Blocks.{empty_block}
+use Rattle.packet_log.specs.Blocks.{Waiting, empty_block}
 use Rattle.packet_log.specs.Standing.{Stands as LogStands}
 use Rattle.scenario.specs.declared.progress.Header.{Header}
 use Rattle.scenario.specs.declared.frame.Upset.{Upset}
@@ -38,11 +38,15 @@ pub record IsReady (b : Bench) : Type 0 where
 abbrev pub has_failed : Bench → Bool
 has_failed b = b.failed
 
+-- the lines that the bench put into its block and didn't hand on yet
+abbrev pub waiting_in : Bench → Waiting
+waiting_in b = b.block
+
 -- the bench stands for these frames, of a scenario with this header
 pub record Stands (b : Bench) (setup : Setup) (frames : List Frame) : Type 0 where
   pub epoch : b.epoch ≡ setup.epoch
   pub well : has_failed b ≡ false
-  pub waits : b.block ≡ empty_block
+  pub waits : waiting_in b ≡ empty_block
   pub has : Has b (run_of setup frames)
   pub ready : IsReady b
 

@@ -66,11 +66,12 @@ impl Bench {
     ghost use Rattle.scenario.specs.declared.frame.App.{App};
     ghost use Rattle.scenario.specs.FrameLists.{Frame};
     ghost use Rattle.frame_exec.specs.Runs.{Setup, State, frame_lines, log_of};
-    ghost use Rattle.frame_exec.specs.Standing.{Has, has_failed, IsReady, Stands, IsInterrupted, CanRun, setup_in};
+    ghost use Rattle.frame_exec.specs.Standing.{Has, has_failed, waiting_in, IsReady, Stands, IsInterrupted, CanRun, setup_in};
     ghost use Rattle.frame_exec.specs.Following.{Follows, IsCutAt, Adds};
     ghost use Rattle.frame_exec.specs.Tables.{SetGiven, AreLoaded, Opens, region_fault};
     ghost use Rattle.frame_exec.specs.Landable.{CanLand};
-    ghost use Rattle.frame_exec.specs.Stages.{IsSameRun, IsUpset, Takes, IsClear, Steps, CanSend, Sends, RunsIn, IsSameFrame, Lands, lines_in};
+    ghost use Rattle.frame_exec.specs.Stages.{IsSameRun, IsUpset, Takes, IsClear, Steps, CanSend, Sends, RunsIn, IsSameFrame, Lands, items_in, lines_in};
+    ghost use Rattle.frame_exec.specs.Wakes.{joined};
 
     /// A bench with the tables that were loaded from these files and the memory of the header's map, which stands for no
     /// frames; the number of workers is from 1 to 16. `Region` comes exactly where that memory refuses the read of a dwell
@@ -178,9 +179,9 @@ impl Bench {
         requires started { (setup : Setup) × (earlier : List Frame) × (later : List Frame) × Follows self.old setup earlier later × CanRun setup (earlier ++ later) input.now }
         ensures follows { (setup : Setup) (earlier later : List Frame) → Follows self.old setup earlier later → OnOk result (Follows self.new setup earlier (later ++ input.now ∷ [])) }
         ensures told { (setup : Setup) (earlier later : List Frame) → Follows self.old setup earlier later
-            → OnOk result (WhereTold (tells (O.held sink.old) self.old.block) (tells (O.held sink.new) self.new.block) (λ before after. after ≡ before ++ frame_lines setup (earlier ++ later) input.now)) }
+            → OnOk result (WhereTold (tells (O.held sink.old) (waiting_in self.old)) (tells (O.held sink.new) (waiting_in self.new)) (λ before after. after ≡ before ++ frame_lines setup (earlier ++ later) input.now)) }
         ensures cut { (setup : Setup) (earlier later : List Frame) → Follows self.old setup earlier later
-            → IfErr result (λ cut. (cut.late ≤ length later) × WhereTold (tells (O.held sink.old) self.old.block) (O.held sink.new) (λ before after. (start : List ℕ)
+            → IfErr result (λ cut. (cut.late ≤ length later) × WhereTold (tells (O.held sink.old) (waiting_in self.old)) (O.held sink.new) (λ before after. (start : List ℕ)
             → before ≡ start ++ log_of setup (earlier ++ later) → IsCutAt setup ((earlier ++ later) ++ input.now ∷ []) (length (earlier ++ later) - cut.late) start after)) }
         ensures cause { HasCause (O.held sink.new) (O.faults sink.old) (O.faults sink.new) result }
         ensures failed { has_failed self.new ≡ is_err result }
@@ -200,10 +201,10 @@ impl Bench {
     /// Hands on all lines that wait. Where that fails, the error says how many frames weren't handed on whole.
     pub fn flush<O: Sink>(&mut self, sink: &mut O) -> Result<(), Cut>
         ensures follows { (setup : Setup) (earlier later : List Frame) → Follows self.old setup earlier later → OnOk result (Follows self.new setup (earlier ++ later) []) }
-        ensures told { WhereTold (tells (O.held sink.old) self.old.block) (tells (O.held sink.new) self.new.block) (λ before after. after ≡ before) }
-        ensures handed { OnOk result (self.new.block ≡ empty_block) }
+        ensures told { WhereTold (tells (O.held sink.old) (waiting_in self.old)) (tells (O.held sink.new) (waiting_in self.new)) (λ before after. after ≡ before) }
+        ensures handed { OnOk result (waiting_in self.new ≡ empty_block) }
         ensures cut { (setup : Setup) (earlier later : List Frame) → Follows self.old setup earlier later
-            → IfErr result (λ cut. (0 < cut.late) × (cut.late ≤ length later) × WhereTold (tells (O.held sink.old) self.old.block) (O.held sink.new) (λ before after. (start : List ℕ)
+            → IfErr result (λ cut. (0 < cut.late) × (cut.late ≤ length later) × WhereTold (tells (O.held sink.old) (waiting_in self.old)) (O.held sink.new) (λ before after. (start : List ℕ)
             → before ≡ start ++ log_of setup (earlier ++ later) → IsCutAt setup (earlier ++ later) (length (earlier ++ later) - cut.late) start after)) }
         ensures cause { HasCause (O.held sink.new) (O.faults sink.old) (O.faults sink.new) result }
         ensures failed { has_failed self.new ≡ has_failed self.old || is_err result }
@@ -299,11 +300,23 @@ impl Bench {
         requires { CanSend self.old }
         ensures { Sends input.now.sends self.old self.new }
     {
+        self.drops.clear();
+        if input.sends().is_empty() && self.gave_nothing() {
+            return;
+        }
+        self.send_all(input);
+    }
+
+    // Gives the items their counts, and offers the frame's packets and theirs to the pipes. Nothing was dropped yet.
+    fn send_all(&mut self, input: &FrameInput)
+        requires can { CanSend self.old }
+        requires none { self.old.drops.items ≡ [] }
+        ensures { Sends input.now.sends self.old self.new }
+    {
         stamp_all(&mut self.log, &mut self.hs.out);
         stamp_all(&mut self.log, &mut self.cs.out);
         stamp_all(&mut self.log, &mut self.mm.out);
         stamp_all(&mut self.log, &mut self.md.out);
-        self.drops.clear();
         self.bus.deliver(input.sends(), &mut self.drops);
         deliver_all(
             &mut self.bus,
@@ -385,10 +398,17 @@ impl Bench {
     fn is_silent(&self) -> bool
         ensures { result ≡ true → lines_in self.now ≡ [] }
     {
+        self.gave_nothing() && self.drops.is_empty()
+    }
+
+    // Whether no application gave anything in the frame that was run.
+    #[inline(always)]
+    fn gave_nothing(&self) -> bool
+        ensures { result ≡ true → joined (items_in self.now) ≡ [] }
+    {
         self.hs.out.is_empty()
             && self.cs.out.is_empty()
             && self.mm.out.is_empty()
             && self.md.out.is_empty()
-            && self.drops.is_empty()
     }
 }

@@ -6,6 +6,7 @@ use Rattle.scenario.specs.FrameLists.{Frame}
 use Rattle.scenario.specs.Texts.{Given}
 use Rattle.frame_exec.specs.Runs.{Setup, log_of}
 use Rattle.frame_exec.specs.Following.{Follows, IsCutAt}
+use Rattle.frame_exec.specs.Standing.{waiting_in}
 use Rattle.frame_exec.specs.declared.bench.Bench.{Bench}
 use Rattle.rehearsal.specs.declared.report.Report.{Report}
 use Rattle.rehearsal.specs.declared.report.Status.TheVariants as statuses
@@ -15,7 +16,7 @@ use Rattle.rehearsal.specs.Outcome.{frames_of, setup_of, refused_read}
 -- was, and nothing waits.
 pub record Begins (bench : Bench) (files : List (List ℕ)) (gave : List Given) : Type 0 where
   pub follows : Follows bench (setup_of files gave) [] []
-  pub waits : bench.block ≡ empty_block
+  pub waits : waiting_in bench ≡ empty_block
   pub given : refused_read files gave ≡ None
   pub none : frames_of gave ≡ []
   pub some : 0 < length gave

@@ -9,6 +9,7 @@ ghost use Rattle.scenario.specs.Texts.{Text, Given};
 ghost use Rattle.scenario.specs.FrameLists.{Frame};
 ghost use Rattle.frame_exec.specs.Runs.{Setup};
 ghost use Rattle.frame_exec.specs.Following.{Follows};
+ghost use Rattle.frame_exec.specs.Standing.{waiting_in};
 ghost use Rattle.frame_exec.specs.Tables.{AreLoaded};
 ghost use Rattle.rehearsal.specs.Files.{OpensOnce};
 ghost use Rattle.rehearsal.specs.Text.{IsRead, Holds};
@@ -30,7 +31,7 @@ fn hand_on<O: Sink>(bench: &mut Bench, out: &mut O, report: Report) -> Report
     requires follows { (setup : Setup) × (earlier : List Frame) × (later : List Frame) × Follows bench.old setup earlier later × (report.frames ≡ length (earlier ++ later)) }
     requires ended { (report.status ≢ Status.ReadFailed) × (report.status ≢ Status.WriteFailed) × (report.status ≢ Status.WordsRefused) × (report.status ≢ Status.FileRefused) × (report.status ≢ Status.NoMemory) }
     ensures hands_on { (setup : Setup) (earlier later : List Frame) → Follows bench.old setup earlier later → report.frames ≡ length (earlier ++ later)
-        → HandsOn result report setup earlier later (tells (O.held out.old) bench.old.block) (O.held out.new) }
+        → HandsOn result report setup earlier later (tells (O.held out.old) (waiting_in bench.old)) (O.held out.new) }
     ensures write_failed { result.status ≡ Status.WriteFailed → HasRisen (O.held out.new) (O.faults out.old) (O.faults out.new) }
     ensures wrote_well { result.status ≢ Status.WriteFailed → O.faults out.new ≡ O.faults out.old }
     ensures well { (result.status ≢ Status.ReadFailed) × (result.status ≢ Status.WordsRefused) × (result.status ≢ Status.FileRefused) × (result.status ≢ Status.NoMemory) }

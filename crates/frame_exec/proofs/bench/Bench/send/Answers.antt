@@ -1,44 +1,32 @@
-use Rattle.std.proofs.Common.{ℕ, List, [], ◌++◌, refl, sym, ◌∙◌, ap, subst, append-nil}
+use Rattle.std.proofs.Common.{◌≡◌, ◌==◌, ℕ, List, [], ◌++◌, length, refl, sym, ◌∙◌, ap, subst, append-nil}
 use Rattle.std.specs.List.{flat_map}
-use Rattle.bus_pipes.specs.Held.{adding}
 use Rattle.bus_pipes.specs.Delivery.{after_offers, drops_from}
+use Rattle.bus_pipes.specs.declared.names.Out.{Out}
+use Rattle.bus_pipes.proofs.Deliveries.{after_offers_none, drops_none}
 use Rattle.packet_log.specs.Sent.{makes}
 use Rattle.packet_log.specs.Standing.{Stands as LogStands}
-use Rattle.frame_exec.proofs.Offers.{offers_two, drops_two}
-use Rattle.frame_exec.proofs.Stamping.{sent_none, sent_then, made_two}
+use Rattle.frame_exec.specs.Sending.{packet_in, sent_of}
+use Rattle.frame_exec.specs.Stages.{items_in}
+use Rattle.frame_exec.specs.Wakes.{joined}
+use Rattle.frame_exec.proofs.Offers.{offers_nothing}
+use Rattle.frame_exec.proofs.Stamping.{sent_none}
 use Rattle.frame_exec.proofs.bench.Bench.send.Goals as goal
 
-pub returns : goal.returns
-returns c =
+-- neither the frame nor an application gave anything
+pub returns-then-gave_nothing : goal.returns-then-gave_nothing
+returns-then-gave_nothing c =
     let old = c.args.self.now in
-    let hs = old.hs.out.items in
-    let cs = old.cs.out.items in
-    let mm = old.mm.out.items in
-    let md = old.md.out.items in
-    let sends = c.sends.ensures.value in
-    let offered = c.deliver.ensures.after ∙ ap (after_offers old.bus) sends in
+    let none : joined (items_in old) ≡ [] = c.gave_nothing.ensures c.if-gave_nothing.true in
+    let offered : c.args.input.now.sends ++ flat_map packet_in (joined (items_in old)) ≡ [] =
+    offers_nothing c.args.input.now.sends (joined (items_in old)) (c.if-is_empty.ensures ∙ ap (λ (packets : List (List ℕ)). length packets == 0) c.sends.ensures.value) none in
     record {
       run = record { waits = refl; epoch = refl; number = refl; failed = refl; tables = refl };
       apps = record { hs = refl; cs = refl; mm = refl; md = refl };
       operations = refl;
-      sent = λ made stands.
-          let one = c.stamp_all.ensures.stands made stands in
-          let two = c.stamp_all-2.ensures.stands _ one in
-          let three = c.stamp_all-3.ensures.stands _ two in
-          sent_then made hs _ (cs ++ (mm ++ (md ++ []))) _ (c.stamp_all.ensures.sent made stands)
-          (sent_then (made ++ flat_map makes hs) cs _ (mm ++ (md ++ [])) _ (c.stamp_all-2.ensures.sent _ one)
-          (sent_then ((made ++ flat_map makes hs) ++ flat_map makes cs) mm _ (md ++ []) _ (c.stamp_all-3.ensures.sent _ two)
-          (sent_then (((made ++ flat_map makes hs) ++ flat_map makes cs) ++ flat_map makes mm) md _ [] [] (c.stamp_all-4.ensures.sent _ three) (sym (sent_none _)))));
+      sent = λ made stands. none ∙ sym (ap (sent_of made) none ∙ sent_none made);
       made = λ made stands.
-          let one = c.stamp_all.ensures.stands made stands in
-          let two = c.stamp_all-2.ensures.stands _ one in
-          let three = c.stamp_all-3.ensures.stands _ two in
-          let four = c.stamp_all-4.ensures.stands _ three in
-          made_two made hs (cs ++ (mm ++ (md ++ []))) _ (made_two (made ++ flat_map makes hs) cs (mm ++ (md ++ [])) _
-          (made_two ((made ++ flat_map makes hs) ++ flat_map makes cs) mm (md ++ []) _
-          (made_two (((made ++ flat_map makes hs) ++ flat_map makes cs) ++ flat_map makes mm) md [] _ (subst (λ (packets : List (List ℕ)). LogStands packets c.stamp_all-4.new.log) (sym (append-nil _)) four))));
-      pipes = offers_two old.bus c.deliver.new.self _ c.args.input.now.sends _ offered c.deliver_all.ensures.after;
-      drops = drops_two old.bus c.deliver.new.self c.clear.new.self c.deliver.new.drops _ c.args.input.now.sends _ c.clear.ensures.none offered
-          (c.deliver.ensures.drops ∙ ap (λ (packets : List (List ℕ)). adding c.clear.new.self (drops_from old.bus packets)) sends) c.deliver_all.ensures.drops;
+          subst (λ (items : List Out). LogStands (made ++ flat_map makes items) old.log) (sym none) (subst (λ (packets : List (List ℕ)). LogStands packets old.log) (sym (append-nil made)) stands);
+      pipes = sym (ap (after_offers old.bus) offered ∙ after_offers_none old.bus);
+      drops = c.clear.ensures.none ∙ sym (ap (drops_from old.bus) offered ∙ drops_none old.bus);
       memory = refl;
     }

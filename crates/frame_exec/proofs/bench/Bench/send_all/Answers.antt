@@ -1,0 +1,44 @@
+use Rattle.std.proofs.Common.{ℕ, List, [], ◌++◌, refl, sym, ◌∙◌, ap, subst, append-nil}
+use Rattle.std.specs.List.{flat_map}
+use Rattle.bus_pipes.specs.Held.{adding}
+use Rattle.bus_pipes.specs.Delivery.{after_offers, drops_from}
+use Rattle.packet_log.specs.Sent.{makes}
+use Rattle.packet_log.specs.Standing.{Stands as LogStands}
+use Rattle.frame_exec.proofs.Offers.{offers_two, drops_two}
+use Rattle.frame_exec.proofs.Stamping.{sent_none, sent_then, made_two}
+use Rattle.frame_exec.proofs.bench.Bench.send_all.Goals as goal
+
+pub returns : goal.returns
+returns c =
+    let old = c.args.self.now in
+    let hs = old.hs.out.items in
+    let cs = old.cs.out.items in
+    let mm = old.mm.out.items in
+    let md = old.md.out.items in
+    let sends = c.sends.ensures.value in
+    let offered = c.deliver.ensures.after ∙ ap (after_offers old.bus) sends in
+    record {
+      run = record { waits = refl; epoch = refl; number = refl; failed = refl; tables = refl };
+      apps = record { hs = refl; cs = refl; mm = refl; md = refl };
+      operations = refl;
+      sent = λ made stands.
+          let one = c.stamp_all.ensures.stands made stands in
+          let two = c.stamp_all-2.ensures.stands _ one in
+          let three = c.stamp_all-3.ensures.stands _ two in
+          sent_then made hs _ (cs ++ (mm ++ (md ++ []))) _ (c.stamp_all.ensures.sent made stands)
+          (sent_then (made ++ flat_map makes hs) cs _ (mm ++ (md ++ [])) _ (c.stamp_all-2.ensures.sent _ one)
+          (sent_then ((made ++ flat_map makes hs) ++ flat_map makes cs) mm _ (md ++ []) _ (c.stamp_all-3.ensures.sent _ two)
+          (sent_then (((made ++ flat_map makes hs) ++ flat_map makes cs) ++ flat_map makes mm) md _ [] [] (c.stamp_all-4.ensures.sent _ three) (sym (sent_none _)))));
+      made = λ made stands.
+          let one = c.stamp_all.ensures.stands made stands in
+          let two = c.stamp_all-2.ensures.stands _ one in
+          let three = c.stamp_all-3.ensures.stands _ two in
+          let four = c.stamp_all-4.ensures.stands _ three in
+          made_two made hs (cs ++ (mm ++ (md ++ []))) _ (made_two (made ++ flat_map makes hs) cs (mm ++ (md ++ [])) _
+          (made_two ((made ++ flat_map makes hs) ++ flat_map makes cs) mm (md ++ []) _
+          (made_two (((made ++ flat_map makes hs) ++ flat_map makes cs) ++ flat_map makes mm) md [] _ (subst (λ (packets : List (List ℕ)). LogStands packets c.stamp_all-4.new.log) (sym (append-nil _)) four))));
+      pipes = offers_two old.bus c.deliver.new.self _ c.args.input.now.sends _ offered c.deliver_all.ensures.after;
+      drops = drops_two old.bus c.deliver.new.self c.args.self.now.drops c.deliver.new.drops _ c.args.input.now.sends _ c.requires.none offered
+          (c.deliver.ensures.drops ∙ ap (λ (packets : List (List ℕ)). adding c.args.self.now.drops (drops_from old.bus packets)) sends) c.deliver_all.ensures.drops;
+      memory = refl;
+    }
