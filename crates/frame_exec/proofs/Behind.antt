@@ -7,7 +7,7 @@ use Rattle.packet_log.specs.Blocks.{Waiting, Notes, Puts, empty_block, late_in, 
 use Rattle.packet_log.proofs.Cuts.{ends_none, ends_more}
 use Rattle.scenario.specs.FrameLists.{Frame}
 use Rattle.frame_exec.specs.declared.bench.Bench.{Bench}
-use Rattle.fsw_outside.proofs.Telling.{told_then}
+use Rattle.fsw_outside.specs.TellingLaws.{told_then}
 use Rattle.frame_exec.specs.Runs.{Setup, State, run_of, frame_lines, log_of}
 use Rattle.frame_exec.specs.Standing.{Has, IsReady, Stands, has_failed}
 use Rattle.frame_exec.specs.Following.{lines_behind, Follows, IsCutAt, Adds}

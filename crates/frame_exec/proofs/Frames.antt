@@ -47,18 +47,6 @@ pub run_none : (setup : Setup) → run_of setup [] ≡ beginning setup
 unfolding run_of
 run_none setup = refl
 
--- the log of a run at one more frame
-pub log_more : (setup : Setup) (frames : List Frame) (frame : Frame) → log_of setup (frames ++ frame ∷ []) ≡ log_of setup frames ++ frame_lines setup frames frame
-unfolding log_of
-log_more setup frames frame =
-    ap (flat_map (λ (lines : List ℕ). lines)) (along_more (frame_lines setup) frames frame)
-    ∙ flat_map_more (λ (lines : List ℕ). lines) (along (frame_lines setup) frames) (frame_lines setup frames frame)
-
--- the log of a run without frames
-pub log_none : (setup : Setup) → log_of setup [] ≡ []
-unfolding log_of
-log_none setup = ap (flat_map (λ (lines : List ℕ). lines)) (along_none (frame_lines setup))
-
 -- the number of frames, behind a state
 number_from : (setup : Setup) (s : State) (frames : List Frame) → (fold (after_frame setup) s frames).number ≡ s.number + length frames
 unfolding after_frame

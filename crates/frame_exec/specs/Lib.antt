@@ -9,3 +9,4 @@ pub mod Ready
 pub mod Landable
 pub mod Stages
 pub mod Rows
+pub mod RunLaws

@@ -13,7 +13,7 @@ use Rattle.fsw_outside.specs.Memory.{can_rise, stored_of, stored_files, name_at,
 use Rattle.fsw_outside.specs.declared.mem_shelf.StoredFile.{StoredFile}
 use Rattle.fsw_outside.specs.declared.mem_shelf.Place.{Place}
 use Rattle.fsw_outside.specs.Closed.{cond_some, rest_of_none}
-use Rattle.fsw_outside.proofs.Telling.{same_content}
+use Rattle.fsw_outside.specs.TellingLaws.{same_content}
 
 -- what is told after was told before, since no count falls
 pub by_two_counts : {A : Type 0} (m n m' n' : ℕ) (old new : A) (P : A → A → Type 0) → (m' < 2 ^ 64 - 1 → m ≤ m') → (n' < 2 ^ 64 - 1 → n ≤ n') → (m' < 2 ^ 64 - 1 → n' < 2 ^ 64 - 1 → P old new)

@@ -9,3 +9,5 @@ pub mod MemShelf
 pub mod MemSink
 pub mod FileShelf
 pub mod StdSink
+pub mod TellingLaws
+pub mod PieceLaws

@@ -9,7 +9,7 @@ use Rattle.std.proofs.lemmas.List.Elements.{All-nil, All-head, All-tail, All-app
 use Rattle.std.proofs.lemmas.List.Sums.{sum_by-append, sum_by-cons}
 use Rattle.fsw_outside.specs.Told.{WhereTold}
 use Rattle.fsw_outside.specs.Written.{WritesAll}
-use Rattle.fsw_outside.proofs.Telling.{told_map, told_then}
+use Rattle.fsw_outside.specs.TellingLaws.{told_map, told_then}
 use Rattle.packet_log.specs.Blocks.{Waiting, Notes, Puts, empty_block, tells, late_in}
 
 -- ends that are no later than a number are no later than a larger one

@@ -6,7 +6,7 @@ use Rattle.std.proofs.lemmas.List.{take-map}
 use Rattle.fsw_outside.specs.Told.{WhereTold}
 use Rattle.fsw_outside.specs.Causes.{HasRisen}
 use Rattle.fsw_outside.specs.Files.{Stored, Content, file_named}
-use Rattle.fsw_outside.proofs.Telling.{told_map}
+use Rattle.fsw_outside.specs.TellingLaws.{told_map}
 use Rattle.scenario.specs.declared.item.Item.TheVariants as answers
 use Rattle.scenario.specs.Texts.{Text, Reading, Ending, Ended, Open, reading}
 use Rattle.scenario.specs.Answers.{answer_at_end}

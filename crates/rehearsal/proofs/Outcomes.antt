@@ -13,7 +13,7 @@ use Rattle.frame_exec.specs.Runs.{Setup, frame_lines}
 use Rattle.frame_exec.specs.declared.bench.Bench.{Bench}
 use Rattle.frame_exec.specs.Following.{Follows}
 use Rattle.frame_exec.specs.Standing.{CanRun}
-use Rattle.frame_exec.proofs.Frames.{log_more, log_none}
+use Rattle.frame_exec.specs.RunLaws.{log_more, log_none}
 use Rattle.rehearsal.specs.Fed.{Fed}
 use Rattle.rehearsal.specs.Text.{Holds, IsRead}
 use Rattle.rehearsal.specs.Outcome.{frame_in_item, frames_of, setup_of, refused_read, log_in, IsTextOf, IsWhole, Outcome}

@@ -19,7 +19,7 @@ use Rattle.rehearsal.specs.Outcome.{frames_of, setup_of, refused_read, log_in, I
 use Rattle.rehearsal.specs.Run.{Begins, IsCutShort, HandsOn}
 use Rattle.rehearsal.proofs.Ahead.{ahead_by, cut_ahead}
 use Rattle.rehearsal.proofs.Outcomes.{whole_of, frames_append, items_whole, parts_whole, setup_append, refused_append}
-use Rattle.fsw_outside.proofs.Telling.{told_then, told_map}
+use Rattle.fsw_outside.specs.TellingLaws.{told_then, told_map}
 
 -- Each of the frames from the least on was read at most a piece behind the end of its `tick` line.
 abbrev pub IsNear : Text → List ℕ → ℕ → ℕ → Type 0

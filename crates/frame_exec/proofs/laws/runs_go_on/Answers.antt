@@ -1,4 +1,5 @@
-use Rattle.frame_exec.proofs.Frames.{log_none, log_more, run_none, run_more, run_number}
+use Rattle.frame_exec.specs.RunLaws.{log_none, log_more}
+use Rattle.frame_exec.proofs.Frames.{run_none, run_more, run_number}
 use Rattle.frame_exec.proofs.laws.runs_go_on.Goals as goal
 
 pub returns-clause-none : goal.returns-clause-none

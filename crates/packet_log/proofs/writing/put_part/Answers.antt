@@ -1,6 +1,6 @@
 use Rattle.std.proofs.Common.{◌≡◌, ◌≤◌, ◌++◌, ◌-◌, List, ℕ, length, take, ap, ◌∙◌, arith, length-drop}
-use Rattle.fsw_outside.proofs.Telling.{told_then}
-use Rattle.fsw_outside.proofs.Pieces.{grown}
+use Rattle.fsw_outside.specs.TellingLaws.{told_then}
+use Rattle.fsw_outside.specs.PieceLaws.{grown}
 use Rattle.packet_log.proofs.writing.put_part.Goals as goal
 
 pub pieces-preserved : goal.pieces-preserved

@@ -1,5 +1,5 @@
 use Rattle.std.proofs.Common.{◌∙◌, arith}
-use Rattle.fsw_outside.proofs.Telling.{told_then}
+use Rattle.fsw_outside.specs.TellingLaws.{told_then}
 use Rattle.rehearsal.proofs.Fetched.{stopped}
 use Rattle.rehearsal.proofs.files.read_rest.Goals as goal
 

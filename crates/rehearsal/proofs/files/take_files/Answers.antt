@@ -1,6 +1,6 @@
 use Rattle.std.proofs.Common.{◌≡◌, ◌+◌, ◌<◌, List, [], ℕ, length, refl, sym, ◌∙◌, ap, subst, arith, slice_index_or}
 use Rattle.fsw_outside.specs.Files.{Stored, file_named}
-use Rattle.fsw_outside.proofs.Telling.{told_nothing, told_then, told_map}
+use Rattle.fsw_outside.specs.TellingLaws.{told_nothing, told_then, told_map}
 use Rattle.rehearsal.specs.Files.{AsksFor, EndsAtFile, stop_report}
 use Rattle.rehearsal.specs.declared.report.Report.{Report}
 use Rattle.rehearsal.proofs.Gathered.{taken_none, taken_more, taken_all, stops_at, asks_none, asks_more}

@@ -1,5 +1,5 @@
 use Rattle.std.proofs.Common.{◌<◌, ◌+◌, length, refl, arith}
-use Rattle.fsw_outside.proofs.Telling.{told_nothing, told_map, told_then, told_and}
+use Rattle.fsw_outside.specs.TellingLaws.{told_nothing, told_map, told_then, told_and}
 use Rattle.rehearsal.proofs.Beginnings.{some_faulty}
 use Rattle.rehearsal.proofs.Stages.{opens_front, opens_all, ends_before, ends_at_tables, reads_scenario}
 use Rattle.rehearsal.proofs.rehearsing.carry_out.Goals as goal

@@ -1,7 +1,7 @@
 use Rattle.std.proofs.Common.{◌≡◌, ℕ, ◌+◌, ◌<◌, Bool, List, [], ◌∷◌, ◌++◌, length, sym, ◌∙◌, ap, subst, refl, append-nil, append_assoc, length-append, arith, rules, Option}
 use Rattle.fsw_outside.specs.Told.{WhereTold}
-use Rattle.fsw_outside.proofs.Pieces.{appends_more}
-use Rattle.fsw_outside.proofs.Telling.{told_then, told_map, told_nothing}
+use Rattle.fsw_outside.specs.PieceLaws.{appends_more}
+use Rattle.fsw_outside.specs.TellingLaws.{told_then, told_map, told_nothing}
 use Rattle.scenario.specs.FrameLists.{Frame}
 use Rattle.scenario.specs.Texts.{Text, Given, Whole, reading}
 use Rattle.scenario.specs.Answers.{answer_at_end}

@@ -1,5 +1,5 @@
 use Rattle.std.proofs.Common.{ℕ, ◌<◌, Bool, false, [], ◌∷◌, length, sym, ◌∙◌, subst, refl, arith}
-use Rattle.fsw_outside.proofs.Telling.{told_then, told_map, told_nothing}
+use Rattle.fsw_outside.specs.TellingLaws.{told_then, told_map, told_nothing}
 use Rattle.scenario.specs.Texts.{Given, reading}
 use Rattle.scenario.specs.Standing.{header_in}
 use Rattle.scenario.proofs.TextLaws.{given_first}

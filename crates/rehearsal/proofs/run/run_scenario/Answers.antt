@@ -1,5 +1,5 @@
 use Rattle.std.proofs.Common.{Bool, [], sym, ap, refl}
-use Rattle.fsw_outside.proofs.Telling.{told_nothing}
+use Rattle.fsw_outside.specs.TellingLaws.{told_nothing}
 use Rattle.scenario.specs.Texts.{Reading}
 use Rattle.scenario.specs.Answers.{answer_at_end}
 use Rattle.rehearsal.proofs.Outcomes.{whole_of, is_closed, open_after, tells_some, reading_same, read_failed, refused_none}

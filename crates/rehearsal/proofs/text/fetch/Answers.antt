@@ -1,5 +1,5 @@
 use Rattle.std.proofs.Common.{◌≡◌, ◌<◌, true, false, length, sym, ◌∙◌}
-use Rattle.fsw_outside.proofs.Telling.{told_map}
+use Rattle.fsw_outside.specs.TellingLaws.{told_map}
 use Rattle.scenario.specs.Standing.{closed}
 use Rattle.rehearsal.proofs.Pieces.{less_ended, less_unread, not_empty, ended_on, filled, read_filled}
 use Rattle.rehearsal.proofs.text.fetch.Goals as goal

@@ -1,5 +1,5 @@
 use Rattle.std.proofs.Common.{◌≡◌, ℕ, List, [], ◌∙◌, ap, subst, arith}
-use Rattle.fsw_outside.proofs.Telling.{told_then, told_map}
+use Rattle.fsw_outside.specs.TellingLaws.{told_then, told_map}
 use Rattle.rehearsal.specs.Fed.{Fed}
 use Rattle.rehearsal.specs.Text.{IsRead}
 use Rattle.rehearsal.proofs.Running.{read_still}

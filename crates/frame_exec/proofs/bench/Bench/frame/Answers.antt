@@ -1,7 +1,7 @@
 use Rattle.std.proofs.Common.{ℕ, List, ◌++◌, ◌∙◌, ap, subst, arith}
 use Rattle.frame_exec.specs.Runs.{run_of}
 use Rattle.fsw_outside.specs.Written.{AppendsPart}
-use Rattle.fsw_outside.proofs.Telling.{told_map}
+use Rattle.fsw_outside.specs.TellingLaws.{told_map}
 use Rattle.frame_exec.proofs.Frames.{lines_are, has_next, ready_next, can_land_still, upsets_mapped, time_fits}
 use Rattle.frame_exec.proofs.bench.Bench.frame.Goals as goal
 
