@@ -79,18 +79,22 @@ const WATCHES: [Watch; 21] = [
             lines: &[Line::Event("HS", 5, 0, 103, 3)],
         },
     },
-    // A missing counter is unchanged.
+    // A counter that jumps back has changed, and a missing one hasn't.
     Watch {
         apps: &[(1, "LOAD", 2, 2)],
         events: &[],
         counts: &[],
         actions: &[],
         rehearsal: Rehearsal {
-            frames: 3,
-            parts: &[&[(0, "app LOAD 5\n"), (2, "app LOAD 5\n")]],
+            frames: 4,
+            parts: &[&[
+                (0, "app LOAD 5\n"),
+                (1, "app LOAD 4\n"),
+                (3, "app LOAD 4\n"),
+            ]],
             lines: &[
-                Line::Event("HS", 2, 0, 102, 3),
-                Line::Text("2 restart LOAD"),
+                Line::Event("HS", 3, 0, 102, 3),
+                Line::Text("3 restart LOAD"),
             ],
         },
     },
@@ -512,4 +516,23 @@ fn each_entry_matches_each_event(rt: HostRuntime) -> Result<(), Fail> {
     let text = full_pipe(alloc)?;
     let log = restarts(alloc)?;
     assert_log_beside(&rt, &[&events], text.as_str(), 3, log.as_str())
+}
+
+// Each of 32 application monitors of one name looks at the counter of that name, and acts once.
+#[test]
+fn each_entry_watches_its_name(rt: HostRuntime) -> Result<(), Fail> {
+    let alloc = rt.alloc();
+    let mut entries = [(0, "LOAD", 1, 3); 32];
+    for i in 0..32 {
+        entries[i].0 = i + 1;
+    }
+    let apps = apps_file(alloc, &entries)?;
+    let mut text = String::from_str(alloc, HEADER)?;
+    text.push_str("app LOAD 7\ntick\napp LOAD 7\ntick\ntick\nend\n")?;
+    let mut log = String::new(alloc);
+    for count in 0..32u32 {
+        push_line(&mut log, Line::Event("HS", 1, count, 103, 3))?;
+    }
+    // The pipe of events takes all of them.
+    assert_log_beside(&rt, &[&apps], text.as_str(), 3, log.as_str())
 }
