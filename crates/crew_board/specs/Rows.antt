@@ -1,0 +1,47 @@
+-- The rows of the workers.
+use Rattle.std.specs.Prelude.{◌≡◌, ℕ, ◌<◌, ◌≤◌, All, Option, Some, List, [], ◌∷◌, ◌++◌, length, map, vec_len, vec_capacity}
+use Rattle.atomic_table.specs.Seated.{TableId}
+use Rattle.atomic_table.specs.declared.shared.Seat.{Seat}
+use Rattle.crew_board.specs.declared.board.View.{View}
+use Rattle.crew_board.specs.declared.row.Row.{Row}
+use Rattle.crew_board.specs.Board.{holding}
+use Rattle.crew_board.specs.Claim.{times_in}
+use Rattle.crew_board.specs.Work.{AreDone, AreDraws}
+
+-- A row has a scratch for each job, and room to note each.
+pub record FitsJobs {S : Type 0} (jobs : ℕ) (row : Row S) : Type 0 where
+  pub scratches : vec_len row.scratches ≡ jobs
+  pub room : jobs ≤ vec_capacity row.drawn
+
+-- What each row drew.
+abbrev pub draws_of : {S : Type 0} → List (Row S) → List (List ℕ)
+draws_of {S} rows = map (λ (row : Row S). row.drawn.items) rows
+
+-- The scratches of the first row.
+abbrev pub first_scratches : {S : Type 0} → List (Row S) → List S
+first_scratches [] = []
+first_scratches (row ∷ rows) = row.scratches.items
+
+-- A row whose worker did what it drew.
+pub record IsWorked {T S : Type 0} (leaves : T → S → Type 0) (tasks : List T) (row : Row S) : Type 0 where
+  pub fits : FitsJobs (length tasks) row
+  pub draws : AreDraws (length tasks) row.drawn.items
+  pub done : AreDone leaves tasks row.scratches.items row.drawn.items
+
+-- A row with a seat at this board that has this view.
+pub record HasSeat {S : Type 0} (id : TableId) (v : View) (row : Row S) : Type 0 where
+  pub seat : Seat ℕ View
+  pub is : row.seat ≡ Some seat
+  pub table : seat.table_id ≡ id
+  pub me : seat.me ≡ (v, [])
+
+-- A row whose seat drew what the row did, and then a number that is no job's.
+pub record HasEnded {S : Type 0} (id : TableId) (jobs : ℕ) (row : Row S) : Type 0 where
+  pub number : ℕ
+  pub past : jobs ≤ number
+  pub seat : HasSeat id (holding (row.drawn.items ++ number ∷ [])) row
+
+-- Rows that shared the jobs: each did what it drew, and each job was drawn exactly once.
+pub record AreShared {T S : Type 0} (leaves : T → S → Type 0) (tasks : List T) (rows : List (Row S)) : Type 0 where
+  pub worked : All (IsWorked leaves tasks) rows
+  pub once : (job : ℕ) → job < length tasks → times_in job (draws_of rows) ≡ 1

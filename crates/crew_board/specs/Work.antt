@@ -1,0 +1,23 @@
+-- What workers leave: scratches in the relation with their jobs, and lists of draws.
+use Rattle.std.specs.Prelude.{◌≡◌, ℕ, ◌<◌, List, length, slice_index, slice_index_or, All, SomeIndex, []}
+use Rattle.crew_board.specs.Claim.{IsStrictlyIncreasing}
+
+-- The scratch of a job is one that its task leaves.
+abbrev pub IsRight : {T S : Type 0} → (T → S → Type 0) → List T → List S → ℕ → Type 0
+IsRight {T} {S} leaves tasks scratches job = (t : T) (s : S) → slice_index_or tasks job t ≡ t → slice_index_or scratches job s ≡ s → leaves t s
+
+-- The scratch of each job of a list is.
+abbrev pub AreDone : {T S : Type 0} → (T → S → Type 0) → List T → List S → List ℕ → Type 0
+AreDone leaves tasks scratches jobs = (k : ℕ) → k < length jobs → IsRight leaves tasks scratches (slice_index jobs k)
+
+-- A scratch that was right stays right.
+abbrev pub StayRight : {T S : Type 0} → (T → S → Type 0) → List T → List S → List S → Type 0
+StayRight leaves tasks before now = (job : ℕ) → IsRight leaves tasks before job → IsRight leaves tasks now job
+
+-- Job numbers that rise.
+abbrev pub AreDraws : ℕ → List ℕ → Type 0
+AreDraws jobs numbers = IsStrictlyIncreasing numbers × All (λ job. job < jobs) numbers
+
+-- A number stands in some list.
+abbrev pub StandsIn : ℕ → List (List ℕ) → Type 0
+StandsIn number lists = SomeIndex lists (λ w. SomeIndex (slice_index_or lists w []) (λ k. slice_index (slice_index_or lists w []) k ≡ number))

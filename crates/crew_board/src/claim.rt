@@ -1,0 +1,63 @@
+//! The claim board is made, dealt out, drawn from and closed.
+
+ghost use Rattle.std.specs.Prelude.{◌≡◌, ◌<◌, ◌≤◌, length, All};
+ghost use Rattle.crew_board.specs.Rows.{FitsJobs, AreShared};
+
+use crate::board::Board;
+use crate::draw::draw_all;
+use crate::row::Row;
+use crate::seats::{collect, deal};
+use crate::task::{Scratch, Task};
+use crate::way::Way;
+use crate::work::forget_draws;
+use fsw_outside::Gate;
+use std::alloc::Global;
+use std::thread::Threads;
+
+/// All rows draw from a new board. Alone, with the rows as before, where there is no memory for it.
+fn draw_together<R: Threads + Sync, S: Scratch, T: Task<Work = S>, G: Gate>(
+    rt: &R,
+    alloc: Global,
+    tasks: &[T],
+    gate: &G,
+    rows: &mut [Row<S>],
+) -> Way
+    requires few { length tasks.now ≤ 64 }
+    requires workers { (0 < length rows.old) × (length rows.old ≤ 16) }
+    requires fits { All (FitsJobs (length tasks.now)) rows.old }
+    ensures len { length rows.new ≡ length rows.old }
+    ensures fits { All (FitsJobs (length tasks.now)) rows.new }
+    ensures shared { result ≡ Way.Shared → AreShared T.leaves tasks.now rows.new }
+{
+    let jobs = tasks.len() as u64;
+    let Ok((board, mut first)) = Board::of_words(alloc, &[0], &jobs) else {
+        return Way::Alone;
+    };
+    deal(&board.shared, tasks, &mut first, rows);
+    draw_all(rt, &board.shared, tasks, gate, rows);
+    collect(&board.shared, tasks, &mut first, rows);
+    let closed = board.close_with(first);
+    closed.free();
+    Way::Shared
+}
+
+/// At most as many rows as there are jobs draw; the others can't get one.
+pub(crate) fn share_jobs<R: Threads + Sync, S: Scratch, T: Task<Work = S>, G: Gate>(
+    rt: &R,
+    alloc: Global,
+    tasks: &[T],
+    gate: &G,
+    rows: &mut [Row<S>],
+) -> Way
+    requires few { (0 < length tasks.now) × (length tasks.now ≤ 64) }
+    requires workers { (0 < length rows.old) × (length rows.old ≤ 16) }
+    requires fits { All (FitsJobs (length tasks.now)) rows.old }
+    ensures len { length rows.new ≡ length rows.old }
+    ensures fits { All (FitsJobs (length tasks.now)) rows.new }
+    ensures shared { result ≡ Way.Shared → AreShared T.leaves tasks.now rows.new }
+{
+    let used = rows.len().min(tasks.len());
+    let (active, idle) = rows.split_at_mut(used);
+    forget_draws(tasks, idle);
+    draw_together(rt, alloc, tasks, gate, active)
+}

@@ -1,0 +1,10 @@
+//! How a crew went about its jobs.
+
+/// How a crew went about its jobs.
+#[derive(Clone, Copy, Debug, PartialEq, Eq)]
+pub enum Way {
+    /// The workers drew them from the claim board.
+    Shared,
+    /// There was no memory for a board: the caller did every job in order.
+    Alone,
+}

@@ -1,0 +1,78 @@
+//! A worker does jobs, and a caller does all of them.
+
+ghost use Rattle.std.specs.Prelude.{◌≡◌, ℕ, ◌<◌, ◌≤◌, ◌^◌, [], ◌∷◌, ◌++◌, length, replicate, All};
+ghost use Rattle.crew_board.specs.Work.{IsRight};
+ghost use Rattle.crew_board.specs.Rows.{FitsJobs, IsWorked, draws_of, first_scratches};
+
+use crate::row::Row;
+use crate::task::{Scratch, Task};
+use fsw_outside::Gate;
+
+/// Enters the gate, does the job on the row's scratch for it, and notes it.
+pub(crate) fn perform<S: Scratch, T: Task<Work = S>, G: Gate>(
+    tasks: &[T],
+    gate: &G,
+    row: &mut Row<S>,
+    job: u32,
+)
+    requires job { job < length tasks.now }
+    requires worked { IsWorked T.leaves tasks.now row.old }
+    requires new { All (λ earlier. earlier < job) row.old.drawn.items }
+    ensures worked { IsWorked T.leaves tasks.now row.new }
+    ensures drawn { row.new.drawn.items ≡ row.old.drawn.items ++ job ∷ [] }
+    ensures seat { row.new.seat ≡ row.old.seat }
+{
+    gate.enter(job);
+    let at = job as usize;
+    tasks[at].perform(&mut row.scratches[at]);
+    row.drawn.push_reserved(job);
+}
+
+/// Does every job on one row, in order.
+pub(crate) fn perform_all<S: Scratch, T: Task<Work = S>, G: Gate>(
+    tasks: &[T],
+    gate: &G,
+    row: &mut Row<S>,
+)
+    requires few { length tasks.now ≤ 64 }
+    requires fits { FitsJobs (length tasks.now) row.old }
+    ensures fits { FitsJobs (length tasks.now) row.new }
+    ensures done { (job : ℕ) → job < length tasks.now → IsRight T.leaves tasks.now row.new.scratches.items job }
+{
+    row.drawn.clear();
+    for job in 0..tasks.len() as u32 {
+        perform(tasks, gate, row, job);
+    }
+}
+
+/// Forgets what each row drew.
+pub(crate) fn forget_draws<S, T: Task<Work = S>>(tasks: &[T], rows: &mut [Row<S>])
+    requires { All (FitsJobs (length tasks.now)) rows.old }
+    ensures len { length rows.new ≡ length rows.old }
+    ensures worked { All (IsWorked T.leaves tasks.now) rows.new }
+    ensures draws { draws_of rows.new ≡ replicate (length rows.old) [] }
+    ensures scratches { first_scratches rows.new ≡ first_scratches rows.old }
+{
+    let _ = tasks;
+    for row in rows.iter_mut() {
+        row.drawn.clear();
+    }
+}
+
+/// Does every job on the first row, and leaves no draws.
+pub(crate) fn work_alone<S: Scratch, T: Task<Work = S>, G: Gate>(
+    tasks: &[T],
+    gate: &G,
+    rows: &mut [Row<S>],
+)
+    requires some_rows { 0 < length rows.old }
+    requires few { length tasks.now ≤ 64 }
+    requires fits { All (FitsJobs (length tasks.now)) rows.old }
+    ensures len { length rows.new ≡ length rows.old }
+    ensures worked { All (IsWorked T.leaves tasks.now) rows.new }
+    ensures draws { draws_of rows.new ≡ replicate (length rows.old) [] }
+    ensures done { (job : ℕ) → job < length tasks.now → IsRight T.leaves tasks.now (first_scratches rows.new) job }
+{
+    perform_all(tasks, gate, &mut rows[0]);
+    forget_draws(tasks, rows);
+}
