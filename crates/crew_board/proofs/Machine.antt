@@ -1,14 +1,14 @@
 -- Every schedule of the claim machine keeps what the law rests on.
-use Rattle.std.proofs.Common.{◌≡◌, ℕ, zero, suc, ◌+◌, ◌-◌, ◌<◌, ◌≤◌, ◌≢◌, ◌⊎◌, inl, inr, ⊎_elim, cond, eqb, Option, Some, None, IsSome, is_some, true≢false, List, [], ◌∷◌, ◌++◌, length, get_or, set, replicate, refl, sym, ap, ◌∙◌, subst, arith, All, length-set}
+use Rattle.std.proofs.Common.{◌≡◌, ℕ, zero, suc, ◌+◌, ◌<◌, ◌≤◌, ◌≢◌, ◌⊎◌, inl, inr, ⊎_elim, Option, Some, None, IsSome, is_some, true≢false, List, [], ◌∷◌, ◌++◌, length, get_or, set, replicate, refl, sym, ap, ◌∙◌, subst, arith, All, length-set}
 use Rattle.std.proofs.lemmas.Bool.{cases_eq, cases_lt}
-use Rattle.std.proofs.lemmas.List.{get_or_append_left, get_or_push, length_push, length-replicate, get_or-replicate, get_or-set_same, get_or-set_other, get_or_past, get_or_default}
+use Rattle.std.proofs.lemmas.List.{get_or_append_left, length_push, length-replicate, get_or-replicate, get_or-set_same, get_or-set_other, get_or_past, get_or_default}
 use Rattle.std.proofs.lemmas.List.Elements.{All-set, All-replicate}
 use Rattle.std.proofs.lemmas.List.Sums.{sum_by-set}
-use Rattle.crew_board.specs.Claim.{ClaimMachine, ClaimStep, list_of, last_of, result_of, opened, after, IsOpen, run, IsSchedule, IsFinished, times, times_in, IsStrictlyIncreasing, IsDone, ClaimLaw}
+use Rattle.crew_board.specs.Claim.{ClaimMachine, ClaimStep, list_of, last_of, result_of, opened, after, IsOpen, run, IsSchedule, IsFinished, times, times_in, IsStrictlyIncreasing, ClaimLaw}
 use Rattle.crew_board.specs.Claim.ClaimStep.{Draw, Perform}
 use Rattle.crew_board.specs.Board.{once_below}
 use Rattle.crew_board.specs.Work.{StandsIn}
-use Rattle.crew_board.proofs.Times.{one_if, one_if_same, times_push, below_is, not_below_is, below_more, stands, found_in, all_below, rises_push, rises_none}
+use Rattle.crew_board.proofs.Times.{times_push, below_is, not_below_is, below_more, found_in, all_below, rises_push, rises_none}
 
 -- all but the last number of a list are jobs that were performed
 abbrev EarlyDone : ℕ → List (Option ℕ) → List ℕ → Type 0

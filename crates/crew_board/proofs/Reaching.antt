@@ -1,18 +1,17 @@
 -- Lists in which each number below the next one stands once are reached by the claim machine: the last number is the last of its list; without it
 -- the lists are reached, and then its worker draws it and, where it is a job's, performs it.
-use Rattle.std.proofs.Common.{◌≡◌, ℕ, zero, suc, ◌+◌, ◌-◌, ◌<◌, ◌≤◌, ◌≢◌, ◌⊎◌, inl, inr, ⊎_elim, add-one, eq-zero-or-pos, Option, Some, None, IsSome, List, [], ◌∷◌, ◌++◌, length, get_or, set, take, replicate, slice_index, flat_map, refl, sym, ap, ◌∙◌, subst, arith, All, sum_by, length-set}
+use Rattle.std.proofs.Common.{◌≡◌, ℕ, zero, suc, ◌+◌, ◌-◌, ◌<◌, ◌≤◌, ◌≢◌, ◌⊎◌, inl, inr, ⊎_elim, add-one, eq-zero-or-pos, Option, Some, None, IsSome, List, [], ◌∷◌, ◌++◌, length, get_or, set, take, replicate, slice_index, refl, sym, ap, ◌∙◌, subst, arith, All, sum_by, length-set}
 use Rattle.std.proofs.lemmas.Bool.{cases_eq, cases_lt}
-use Rattle.std.proofs.lemmas.List.{get_or_append_left, get_or_push, get_or_default, length_push, length-replicate, get_or-set_same, get_or-set_other, set-set, set-get_or, take_all, take_more, nil_from_length, same_lists, get_or-replicate}
+use Rattle.std.proofs.lemmas.List.{get_or_append_left, get_or_push, get_or_default, length_push, length-replicate, get_or-set_same, set-set, set-get_or, take_all, take_more, nil_from_length, same_lists, get_or-replicate}
 use Rattle.std.proofs.lemmas.List.Elements.{All-nil, All-append, All-set, All-head, All-tail}
-use Rattle.std.proofs.lemmas.List.Sums.{sum_by-cons, sum_by-append, sum_by-set, get_or-le-sum_by}
-use Rattle.atomic_table.specs.Table.{State}
+use Rattle.std.proofs.lemmas.List.Sums.{sum_by-cons, sum_by-append, sum_by-set}
 use Rattle.crew_board.specs.declared.board.View.{View}
 use Rattle.crew_board.specs.Claim.{ClaimMachine, ClaimStep, list_of, last_of, result_of, opened, after, IsOpen, run, IsSchedule, times, times_in, IsStrictlyIncreasing}
 use Rattle.crew_board.specs.Claim.ClaimStep.{Draw, Perform}
-use Rattle.crew_board.specs.Board.{once_below, IsDrawing, Keeps}
-use Rattle.crew_board.specs.Reach.{all_lists, IsReached, BoardLaw}
+use Rattle.crew_board.specs.Board.{once_below, IsDrawing}
+use Rattle.crew_board.specs.Reach.{all_lists, BoardLaw}
 use Rattle.crew_board.proofs.Machine.{some_set, some_here}
-use Rattle.crew_board.proofs.Times.{one_if, times_push, below_is, not_below_is, below_more, stands, found_in, all_below, rises_front, rises_last}
+use Rattle.crew_board.proofs.Times.{times_push, below_is, below_more, found_in, all_below, rises_front, rises_last}
 
 -- a step more
 run_more : (gives : ℕ → ℕ) (s : ClaimMachine) (steps : List ClaimStep) (step : ClaimStep) → run gives s (steps ++ step ∷ []) ≡ after gives (run gives s steps) step

@@ -1,5 +1,5 @@
 -- Rows side by side, and one by one.
-use Rattle.std.proofs.Common.{◌≡◌, ℕ, zero, suc, ◌+◌, ◌<◌, ◌≤◌, List, [], ◌∷◌, ◌++◌, length, get_or, set, take, drop, map, replicate, refl, sym, ap, ap₂, ◌∙◌, subst, arith, All}
+use Rattle.std.proofs.Common.{◌≡◌, ℕ, zero, suc, ◌+◌, ◌<◌, List, [], ◌∷◌, ◌++◌, length, get_or, set, take, drop, map, replicate, refl, sym, ap, ap₂, ◌∙◌, subst, arith, All}
 use Rattle.std.specs.Fork.{IsChunk}
 use Rattle.std.proofs.lemmas.List.{length-map, take_at, map-append, map-set, get_or-map, set-get_or}
 use Rattle.std.proofs.lemmas.List.Elements.{All-append, All-map}

@@ -1,5 +1,5 @@
 -- Each kind of step on the board keeps its rule.
-use Rattle.std.proofs.Common.{◌≡◌, ℕ, zero, suc, ◌+◌, ◌-◌, ◌*◌, ◌<◌, ◌≤◌, ◌≢◌, ◌⊎◌, ⊎_elim, Bool, true, false, true≢false, cond, List, [], ◌∷◌, ◌++◌, length, get_or, set, refl, sym, ap, ◌∙◌, subst, arith, All, sum_by, mul-add}
+use Rattle.std.proofs.Common.{◌≡◌, ℕ, zero, suc, ◌+◌, ◌-◌, ◌*◌, ◌<◌, ◌≤◌, ◌≢◌, ⊎_elim, Bool, true, true≢false, cond, List, [], ◌∷◌, ◌++◌, length, get_or, set, refl, sym, ap, ◌∙◌, subst, arith, All, sum_by, mul-add}
 use mathlib.Core.Option.{some, some-injective, some-ne-none}
 use lib.ListN.{get_elem?}
 use Rattle.atomic_table.proofs.Lists.{set_else}
@@ -8,9 +8,9 @@ use Rattle.std.proofs.lemmas.List.{get_or_append_left, get_or_default, length_pu
 use Rattle.std.proofs.lemmas.List.Elements.{All-nil, All-cons, All-head, All-tail, All-set, All-push}
 use Rattle.std.proofs.lemmas.List.Sums.{sum_by-cons, sum_by_push, sum_by-set, sum_by-le, get_or-le-sum_by}
 use Rattle.crew_board.specs.declared.board.View.{View}
-use Rattle.crew_board.specs.Claim.{times, times_in, IsStrictlyIncreasing}
-use Rattle.crew_board.specs.Board.{started, seated, spent_view, holding, split_once_more, joined, mark_of, lists_of, numbers_of, once_below, IsProper, IsDrawing, Kept}
-use Rattle.crew_board.proofs.Times.{one_if, times_push, times_in_push, below_is, not_below_is, below_more, stands, rises_push, rises_none, rises_at}
+use Rattle.crew_board.specs.Claim.{times, times_in}
+use Rattle.crew_board.specs.Board.{seated, spent_view, holding, split_once_more, joined, mark_of, lists_of, numbers_of, once_below, IsProper, IsDrawing, Kept}
+use Rattle.crew_board.proofs.Times.{times_push, times_in_push, not_below_is, below_more, stands, rises_push, rises_none, rises_at}
 
 module _ {A : Type 0} where
   -- the element at a place

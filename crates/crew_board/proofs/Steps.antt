@@ -1,14 +1,10 @@
 -- What the table asks of each kind of step on the board.
-use Rattle.std.proofs.Common.{◌≡◌, ℕ, ◌+◌, ◌*◌, ◌%◌, ◌^◌, ◌<◌, ◌≤◌, ◌≢◌, Bool, true, List, [], ◌∷◌, ◌++◌, length, get_or, set, slice_index, slice_set, refl, sym, ap, ◌∙◌, subst, arith, All, length-set, mod-eq_of_lt}
-use mathlib.Core.Option.{Option, some}
-use lib.ListN.{get_elem?}
+use Rattle.std.proofs.Common.{◌≡◌, ℕ, ◌+◌, ◌%◌, ◌^◌, ◌<◌, ◌≤◌, true, List, [], ◌∷◌, ◌++◌, length, slice_index, slice_set, refl, sym, ap, ◌∙◌, subst, arith, All, length-set, mod-eq_of_lt}
 use Rattle.std.proofs.lemmas.List.{get_or-set_same}
 use Rattle.std.proofs.lemmas.List.Elements.{All-nil, All-cons}
-use Rattle.std.proofs.lemmas.List.Sums.{sum_by-cons}
-use Rattle.atomic_table.specs.Table.{State, Me, Act, Allows, Splits, Joins, opening}
+use Rattle.atomic_table.specs.Table.{Me, Allows, Splits, Joins, opening}
 use Rattle.atomic_table.specs.Table.Act.{keeps}
 use Rattle.crew_board.specs.declared.board.View.{View}
-use Rattle.crew_board.specs.Claim.{times_in}
 use Rattle.crew_board.specs.Board.{started, seated, spent_view, holding, split_once_more, joined, drawn_by, DrawsOne, IsProper, IsDrawing, Kept, Keeps}
 use Rattle.crew_board.proofs.Times.{not_below_is}
 use Rattle.crew_board.proofs.Ruled.{view_below, draw_keeps, split_keeps, join_keeps, word_small}

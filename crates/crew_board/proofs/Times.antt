@@ -1,9 +1,8 @@
 -- How often a number stands in lists that grow, and lists that rise.
-use Rattle.std.proofs.Common.{◌≡◌, ℕ, zero, suc, ◌+◌, ◌-◌, ◌<◌, ◌≤◌, ◌≢◌, ◌⊎◌, ⊎_elim, cond, eqb, ltb, List, [], ◌∷◌, ◌++◌, length, get_or, set, refl, ap, arith, All, SomeIndex, eq-eqb, ne_eqb, lt-ltb, le-ltb, eq-zero-or-pos}
+use Rattle.std.proofs.Common.{◌≡◌, ℕ, zero, suc, ◌+◌, ◌-◌, ◌<◌, ◌≤◌, ◌≢◌, ⊎_elim, cond, eqb, ltb, List, [], ◌∷◌, ◌++◌, length, get_or, refl, arith, All, SomeIndex, eq-eqb, ne_eqb, lt-ltb, le-ltb, eq-zero-or-pos}
 use Rattle.std.proofs.lemmas.Bool.{cases_eq, cases_lt, cond-true, cond-false}
-use Rattle.std.proofs.lemmas.Bool.Decides.{nat_tests}
 use Rattle.std.proofs.lemmas.List.{get_or_append_left, get_or_push, get_or_default, length_push}
-use Rattle.std.proofs.lemmas.List.Sums.{sum_by-cons, sum_by_push, sum_by-append, sum_by-set, get_or-le-sum_by}
+use Rattle.std.proofs.lemmas.List.Sums.{sum_by-cons, sum_by_push, get_or-le-sum_by}
 use Rattle.crew_board.specs.Claim.{times, times_in, IsStrictlyIncreasing}
 use Rattle.crew_board.specs.Board.{once_below}
 use Rattle.crew_board.specs.Work.{StandsIn}

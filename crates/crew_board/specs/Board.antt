@@ -1,5 +1,5 @@
 -- What the seats at the claim board know, how each step changes it, and the rule that every step keeps.
-use Rattle.std.specs.Prelude.{◌≡◌, ℕ, ◌+◌, ◌*◌, ◌<◌, ◌≤◌, Bool, true, false, if◌then◌else◌, nat_lt, List, [], ◌∷◌, ◌++◌, length, map, slice_index, All, sum_by}
+use Rattle.std.specs.Prelude.{◌≡◌, ℕ, ◌+◌, ◌*◌, ◌<◌, ◌≤◌, true, false, if◌then◌else◌, nat_lt, List, [], ◌∷◌, ◌++◌, length, map, slice_index, All, sum_by}
 use Rattle.atomic_table.specs.Table.{State, Me}
 use Rattle.crew_board.specs.declared.board.View.{View}
 use Rattle.crew_board.specs.Claim.{times_in, IsStrictlyIncreasing}

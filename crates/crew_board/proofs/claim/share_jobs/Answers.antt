@@ -1,4 +1,3 @@
-use Rattle.std.proofs.Common.{length}
 use Rattle.crew_board.proofs.Rows.{shared_with_idle}
 use Rattle.crew_board.proofs.claim.share_jobs.Goals as goal
 

@@ -1,4 +1,4 @@
-use Rattle.std.proofs.Common.{◌≡◌, ℕ, [], vec_len, All}
+use Rattle.std.proofs.Common.{◌≡◌, [], vec_len, All}
 use Rattle.crew_board.specs.declared.row.Row.{Row}
 use Rattle.crew_board.specs.Rows.{FitsJobs}
 use Rattle.crew_board.proofs.crew.open_rows.Given as goal

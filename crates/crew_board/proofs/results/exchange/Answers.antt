@@ -1,4 +1,4 @@
-use Rattle.std.proofs.Common.{◌≡◌, ℕ, ◌<◌, length, get_or, refl, ◌∙◌, arith, length-set}
+use Rattle.std.proofs.Common.{ℕ, ◌<◌, length, get_or, refl, ◌∙◌, arith, length-set}
 use Rattle.std.proofs.lemmas.List.{get_or_default}
 use Rattle.crew_board.proofs.Exchanges.{exchanged_more}
 use Rattle.crew_board.proofs.results.exchange.Goals as goal

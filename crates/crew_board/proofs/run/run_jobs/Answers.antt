@@ -1,4 +1,4 @@
-use Rattle.std.proofs.Common.{◌≡◌, ℕ, ◌<◌, ◌∙◌, refl, arith}
+use Rattle.std.proofs.Common.{refl, arith}
 use Rattle.crew_board.specs.Rows.{draws_of}
 use Rattle.crew_board.proofs.Rows.{shared_left}
 use Rattle.crew_board.proofs.Times.{found_in}

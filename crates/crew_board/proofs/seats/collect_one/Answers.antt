@@ -1,9 +1,8 @@
-use Rattle.std.proofs.Common.{◌≡◌, ℕ, List, [], ◌∷◌, ◌++◌, sym, ap, ◌∙◌, arith}
+use Rattle.std.proofs.Common.{◌≡◌, ℕ, [], ◌∷◌, ◌++◌, sym, ap, ◌∙◌, arith}
 use Rattle.std.proofs.lemmas.Option.{same_Some}
 use Rattle.atomic_table.specs.Table.{Me}
 use Rattle.atomic_table.specs.declared.shared.Seat.{Seat}
 use Rattle.crew_board.specs.declared.board.View.{View}
-use Rattle.crew_board.specs.Board.{holding}
 use Rattle.crew_board.proofs.Steps.{joins_one}
 use Rattle.crew_board.proofs.seats.collect_one.Goals as goal
 

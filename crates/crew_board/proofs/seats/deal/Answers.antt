@@ -1,4 +1,4 @@
-use Rattle.std.proofs.Common.{◌≡◌, ℕ, ◌<◌, true, ap, arith}
+use Rattle.std.proofs.Common.{◌≡◌, ℕ, true, ap, arith}
 use Rattle.atomic_table.specs.Table.{Me}
 use Rattle.crew_board.specs.declared.board.View.{View}
 use Rattle.crew_board.proofs.Steps.{splits}

@@ -1,4 +1,4 @@
-use Rattle.std.proofs.Common.{◌≡◌, ℕ, List, [], length, replicate, ap, ◌∙◌, arith}
+use Rattle.std.proofs.Common.{ℕ, List, [], replicate, ap, ◌∙◌, arith}
 use Rattle.crew_board.proofs.Rows.{none_drew}
 use Rattle.crew_board.proofs.work.forget_draws.Goals as goal
 

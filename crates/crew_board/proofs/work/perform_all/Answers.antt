@@ -1,4 +1,4 @@
-use Rattle.std.proofs.Common.{◌≡◌, ℕ, ◌<◌, length, arith, subst}
+use Rattle.std.proofs.Common.{ℕ, ◌<◌, arith, subst}
 use Rattle.crew_board.specs.Work.{IsRight}
 use Rattle.crew_board.proofs.work.perform_all.Goals as goal
 

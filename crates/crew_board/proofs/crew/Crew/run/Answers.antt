@@ -1,7 +1,7 @@
 use Rattle.std.proofs.Common.{◌≡◌, ℕ, ◌<◌, List, length, sym, ◌∙◌, subst, arith}
 use Rattle.crew_board.specs.declared.row.Row.{Row}
 use Rattle.crew_board.specs.Work.{IsRight}
-use Rattle.crew_board.specs.Rows.{FitsJobs, first_scratches}
+use Rattle.crew_board.specs.Rows.{first_scratches}
 use Rattle.crew_board.proofs.Rows.{first_fits, written_over}
 use Rattle.crew_board.proofs.crew.Crew.run.Goals as goal
 
