@@ -2,8 +2,9 @@
 use Rattle.std.proofs.Common.{◌≡◌, ℕ, zero, suc, ◌+◌, ◌<◌, List, [], ◌∷◌, ◌++◌, length, get_or, set, take, drop, map, replicate, refl, sym, ap, ap₂, ◌∙◌, subst, arith, All}
 use Rattle.std.specs.Fork.{IsChunk}
 use Rattle.std.proofs.lemmas.List.{length-map, take_at, map-append, map-set, get_or-map, set-get_or}
-use Rattle.std.proofs.lemmas.List.Elements.{All-append, All-map}
+use Rattle.std.proofs.lemmas.List.Elements.{All-nil, All-cons, All-append, All-map}
 use Rattle.std.proofs.lemmas.List.Sums.{sum_by-append}
+use Rattle.crew_board.proofs.Times.{times_in-cons, times_in_order}
 use Rattle.crew_board.specs.declared.row.Row.{Row}
 use Rattle.crew_board.specs.Claim.{times, times_in}
 use Rattle.crew_board.specs.declared.way.Way.TheVariants.{Shared}
@@ -63,3 +64,17 @@ first_fits jobs (row ∷ rows) some_ fits = let here = (fits 0 row (omega arith)
 -- all elements of a list, written over another that is as long
 pub written_over : {A : Type 0} (old new : List A) (n : ℕ) → length new ≡ n → take n (new ++ drop (length new) old) ≡ new
 written_over old new n count = take_at new (drop (length new) old) n count
+
+-- one row that did all jobs in order
+pub one_shared : {T S : Type 0} (leaves : T → S → Type 0) (tasks : List T) (row : Row S) → IsWorked leaves tasks row → length row.drawn.items ≡ length tasks
+    → ((k : ℕ) → k < length tasks → get_or row.drawn.items k 0 ≡ k) → AreShared leaves tasks (row ∷ [])
+one_shared leaves tasks row worked len is = record {
+  worked = All-cons (IsWorked leaves tasks) row [] worked (All-nil (IsWorked leaves tasks));
+  once = λ job h. (let one = times_in_order (length tasks) job row.drawn.items worked.draws.0 len is h in let c = times_in-cons job row.drawn.items [] in omega arith);
+}
+
+-- the only element of a list, replaced
+pub only_set : {A : Type 0} (l : List A) (a : A) → length l ≡ 1 → set l 0 a ≡ a ∷ []
+only_set [] a one = absurd (omega arith)
+only_set (x ∷ []) a one = refl
+only_set (x ∷ y ∷ l) a one = absurd (omega arith)

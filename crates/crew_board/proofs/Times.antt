@@ -137,3 +137,28 @@ rises_few l n rises below =
     (λ (some_ : 0 < length l).
     let at = rises_at l rises (length l - 1) (omega arith) in let last = below (length l - 1) 0 (omega arith) in omega arith)
     (eq-zero-or-pos (length l))
+
+-- a number stands at most once in a list that rises
+rises_tail : (x : ℕ) (l : List ℕ) → IsStrictlyIncreasing (x ∷ l) → IsStrictlyIncreasing l
+rises_tail x l rises i j before in_list = rises (suc i) (suc j) (omega arith) (omega arith)
+
+pub times_rising : (number : ℕ) (l : List ℕ) → IsStrictlyIncreasing l → times number l ≤ 1
+times_rising number [] rises = omega arith
+times_rising number (x ∷ l) rises =
+    let c = times-cons number x l in
+    ⊎_elim
+    (λ (e : x ≡ number).
+    let one = one_if_same x number e in
+    ⊎_elim
+    (λ (none : times number l ≡ 0). omega arith)
+    (λ (some_ : 0 < times number l).
+    let later = found number l some_ in
+    let r = rises 0 (suc later.0) (omega arith) (let h = later.1 in omega arith) in
+    let is = later.2 in absurd (omega arith))
+    (eq-zero-or-pos (times number l)))
+    (λ (ne : x ≢ number). let none = one_if_other x number ne in let later = times_rising number l (rises_tail x l rises) in omega arith)
+    (cases_eq x number)
+
+-- each number stands once in the list of the first ones
+pub times_in_order : (n number : ℕ) (l : List ℕ) → IsStrictlyIncreasing l → length l ≡ n → ((k : ℕ) → k < n → get_or l k 0 ≡ k) → number < n → times number l ≡ 1
+times_in_order n number l rises len is h = let most = times_rising number l rises in let here = stands number l number (omega arith) (is number h) in omega arith

@@ -9,7 +9,7 @@ use crate::row::Row;
 use crate::seats::{collect, deal};
 use crate::task::{Scratch, Task};
 use crate::way::Way;
-use crate::work::forget_draws;
+use crate::work::{forget_draws, perform_all};
 use fsw_outside::Gate;
 use std::alloc::Global;
 use std::thread::Threads;
@@ -41,7 +41,18 @@ fn draw_together<R: Threads + Sync, S: Scratch, T: Task<Work = S>, G: Gate>(
     Way::Shared
 }
 
-/// At most as many rows as there are jobs draw; the others can't get one.
+/// The only row takes all jobs in order: nobody else draws.
+fn take_all<S: Scratch, T: Task<Work = S>, G: Gate>(tasks: &[T], gate: &G, rows: &mut [Row<S>])
+    requires few { length tasks.now ≤ 64 }
+    requires one { length rows.old ≡ 1 }
+    requires fits { All (FitsJobs (length tasks.now)) rows.old }
+    ensures len { length rows.new ≡ length rows.old }
+    ensures shared { AreShared T.leaves tasks.now rows.new }
+{
+    perform_all(tasks, gate, &mut rows[0]);
+}
+
+/// At most as many rows as there are jobs draw; the others can't get one. One row needs no board.
 pub(crate) fn share_jobs<R: Threads + Sync, S: Scratch, T: Task<Work = S>, G: Gate>(
     rt: &R,
     alloc: Global,
@@ -59,5 +70,9 @@ pub(crate) fn share_jobs<R: Threads + Sync, S: Scratch, T: Task<Work = S>, G: Ga
     let used = rows.len().min(tasks.len());
     let (active, idle) = rows.split_at_mut(used);
     forget_draws(tasks, idle);
+    if used == 1 {
+        take_all(tasks, gate, active);
+        return Way::Shared;
+    }
     draw_together(rt, alloc, tasks, gate, active)
 }

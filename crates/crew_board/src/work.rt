@@ -1,6 +1,6 @@
 //! A worker does jobs, and a caller does all of them.
 
-ghost use Rattle.std.specs.Prelude.{◌≡◌, ℕ, ◌<◌, ◌≤◌, ◌^◌, [], ◌∷◌, ◌++◌, length, replicate, All};
+ghost use Rattle.std.specs.Prelude.{◌≡◌, ℕ, ◌<◌, ◌≤◌, ◌^◌, [], ◌∷◌, ◌++◌, length, replicate, slice_index, All};
 ghost use Rattle.crew_board.specs.Work.{IsRight};
 ghost use Rattle.crew_board.specs.Rows.{FitsJobs, IsWorked, draws_of, first_scratches};
 
@@ -36,7 +36,8 @@ pub(crate) fn perform_all<S: Scratch, T: Task<Work = S>, G: Gate>(
 )
     requires few { length tasks.now ≤ 64 }
     requires fits { FitsJobs (length tasks.now) row.old }
-    ensures fits { FitsJobs (length tasks.now) row.new }
+    ensures worked { IsWorked T.leaves tasks.now row.new }
+    ensures in_order { (length row.new.drawn.items ≡ length tasks.now) × ((k : ℕ) → k < length tasks.now → slice_index row.new.drawn.items k ≡ k) }
     ensures done { (job : ℕ) → job < length tasks.now → IsRight T.leaves tasks.now row.new.scratches.items job }
 {
     row.drawn.clear();
