@@ -1,5 +1,5 @@
 -- Every schedule of the claim machine keeps what the law rests on.
-use Rattle.std.proofs.Common.{◌≡◌, ℕ, zero, suc, ◌+◌, ◌<◌, ◌≤◌, ◌≢◌, ◌⊎◌, inl, inr, ⊎_elim, Option, Some, None, IsSome, is_some, true≢false, List, [], ◌∷◌, ◌++◌, length, get_or, set, replicate, refl, sym, ap, ◌∙◌, subst, arith, All, length-set}
+use Rattle.std.proofs.Common.{◌≡◌, ℕ, ◌+◌, ◌<◌, ◌≤◌, ◌≢◌, ◌⊎◌, inl, inr, ⊎_elim, Option, Some, None, IsSome, is_some, true≢false, List, [], ◌∷◌, ◌++◌, length, get_or, set, replicate, refl, sym, ap, ◌∙◌, subst, arith, All, length-set}
 use Rattle.std.proofs.lemmas.Bool.{cases_eq, cases_lt}
 use Rattle.std.proofs.lemmas.List.{get_or_append_left, length_push, length-replicate, get_or-replicate, get_or-set_same, get_or-set_other, get_or_past, get_or_default}
 use Rattle.std.proofs.lemmas.List.Elements.{All-set, All-replicate}
@@ -8,7 +8,7 @@ use Rattle.crew_board.specs.Claim.{ClaimMachine, ClaimStep, list_of, last_of, re
 use Rattle.crew_board.specs.Claim.ClaimStep.{Draw, Perform}
 use Rattle.crew_board.specs.Board.{once_below}
 use Rattle.crew_board.specs.Work.{StandsIn}
-use Rattle.crew_board.proofs.Times.{times_push, below_is, not_below_is, below_more, found_in, all_below, rises_push, rises_none}
+use Rattle.crew_board.proofs.Times.{times_in_none, times_push, below_is, not_below_is, below_more, found_in, all_below, rises_push, rises_none}
 
 -- all but the last number of a list are jobs that were performed
 abbrev EarlyDone : ℕ → List (Option ℕ) → List ℕ → Type 0
@@ -25,11 +25,6 @@ record Sound (gives : ℕ → ℕ) (jobs workers : ℕ) (s : ClaimMachine) : Typ
   rising : All IsStrictlyIncreasing s.drawn
   early : All (EarlyDone jobs s.results) s.drawn
   right : (k : ℕ) → IsRightOrNone gives s.results k
-
--- the lists of workers that drew nothing
-times_in_none : (k workers : ℕ) → times_in k (replicate {A = List ℕ} workers []) ≡ 0
-times_in_none k zero = refl
-times_in_none k (suc workers) = times_in_none k workers
 
 opened_results : (gives : ℕ → ℕ) (jobs k : ℕ) → IsRightOrNone gives (replicate {A = Option ℕ} jobs None) k
 opened_results gives jobs k =

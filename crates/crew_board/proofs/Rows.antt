@@ -1,10 +1,10 @@
 -- Rows side by side, and one by one.
-use Rattle.std.proofs.Common.{◌≡◌, ℕ, zero, suc, ◌+◌, ◌<◌, List, [], ◌∷◌, ◌++◌, length, get_or, set, take, drop, map, replicate, refl, sym, ap, ap₂, ◌∙◌, subst, arith, All}
+use Rattle.std.proofs.Common.{◌≡◌, ℕ, suc, ◌+◌, ◌<◌, List, [], ◌∷◌, ◌++◌, length, get_or, set, take, drop, map, replicate, refl, sym, ap, ap₂, ◌∙◌, subst, arith, All}
 use Rattle.std.specs.Fork.{IsChunk}
 use Rattle.std.proofs.lemmas.List.{length-map, take_at, map-append, map-set, get_or-map, set-get_or}
 use Rattle.std.proofs.lemmas.List.Elements.{All-nil, All-cons, All-append, All-map}
 use Rattle.std.proofs.lemmas.List.Sums.{sum_by-append}
-use Rattle.crew_board.proofs.Times.{times_in-cons, times_in_order}
+use Rattle.crew_board.proofs.Times.{times_in_none, times_in-cons, times_in_order}
 use Rattle.crew_board.specs.declared.row.Row.{Row}
 use Rattle.crew_board.specs.Claim.{times, times_in}
 use Rattle.crew_board.specs.declared.way.Way.TheVariants.{Shared}
@@ -15,11 +15,6 @@ use Rattle.crew_board.specs.Ways.{AreLeft}
 -- a fact of all rows, in a part of them
 pub all_in_chunk : {X : Type 0} (P : X → Type 0) (xs ys : List X) (size start : ℕ) → All P xs → IsChunk xs size start ys → All P ys
 all_in_chunk P xs ys size start all chunk k d h = subst P (sym (chunk.elements k d h)) (all (start + k) d (let b = chunk.in_bounds in omega arith))
-
--- nothing stands in the lists of those that drew nothing
-times_in_none : (number count : ℕ) → times_in number (replicate {A = List ℕ} count []) ≡ 0
-times_in_none number zero = refl
-times_in_none number (suc count) = times_in_none number count
 
 -- rows that shared the jobs, and others that drew nothing
 pub shared_with_idle : {T S : Type 0} (leaves : T → S → Type 0) (tasks : List T) (active idle : List (Row S)) (count : ℕ) → AreShared leaves tasks active → All (IsWorked leaves tasks) idle

@@ -1,5 +1,5 @@
 -- How often a number stands in lists that grow, and lists that rise.
-use Rattle.std.proofs.Common.{◌≡◌, ℕ, zero, suc, ◌+◌, ◌-◌, ◌<◌, ◌≤◌, ◌≢◌, ⊎_elim, cond, eqb, ltb, List, [], ◌∷◌, ◌++◌, length, get_or, refl, arith, All, SomeIndex, eq-eqb, ne_eqb, lt-ltb, le-ltb, eq-zero-or-pos}
+use Rattle.std.proofs.Common.{◌≡◌, ℕ, zero, suc, ◌+◌, ◌-◌, ◌<◌, ◌≤◌, ◌≢◌, ⊎_elim, cond, eqb, ltb, List, [], ◌∷◌, ◌++◌, length, get_or, replicate, refl, arith, All, SomeIndex, eq-eqb, ne_eqb, lt-ltb, le-ltb, eq-zero-or-pos}
 use Rattle.std.proofs.lemmas.Bool.{cases_eq, cases_lt, cond-true, cond-false}
 use Rattle.std.proofs.lemmas.List.{get_or_append_left, get_or_push, get_or_default, length_push}
 use Rattle.std.proofs.lemmas.List.Sums.{sum_by-cons, sum_by_push, get_or-le-sum_by}
@@ -28,6 +28,11 @@ times_in-cons number l ls = sum_by-cons (times number) l ls
 
 pub times_in_push : (number : ℕ) (ls : List (List ℕ)) (l : List ℕ) → times_in number (ls ++ l ∷ []) ≡ times_in number ls + times number l
 times_in_push number ls l = sum_by_push (times number) ls l
+
+-- nothing stands in the lists of those that drew nothing
+pub times_in_none : (number count : ℕ) → times_in number (replicate {A = List ℕ} count []) ≡ 0
+times_in_none number zero = refl
+times_in_none number (suc count) = times_in_none number count
 
 pub below_is : (number next : ℕ) → number < next → once_below number next ≡ 1
 below_is number next h = cond-true (ltb number next) 1 0 (lt-ltb number next h)
