@@ -1,0 +1,11 @@
+pub mod Fronts
+pub mod Progress
+pub mod Flags
+pub mod Orders
+pub mod Sorting
+pub mod Stored
+pub mod Spelled
+pub mod Spellings
+pub mod Joined
+pub mod Indexed
+pub mod Grammars

@@ -1,0 +1,10 @@
+pub mod Reasons
+pub mod Heads
+pub mod Grammar
+pub mod Absolute
+pub mod Relative
+pub mod Places
+pub mod Commands
+pub mod Sequences
+pub mod Spelling
+pub mod Rows
