@@ -1,7 +1,6 @@
 -- What was read of a payload so far, one entry at a time.
-use Rattle.std.proofs.Common.{◌≡◌, ℕ, zero, suc, ◌+◌, ◌-◌, ◌<◌, ◌≤◌, true, false, List, [], ◌∷◌, ◌++◌, length, drop, Option, Some, None, Ok, Err, refl, ap, ◌∙◌, add-one, arith, length-drop}
+use Rattle.std.proofs.Common.{◌≡◌, ℕ, zero, suc, ◌+◌, ◌-◌, ◌<◌, ◌≤◌, true, false, List, [], ◌∷◌, ◌++◌, length, drop, Some, None, Ok, Err, refl, ap, ◌∙◌, add-one, arith, length-drop}
 use Rattle.std.proofs.lemmas.List.{drop-drop, length_push}
-use Rattle.std.specs.Prelude.{is_none}
 use Rattle.sc_tables.specs.declared.reasons.EntryReason.{EntryReason}
 use Rattle.sc_tables.specs.Reasons.{reason_number}
 use Rattle.sc_tables.specs.Grammar.{EntryForm, is_end, read_from, read_of}
@@ -21,10 +20,6 @@ pub from_entry : {E : Type 0} (form : EntryForm E) (most : ℕ) (done : List E) 
     → read_from form (most + 1) done bytes ≡ read_from form most (done ++ form.entry bytes ∷ []) (drop (form.size bytes) bytes)
 unfolding read_from
 from_entry form most done bytes going sound = rw (add-one, going, sound) refl
-
-pub none_is : {A : Type 0} (o : Option A) → is_none o ≡ true → o ≡ None
-none_is None none = refl
-none_is (Some a) none = cc
 
 -- where no end is, a byte is left
 pub some_left : (bytes : List ℕ) → is_end bytes ≡ false → 0 < length bytes
