@@ -1,0 +1,17 @@
+pub mod Soonest
+pub mod Changes
+pub mod Nexts
+pub mod Ordering
+pub mod Takes
+pub mod Waking
+pub mod Firsts
+pub mod Departing
+pub mod Resting
+pub mod Loaded
+pub mod Reaching
+pub mod Refusing
+pub mod Sending
+pub mod Beginning
+pub mod Showing
+pub mod Idling
+pub mod Activating

@@ -1,0 +1,13 @@
+pub mod Messages
+pub mod Instructions
+pub mod Sequences
+pub mod Orders
+pub mod Verdicts
+pub mod Turns
+pub mod Histories
+pub mod Housekeeping
+pub mod Step
+pub mod Cursors
+pub mod State
+pub mod Rows
+pub mod Laws

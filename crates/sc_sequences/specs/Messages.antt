@@ -1,0 +1,40 @@
+-- Stored Command's name, the codes of its commands, and its events that no command gives.
+use Rattle.std.specs.Prelude.{ℕ, List, [], ◌∷◌, codes}
+use Rattle.packet_forms.specs.Names.{name_of}
+use Rattle.commands.specs.Rows.{code_row}
+use Rattle.commands.specs.declared.verdicts.CodeRow.{CodeRow}
+
+-- Stored Command's name.
+unfoldable pub sc_name : List ℕ
+sc_name = name_of (codes "SC")
+
+-- Its commands, and the request for its housekeeping.
+abbrev pub command_id : ℕ
+command_id = 0x18A9
+
+abbrev pub request_id : ℕ
+request_id = 0x18AA
+
+-- Its housekeeping.
+abbrev pub housekeeping_id : ℕ
+housekeeping_id = 0x08AA
+
+-- The codes, each with the length of its payload: no-op, reset counters, start and stop an absolute sequence, start, stop, disable and
+-- enable a relative one, switch and jump in the absolute one.
+unfoldable pub sc_codes : List CodeRow
+sc_codes =
+    code_row 0 0 0 ∷ code_row 1 0 0 ∷ code_row 2 2 2 ∷ code_row 3 0 0 ∷ code_row 4 2 2 ∷ code_row 5 2 2 ∷ code_row 6 2 2 ∷ code_row 7 2 2
+    ∷ code_row 8 0 0 ∷ code_row 9 4 4 ∷ []
+
+-- The events of a wrong checksum in an absolute and in a relative sequence, and of the ends of both.
+abbrev pub wrong_in_ats : ℕ
+wrong_in_ats = 101
+
+abbrev pub wrong_in_rts : ℕ
+wrong_in_rts = 102
+
+abbrev pub ats_ended : ℕ
+ats_ended = 103
+
+abbrev pub rts_ended : ℕ
+rts_ended = 104

@@ -1,0 +1,21 @@
+//! Stored Command: absolute and relative sequences, and the commands on both.
+#![tactic(auto)]
+
+mod cursors;
+mod heads;
+mod housekeeping;
+mod instructions;
+pub mod laws;
+mod messages;
+mod orders;
+mod places;
+mod sequencer;
+mod state;
+mod step;
+mod turns;
+mod verdicts;
+
+pub use state::Sc;
+
+#[cfg(test)]
+mod tests;

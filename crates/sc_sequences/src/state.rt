@@ -1,0 +1,60 @@
+//! The state of Stored Command.
+ghost use Rattle.std.specs.Prelude.{◌≡◌, ℕ, true, List, [], ◌∷◌, ◌++◌};
+ghost use Rattle.histories.specs.Entries.Entry.{Woken};
+ghost use Rattle.sc_sequences.specs.Histories.{Input, ScEntry, Beginning, begun_at, sequences_of};
+ghost use Rattle.sc_sequences.specs.Step.{sc_items};
+ghost use Rattle.sc_sequences.specs.State.{Stands, IsReady, is_idle_on, place_of, runs_in};
+
+use crate::places::{is_running, place_of};
+use crate::sequencer::Sequencer;
+use bus_pipes::Counts;
+use commands::start_counts;
+use packet_forms::Packet;
+use sc_tables::ScTables;
+use table_files::TableKind;
+
+/// The state of Stored Command: both counts, and the sequencer.
+#[derive(Clone, Copy, Debug, PartialEq, Eq)]
+pub struct Sc {
+    pub(crate) counts: Counts,
+    pub(crate) sequencer: Sequencer,
+}
+
+impl Sc {
+    /// The state at the start, at the time `now` in seconds: relative sequence 1 is enabled and started, where it is loaded, every other
+    /// relative sequence is disabled, and no other sequence runs.
+    pub fn start(tables: &ScTables<'_>, now: u32) -> Sc
+        ensures stands { Stands (begun_at now tables.now) [] result }
+        ensures ready { IsReady tables.now result }
+    {
+        Sc {
+            counts: start_counts(),
+            sequencer: Sequencer::start(tables, now),
+        }
+    }
+
+    /// Whether the sequence of this kind runs: a command of it is left. No table of another kind runs.
+    pub fn runs(&self, kind: TableKind) -> bool
+        ensures { (begin : Beginning) (history : List ScEntry) → Stands begin history self.now → result ≡ runs_in (sequences_of begin history).all (place_of kind) }
+    {
+        let Some(place) = place_of(kind) else {
+            return false;
+        };
+        is_running(&self.sequencer.cursors, place)
+    }
+
+    /// Whether a wakeup on these packets at the time `now` does nothing: there are none, and no command is due.
+    #[inline(always)]
+    pub fn is_idle(&self, commands: &[Packet], now: u32) -> bool
+        ensures exact { (begin : Beginning) (history : List ScEntry) → Stands begin history self.now → result ≡ is_idle_on begin history commands.now now }
+        ensures stands { (begin : Beginning) (history : List ScEntry) (i : Input) → result ≡ true → i.commands ≡ commands.now → i.time ≡ now → Stands begin history self.now
+            → Stands begin (history ++ Woken i ∷ []) self.now }
+        ensures items { (begin : Beginning) (history : List ScEntry) (i : Input) → result ≡ true → i.commands ≡ commands.now → i.time ≡ now → Stands begin history self.now
+            → sc_items begin history i ≡ [] }
+    {
+        if !commands.is_empty() {
+            return false;
+        }
+        self.sequencer.cursors.due(now).is_none()
+    }
+}
