@@ -1,5 +1,5 @@
 -- Lists of files: a file of the list, one file more, and tables that are there already.
-use Rattle.std.proofs.Common.{◌↔◌, All, ◌≡◌, ℕ, ◌<◌, Bool, true, false, List, [], ◌∷◌, ◌++◌, length, map, get_or, refl, sym, ap, subst, ◌∙◌, arith, zero, suc, Option, Some, None, length-append, Vec, Global}
+use Rattle.std.proofs.Common.{◌↔◌, All, cond, slice_get, ◌≡◌, ℕ, ◌<◌, Bool, true, false, List, [], ◌∷◌, ◌++◌, length, map, get_or, refl, sym, ap, subst, ◌∙◌, arith, zero, suc, Option, Some, None, length-append, Vec, Global}
 use Rattle.std.proofs.lemmas.Bool.Decides.{nat_tests}
 use Rattle.std.specs.Prelude.{◌==◌, ◌||◌, filter, option_map}
 use Rattle.std.specs.List.{list_any}
@@ -13,7 +13,8 @@ use Rattle.table_files.specs.declared.kinds.TableKind.{TableKind}
 use Rattle.table_files.specs.declared.kinds.TableKind.TheVariants.{AppMon, EventMon, ExeCount, MsgActs, Ats, Rts, Dwell, Eeprom, Memory}
 use Rattle.table_files.specs.Kinds.{is_same_kind}
 use Rattle.table_files.specs.Headers.{file_fault_of, IsFile, is_load, kind_of_file}
-use Rattle.table_files.specs.Files.{are_same, are_same_table, is_there, has_twice, addition_of, load_in, nth, load_of, AreFiles}
+use Rattle.table_files.proofs.Accepted.{loaded_size}
+use Rattle.table_files.specs.Files.{are_same, are_same_table, is_there, has_twice, addition_of, load_in, nth, loads_of, IsLoadable, AreFiles}
 
 -- a file of the list has no fault
 pub accepted_at : (held : List (Vec ℕ Global)) (i : ℕ) (file : Vec ℕ Global) → All IsFile (map (λ f. f.items) held) → file ≡ get_or held i file → i < length held → IsFile file.items
@@ -83,11 +84,36 @@ one_more files file are room ok new = record {
     one zero d lt = ok
     one (suc k) d lt = absurd (omega arith)
 
+-- an element of a list with each changed
+get_map : {A B : Type 0} (f : A → B) (xs : List A) (i : ℕ) → slice_get (map f xs) i ≡ option_map f (slice_get xs i)
+get_map f [] i = refl
+get_map f (x ∷ xs) zero = refl
+get_map f (x ∷ xs) (suc i) = get_map f xs i
+
+nth_map : {A B : Type 0} (f : A → B) (xs : List A) (n : ℕ) → nth (map f xs) n ≡ option_map f (nth xs n)
+nth_map f xs zero = refl
+nth_map f xs (suc i) = get_map f xs i
+
 -- address and bytes of the n-th load file
 pub load_there : (held lent : List (Vec ℕ Global)) (files : List (List ℕ)) (n : ℕ) (found : Option (List ℕ)) → map (λ f. f.items) held ≡ files → lent ≡ held
-    → found ≡ nth (filter is_load (map (λ f. f.items) lent)) n → option_map load_in found ≡ load_of files n
-unfolding load_of
-load_there held lent files n found view is same = rw (← view, same, is) refl
+    → found ≡ nth (filter is_load (map (λ f. f.items) lent)) n → option_map load_in found ≡ nth (loads_of files) n
+unfolding loads_of
+load_there held lent files n found view is same =
+    ap (option_map load_in) (same ∙ ap (λ (fs : List (List ℕ)). nth (filter is_load fs) n) (ap (map (λ (f : Vec ℕ Global). f.items)) is ∙ view)) ∙ sym (nth_map load_in (filter is_load files) n)
+
+-- the load files of files without a fault have 1 to 65,536 bytes each
+all_more : {A : Type 0} (P : A → Type 0) (x : A) (xs : List A) → P x → All P xs → All P (x ∷ xs)
+all_more P x xs here behind zero d within = here
+all_more P x xs here behind (suc k) d within = behind k d (omega arith)
+
+pub loads_fit : (files : List (List ℕ)) → All IsFile files → All IsLoadable (loads_of files)
+unfolding loads_of
+loads_fit [] all = λ k d within. absurd (omega arith)
+loads_fit (file ∷ files) all = by_load (is_load file) refl (loads_fit files (λ k d within. all (suc k) d (omega arith)))
+  where
+    by_load : (b : Bool) → is_load file ≡ b → All IsLoadable (map load_in (filter is_load files)) → All IsLoadable (map load_in (cond b (file ∷ filter is_load files) (filter is_load files)))
+    by_load true load rest = all_more IsLoadable (load_in file) (map load_in (filter is_load files)) (loaded_size file (all 0 [] (omega arith)) load) rest
+    by_load false table rest = rest
 
 -- a kind is the same as itself
 same_self : (kind : TableKind) → is_same_kind kind kind ≡ true

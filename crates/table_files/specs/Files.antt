@@ -1,5 +1,5 @@
 -- Lists of files, in the order of adding.
-use Rattle.std.specs.Prelude.{◌≡◌, ℕ, zero, suc, ◌≤◌, ◌-◌, Bool, false, ◌||◌, List, [], ◌∷◌, length, filter, All, Option, Some, None, option_map, slice_get, slice_index_or, if◌then◌else◌}
+use Rattle.std.specs.Prelude.{◌≡◌, ℕ, zero, suc, ◌<◌, ◌≤◌, ◌-◌, Bool, false, ◌||◌, List, [], ◌∷◌, length, map, filter, All, Option, Some, None, slice_get, slice_index_or, if◌then◌else◌}
 use Rattle.std.specs.List.{list_any}
 use Rattle.table_files.specs.declared.fault.FileFault.{FileFault}
 use Rattle.table_files.specs.declared.fault.AddFault.{AddFault}
@@ -55,11 +55,15 @@ pub record AreFiles (files : List (List ℕ)) : Type 0 where
 abbrev pub load_in : List ℕ → ℕ × List ℕ
 load_in file = (address_of_file file, payload_of_file file)
 
--- the n-th of the files, counted from 1, where there is one
+-- the load files among the files, each by its address and its bytes, in the order of adding
+unfoldable pub loads_of : List (List ℕ) → List (ℕ × List ℕ)
+loads_of files = map load_in (filter is_load files)
+
+-- the n-th of a list, counted from 1, where there is one
 abbrev pub nth : {A : Type 0} → List A → ℕ → Option A
 nth files zero = None
 nth files (suc i) = slice_get files i
 
--- address and bytes of the n-th load file, counted from 1, where there is one
-unfoldable pub load_of : List (List ℕ) → ℕ → Option (ℕ × List ℕ)
-load_of files n = option_map load_in (nth (filter is_load files) n)
+-- a load file has 1 to 65,536 bytes
+abbrev pub IsLoadable : ℕ × List ℕ → Type 0
+IsLoadable load = (0 < length load.1) × (length load.1 ≤ 65536)

@@ -4,8 +4,9 @@ ghost use Rattle.table_files.specs.Faults.{file_fault_number};
 
 use thiserror::Error;
 
-/// Why a file is refused: the first fault that it has. They are asked in this order, but that a table is asked for the
-/// length of both its headers, as `Short`, right after the subtype (docs/FILES.md).
+/// Why a file is refused: the first fault that it has. They are asked in this order, but that the length of both headers
+/// is asked, as `Short`, right after the subtype (docs/FILES.md). Only tables have `Partial` and `Name`, only bytes to be
+/// loaded have `LoadCrc`.
 #[derive(Clone, Copy, Debug, PartialEq, Eq, Error)]
 pub enum FileFault {
     #[error("the file ends within its headers")]

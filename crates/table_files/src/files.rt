@@ -2,7 +2,7 @@
 ghost use Rattle.std.specs.Prelude.{◌≡◌, ◌<◌, ◌≤◌, [], ◌∷◌, ◌++◌, length, filter, map, All, option_map, true, IsOkAnd, OnOk, OnErr, IfErr, IfSome, None, Some};
 ghost use Rattle.std.specs.List.{list_any};
 ghost use Rattle.table_files.specs.Headers.{IsFile, is_load, kind_of_file, Shows};
-ghost use Rattle.table_files.specs.Files.{AreFiles, addition_of, Refuses, are_same, is_there, file_at, nth, load_of};
+ghost use Rattle.table_files.specs.Files.{AreFiles, addition_of, Refuses, are_same, is_there, file_at, loads_of, nth, IsLoadable};
 
 use crate::fault::AddFault;
 use crate::headers::{FileImage, find_fault, image_of, is_load, kind_of_file, load_in};
@@ -80,9 +80,11 @@ impl Files {
         image_of(&self.files[file as usize - 1])
     }
 
-    /// Address and bytes of the n-th load file, counted from 1 in the order of adding; None exactly where there is none.
+    /// Address and bytes of the n-th load file, counted from 1 among the load files alone in the order of adding; None
+    /// exactly where there is none. There are 1 to 65,536 bytes. Nothing is copied.
     pub fn load(&self, n: u32) -> Option<(u32, &[u8])>
-        ensures { option_map (λ load. (load.0, load.1.now)) result ≡ load_of self.now n }
+        ensures load { option_map (λ load. (load.0, load.1.now)) result ≡ nth (loads_of self.now) n }
+        ensures size { IfSome result (λ load. IsLoadable (load.0, load.1.now)) }
     {
         match nth_load(&self.files, n) {
             Some(file) => Some(load_in(file)),

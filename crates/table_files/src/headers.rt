@@ -1,11 +1,11 @@
 //! The headers of a file, and what it holds behind them.
 ghost use Rattle.std.specs.Prelude.{◌≡◌, ◌≤◌, ◌-◌, length, drop, false, IfOk, MatchResult, Some, None};
 ghost use Rattle.table_files.specs.Kinds.{named_kind};
-ghost use Rattle.table_files.specs.Headers.{content_type, subtype, table_offset, table_size, table_name, table_fault, file_fault_of, IsFile, is_load, kind_of_file, address_of_file, Shows};
+ghost use Rattle.table_files.specs.Headers.{content_type, subtype, table_offset, table_size, table_name, table_fault, load_size, load_crc, is_load_size, load_fault, fault_of_table, fault_of_load, file_fault_of, IsFile, is_load, kind_of_file, address_of_file, Shows};
 
 use crate::fault::FileFault;
 use crate::kinds::{TableKind, named_kind};
-use packet_forms::{be32, behind};
+use packet_forms::{be32, behind, crc16};
 
 /// What a file holds.
 #[derive(Clone, Copy, Debug, PartialEq, Eq)]
@@ -34,15 +34,27 @@ const TABLE_HEADERS: usize = 116;
 /// How many bytes both headers of bytes to be loaded have.
 const LOAD_HEADERS: usize = 80;
 
+/// How many bytes may be loaded from a file at most.
+const MOST_LOAD: usize = 65_536;
+
 /// What the file of these bytes holds, or the first of its faults (docs/FILES.md):
 ///
 /// 1. `Short`: under 64 bytes
 /// 2. `ContentType`: the number of bytes 0 to 3 isn't 0x63464531
-/// 3. `Subtype`: the number of bytes 4 to 7 isn't 8
+/// 3. `Subtype`: the number of bytes 4 to 7 is neither 8, a table, nor 100, bytes to be loaded
+///
+/// Then of a table:
+///
 /// 4. `Short` again: under 116 bytes
 /// 5. `Partial`: the offset, bytes 68 to 71, isn't 0
 /// 6. `Name`: bytes 76 to 115 aren't a known name and zero bytes behind it
 /// 7. `Size`: the number of bytes 72 to 75 isn't the number of bytes behind the headers, or that isn't the table's size
+///
+/// And of bytes to be loaded:
+///
+/// 4. `Short` again: under 80 bytes
+/// 5. `Size`: the number of bytes 68 to 71 isn't the number of bytes behind the headers, or that is 0 or over 65,536
+/// 6. `LoadCrc`: the number of bytes 72 to 75 isn't `crc16(0, ..)` of the bytes behind the headers
 ///
 /// Nothing is copied: what is lent are the file's bytes behind the headers.
 pub fn read_file(bytes: &[u8]) -> Result<FileImage<'_>, FileFault>
@@ -56,7 +68,7 @@ pub fn read_file(bytes: &[u8]) -> Result<FileImage<'_>, FileFault>
 }
 
 /// The first fault of a file.
-#[tactic(auto, unfolding(crate::specs::Headers::file_fault_of, crate::specs::Headers::content_type, crate::specs::Headers::subtype, crate::specs::Headers::table_offset))]
+#[tactic(auto, unfolding(crate::specs::Headers::file_fault_of, crate::specs::Headers::content_type, crate::specs::Headers::subtype))]
 pub(crate) fn find_fault(bytes: &[u8]) -> Option<FileFault>
     ensures { result ≡ file_fault_of bytes.now }
 {
@@ -66,9 +78,21 @@ pub(crate) fn find_fault(bytes: &[u8]) -> Option<FileFault>
     if be32(bytes, 0) != CONTENT_TYPE {
         return Some(FileFault::ContentType);
     }
-    if be32(bytes, 4) != TABLE {
-        return Some(FileFault::Subtype);
+    let subtype = be32(bytes, 4);
+    if subtype == TABLE {
+        return fault_of_table(bytes);
     }
+    if subtype == LOAD {
+        return fault_of_load(bytes);
+    }
+    Some(FileFault::Subtype)
+}
+
+/// The first fault of a table's file behind its subtype.
+#[tactic(auto, unfolding(crate::specs::Headers::fault_of_table, crate::specs::Headers::table_offset))]
+fn fault_of_table(bytes: &[u8]) -> Option<FileFault>
+    ensures { result ≡ fault_of_table bytes.now }
+{
     if bytes.len() < TABLE_HEADERS {
         return Some(FileFault::Short);
     }
@@ -76,6 +100,41 @@ pub(crate) fn find_fault(bytes: &[u8]) -> Option<FileFault>
         return Some(FileFault::Partial);
     }
     table_fault(bytes)
+}
+
+/// The first fault of a file that is to be loaded behind its subtype.
+#[tactic(auto, unfolding(crate::specs::Headers::fault_of_load, crate::specs::Headers::load_size, crate::specs::Headers::load_crc))]
+fn fault_of_load(bytes: &[u8]) -> Option<FileFault>
+    ensures { result ≡ fault_of_load bytes.now }
+{
+    if bytes.len() < LOAD_HEADERS {
+        return Some(FileFault::Short);
+    }
+    load_fault(
+        behind(bytes, LOAD_HEADERS),
+        be32(bytes, 68),
+        be32(bytes, 72),
+    )
+}
+
+/// The fault of bytes to be loaded, of which the header says how many they are and which check they have.
+fn load_fault(bytes: &[u8], said: u32, check: u32) -> Option<FileFault>
+    ensures { result ≡ load_fault bytes.now said check }
+{
+    if said as usize != bytes.len() || !is_load_size(bytes.len()) {
+        return Some(FileFault::Size);
+    }
+    if check != u32::from(crc16(0, bytes)) {
+        return Some(FileFault::LoadCrc);
+    }
+    None
+}
+
+/// Whether so many bytes may be loaded.
+fn is_load_size(size: usize) -> bool
+    ensures { result ≡ is_load_size size }
+{
+    0 < size && size <= MOST_LOAD
 }
 
 /// The fault of a table's name or of its size.

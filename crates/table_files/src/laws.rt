@@ -1,7 +1,7 @@
 //! Laws of the definitions, as contracts of functions that do nothing. Worked rows stand for themselves: their bytes are
 //! written from the layout, and none is made by another definition.
 
-ghost use Rattle.std.specs.Prelude.{◌≡◌, ◌<◌, ◌≤◌, ◌↔◌, ℕ, ◌+◌, ◌-◌, List, [], ◌∷◌, ◌++◌, length, map, take, replicate, slice_index_or, slice_set, Bool, true, false, Option, Some, None};
+ghost use Rattle.std.specs.Prelude.{◌≡◌, ◌<◌, ◌≤◌, ◌↔◌, ◌⊎◌, All, ℕ, ◌+◌, ◌-◌, List, [], ◌∷◌, ◌++◌, length, map, take, replicate, slice_index_or, slice_set, Bool, true, false, Option, Some, None};
 ghost use Rattle.table_files.specs.declared.kinds.TableKind.{TableKind};
 ghost use Rattle.table_files.specs.declared.kinds.TableKind.TheVariants.{AppMon, EventMon, ExeCount, MsgActs, Ats, Rts, Dwell, Eeprom, Memory};
 ghost use Rattle.table_files.specs.declared.fault.EntryFault.{EntryFault};
@@ -9,14 +9,21 @@ ghost use Rattle.table_files.specs.declared.fault.FileFault.TheVariants.{Short, 
 ghost use Rattle.table_files.specs.Entries.{first_fault, IsFirstReason};
 ghost use Rattle.table_files.specs.Faults.{file_fault_number};
 ghost use Rattle.table_files.specs.Kinds.{IsTable, IsKnown, is_same_kind, named_kind, fits_kind};
-ghost use Rattle.table_files.specs.Headers.{IsFile, IsTableOf, content_type, subtype, table_offset, table_size, table_name, is_load, kind_of_file, payload_of_file, address_of_file, file_fault_of};
-ghost use Rattle.table_files.specs.Files.{AreFiles, file_at};
+ghost use Rattle.table_files.specs.Headers.{IsFile, IsTableOf, IsLoadOf, content_type, subtype, table_offset, table_size, table_name, load_size, load_crc, is_load_size, is_load, kind_of_file, payload_of_file, address_of_file, file_fault_of};
+ghost use Rattle.table_files.specs.Files.{AreFiles, file_at, loads_of, IsLoadable};
 ghost use Rattle.table_files.specs.Rows.{dwell_headers, dwell_file, load_file, eeprom_name, memory_name, appmon_name, eventmon_name, execount_name, msgacts_name};
 
-/// The files without a fault are those with the headers of a known table, and no file is two tables.
+/// The files without a fault are those with the headers of a known table, or of bytes to be loaded with their check, and no
+/// file is two of these.
 pub fn accepted_files_have_headers()
-    ensures accepted { (file : List ℕ) → IsFile file ↔ ((kind : TableKind) × IsTableOf file kind) }
+    ensures accepted { (file : List ℕ) → IsFile file ↔ (((kind : TableKind) × IsTableOf file kind) ⊎ IsLoadOf file) }
     ensures kind { (file : List ℕ) (kind : TableKind) → (kind_of_file file ≡ Some kind) ↔ IsTableOf file kind }
+    ensures load { (file : List ℕ) → (IsFile file × (is_load file ≡ true)) ↔ IsLoadOf file }
+{}
+
+/// The load files among the files that are held have 1 to 65,536 bytes each.
+pub fn load_files_have_bytes()
+    ensures { (files : List (List ℕ)) → AreFiles files → All IsLoadable (loads_of files) }
 {}
 
 /// The payload of a table has the size of its kind.
@@ -85,7 +92,11 @@ pub fn header_rows()
     ensures payload { payload_of_file dwell_file ≡ replicate 204 0x77 }
     ensures load { is_load load_file ≡ true }
     ensures address { address_of_file load_file ≡ 0x12345678 }
+    ensures load_size { load_size (slice_set load_file 68 1) ≡ 0x01000003 }
+    ensures load_crc { load_crc (slice_set load_file 72 1) ≡ 0x0100CD40 }
     ensures bytes { payload_of_file load_file ≡ 0xC1 ∷ 0xC2 ∷ 0xC3 ∷ [] }
+    ensures loads { loads_of (load_file ∷ dwell_file ∷ (slice_set load_file 67 0x79) ∷ []) ≡ (0x12345678, 0xC1 ∷ 0xC2 ∷ 0xC3 ∷ []) ∷ (0x12345679, 0xC1 ∷ 0xC2 ∷ 0xC3 ∷ []) ∷ [] }
+    ensures load_sizes { map is_load_size (0 ∷ 1 ∷ 65536 ∷ 65537 ∷ []) ≡ false ∷ true ∷ true ∷ false ∷ [] }
 {}
 
 /// The first fault of a file: each in a file that has no other, and then in files that have all later ones too.
@@ -97,4 +108,16 @@ pub fn fault_order_rows()
     ensures first { map (λ n. file_fault_of (take n (replicate 116 0xFF))) (63 ∷ 64 ∷ []) ≡ Some Short ∷ Some ContentType ∷ [] }
     ensures later { map file_fault_of ((take 4 dwell_headers ++ replicate 60 0xFF) ∷ (take 8 dwell_headers ++ replicate 107 0xFF) ∷ (take 8 dwell_headers ++ replicate 108 0xFF) ∷ (take 72 dwell_headers ++ replicate 44 0xFF) ∷ [])
         ≡ Some Subtype ∷ Some Short ∷ Some Partial ∷ Some Name ∷ [] }
+{}
+
+/// The first fault of a file that is to be loaded: each in a file that has no other, and then in files that have all later
+/// ones too.
+pub fn load_fault_rows()
+    ensures none { file_fault_of load_file ≡ None }
+    ensures reserved { file_fault_of (slice_set load_file 79 0) ≡ None }
+    ensures alone { map file_fault_of (take 63 load_file ∷ slice_set load_file 0 0x64 ∷ slice_set load_file 7 0x65 ∷ take 79 load_file ∷ slice_set load_file 71 2 ∷ slice_set load_file 71 4 ∷ take 82 load_file ∷ (load_file ++ 0xC4 ∷ []) ∷ slice_set load_file 75 0x41 ∷ slice_set load_file 72 1 ∷ slice_set load_file 82 0xC2 ∷ [])
+        ≡ Some Short ∷ Some ContentType ∷ Some Subtype ∷ Some Short ∷ Some Size ∷ Some Size ∷ Some Size ∷ Some Size ∷ Some LoadCrc ∷ Some LoadCrc ∷ Some LoadCrc ∷ [] }
+    ensures empty { file_fault_of (slice_set (take 80 load_file) 71 0) ≡ Some Size }
+    ensures later { map file_fault_of ((take 8 load_file ++ replicate 71 0xFF) ∷ (take 8 load_file ++ replicate 72 0xFF) ∷ slice_set (slice_set load_file 71 2) 75 0 ∷ [])
+        ≡ Some Short ∷ Some Size ∷ Some Size ∷ [] }
 {}

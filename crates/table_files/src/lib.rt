@@ -1,4 +1,4 @@
-//! Table files: their headers, their kinds, and the files that were handed over.
+//! Table files and files to be loaded: their headers, the kinds of tables, and the files that were handed over.
 #![tactic(auto)]
 
 mod fault;

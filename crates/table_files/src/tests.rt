@@ -31,7 +31,7 @@ const FAULTY: [(Draft, FileFault, u8); 15] = [
         3,
     ),
     (
-        (TYPE, 100, 0, 204, "MD.DWELL_TABLE1", 320),
+        (TYPE, 101, 0, 204, "MD.DWELL_TABLE1", 320),
         FileFault::Subtype,
         3,
     ),
@@ -78,6 +78,38 @@ const FAULTY: [(Draft, FileFault, u8); 15] = [
         FileFault::Size,
         6,
     ),
+];
+
+/// What the header of bytes to be loaded says (address, number of bytes, check), and how many bytes, all 7, are behind it.
+type LoadDraft = (u32, u32, u32, usize);
+
+/// The check of 65,536 bytes 7, and of one.
+const CHECK: u32 = 0xF243;
+
+const CHECK_OF_ONE: u32 = 0xC241;
+
+/// Files to be loaded, and the fault of each.
+const LOADS: [(LoadDraft, Option<FileFault>); 11] = [
+    ((0x1000, 1, CHECK_OF_ONE, 1), None),
+    ((0xFFFF_FFFF, 65_536, CHECK, 65_536), None),
+    ((0x1000, 0, 0, 0), Some(FileFault::Size)),
+    ((0x1000, 65_537, CHECK, 65_537), Some(FileFault::Size)),
+    ((0x1000, 65_535, CHECK, 65_536), Some(FileFault::Size)),
+    ((0x1000, 65_537, CHECK, 65_536), Some(FileFault::Size)),
+    (
+        (0x1000, 0x0100_0001, CHECK_OF_ONE, 1),
+        Some(FileFault::Size),
+    ),
+    ((0x1000, 1, CHECK_OF_ONE ^ 1, 1), Some(FileFault::LoadCrc)),
+    (
+        (0x1000, 1, CHECK_OF_ONE + 0x0001_0000, 1),
+        Some(FileFault::LoadCrc),
+    ),
+    (
+        (0x1000, 65_536, CHECK ^ 0x8000, 65_536),
+        Some(FileFault::LoadCrc),
+    ),
+    ((0x1000, 65_537, 0, 65_536), Some(FileFault::Size)),
 ];
 
 /// The tables that are known, and the sizes of their payloads.
@@ -150,6 +182,21 @@ fn table_of(alloc: Global, name: &'static str, size: u16) -> Result<Vec<u8>, Fai
     )
 }
 
+/// The file of a draft of bytes to be loaded.
+fn load_of(alloc: Global, draft: LoadDraft) -> Result<Vec<u8>, Fail> {
+    let (at, said, check, len) = draft;
+    let mut file = Vec::new(alloc);
+    file.extend_from_slice(&TYPE.to_be_bytes())?;
+    file.extend_from_slice(&100u32.to_be_bytes())?;
+    file.resize(64, 0xAA)?;
+    file.extend_from_slice(&at.to_be_bytes())?;
+    file.extend_from_slice(&said.to_be_bytes())?;
+    file.extend_from_slice(&check.to_be_bytes())?;
+    file.resize(80, 0xAA)?;
+    file.resize(len.saturating_add(80), 7)?;
+    Ok(file)
+}
+
 #[test]
 fn table_is_lent(rt: HostRuntime) -> Result<(), Fail> {
     let file = file_of(rt.alloc(), DWELL)?;
@@ -170,6 +217,48 @@ fn faults_come_in_order(rt: HostRuntime) -> Result<(), Fail> {
         assert_eq!(rt; fault.number(), number);
     }
     assert_eq!(rt; FileFault::LoadCrc.number(), 7);
+    Ok(())
+}
+
+#[test]
+fn load_files_have_a_check(rt: HostRuntime) -> Result<(), Fail> {
+    for (draft, fault) in LOADS {
+        let file = load_of(rt.alloc(), draft)?;
+        assert!(rt; read_file(&file).err() == fault);
+    }
+    let mut file = load_of(rt.alloc(), (0x1234_5678, 1, CHECK_OF_ONE, 1))?;
+    assert_eq!(rt; file.len(), 81);
+    let image = FileImage::Load {
+        at: 0x1234_5678,
+        bytes: &file[80..],
+    };
+    assert!(rt; read_file(&file) == Ok(image));
+    file.truncate(79);
+    assert!(rt; read_file(&file) == Err(FileFault::Short));
+    Ok(())
+}
+
+#[test]
+fn load_files_are_numbered_among_themselves(rt: HostRuntime) -> Result<(), Fail> {
+    let mut files = Files::open(rt.alloc())?;
+    let (first, second) = ((0x1000, 1, CHECK_OF_ONE, 1), (0x2000, 1, CHECK_OF_ONE, 1));
+    let file = table_of(rt.alloc(), "CS.DefEepromTbl", 192)?;
+    assert_eq!(rt; add_to(&mut files, file), Some(Ok(())));
+    let file = load_of(rt.alloc(), second)?;
+    assert_eq!(rt; add_to(&mut files, file), Some(Ok(())));
+    let file = table_of(rt.alloc(), "MD.DWELL_TABLE1", 204)?;
+    assert_eq!(rt; add_to(&mut files, file), Some(Ok(())));
+    let file = load_of(rt.alloc(), first)?;
+    assert_eq!(rt; add_to(&mut files, file), Some(Ok(())));
+    let file = load_of(rt.alloc(), second)?;
+    assert_eq!(rt; add_to(&mut files, file), Some(Ok(())));
+    assert_eq!(rt; files.len(), 5);
+    assert!(rt; files.load(0).is_none());
+    assert!(rt; files.load(1) == Some((0x2000, [7u8].as_slice())));
+    assert!(rt; files.load(2) == Some((0x1000, [7u8].as_slice())));
+    assert!(rt; files.load(3) == Some((0x2000, [7u8].as_slice())));
+    assert!(rt; files.load(4).is_none());
+    assert!(rt; shown(&files, 2).is_none() && shown(&files, 3) == Some((TableKind::Dwell(1), 204)));
     Ok(())
 }
 
