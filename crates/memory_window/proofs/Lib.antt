@@ -5,4 +5,6 @@ pub mod Soundness
 pub mod BankLaws
 pub mod Given
 pub mod ReadLaws
+pub mod WriteLaws
+pub mod Landed
 pub mod WholeLaws

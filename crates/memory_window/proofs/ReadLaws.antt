@@ -1,20 +1,18 @@
 -- Reads of memory: the bytes at the addresses of a range, and the same range after its bytes were changed.
 use Rattle.std.proofs.Common.{◌≡◌, ℕ, zero, suc, ◌+◌, ◌-◌, ◌/◌, ◌<◌, ◌≤◌, Bool, true, false, List, [], ◌∷◌, length, get_or, drop, All, None, Some, Option, Ok, Err, slice_get, option_map, refl, sym, ap, subst, ◌∙◌, arith, length-drop, length-take, add-zero, if◌then◌else◌}
-use Rattle.std.specs.Prelude.{nat_eq, nat_le, nat_lt, not, ◌*◌, ◌%◌, ◌^◌, ◌||◌}
+use Rattle.std.specs.Prelude.{nat_eq, not, ◌%◌, ◌||◌}
 use Rattle.std.specs.List.{list_any}
 use Rattle.std.proofs.lemmas.Grind.{common_steps}
 use Rattle.std.proofs.lemmas.Bool.Decides.{nat_tests}
 use Rattle.std.proofs.lemmas.List.{get_or-take, get_or-drop}
 use Rattle.memory_window.specs.declared.access.AccessFault.{AccessFault}
 use Rattle.memory_window.specs.declared.operations.MemOp.{MemOp}
-use Rattle.memory_window.specs.declared.operations.MemOp.TheVariants.{Poke}
 use Rattle.memory_window.specs.declared.regions.Region.{Region}
-use Rattle.memory_window.specs.Operations.{is_size}
 use Rattle.memory_window.specs.Landing.{covers, land_byte, landed, land}
 use Rattle.memory_window.specs.Regions.{spans, meet, has_overlap, allows, unit_of}
 use Rattle.memory_window.specs.Numbers.{number_of}
 use Rattle.memory_window.specs.Memory.{Area, Memory, home, part_of, byte_in, changed, each_from, regions_of}
-use Rattle.memory_window.specs.Access.{read_in, read_of, bytes_in, bytes_of, is_guarded, unless_guarded, Admitted}
+use Rattle.memory_window.specs.Access.{read_in, read_of, bytes_in, bytes_of}
 use Rattle.memory_window.specs.Reading.{IsFilled, IsWhole, StandAt}
 use Rattle.memory_window.proofs.BankLaws.{part_alone}
 use Rattle.memory_window.proofs.Maps.{map-facts}
@@ -175,93 +173,20 @@ read-alone f size at None same = refl
 read-alone f size at (Some r) same = ap (λ (xs : List ℕ). if not (nat_eq (at % (size / 8)) 0) then Err AccessFault.Unaligned else if not (allows r.region.kind size) then Err AccessFault.WrongSize else Ok (number_of xs)) (same r refl)
 
 -- a byte that no operation covers
-uncovered : (files : List (List ℕ)) (ops : List MemOp) (a x : ℕ) → list_any (λ op. covers op a) ops ≡ false → landed files ops a x ≡ x
-uncovered files [] a x none = refl
-uncovered files (op ∷ ops) a x none =
+uncovered : (loads : List (ℕ × List ℕ)) (ops : List MemOp) (a x : ℕ) → list_any (λ op. covers op a) ops ≡ false → landed loads ops a x ≡ x
+uncovered loads [] a x none = refl
+uncovered loads (op ∷ ops) a x none =
     let here : covers op a ≡ false = grind (arith, common_steps) in
     let behind : list_any (λ o. covers o a) ops ≡ false = grind (arith, common_steps) in
-    let same : land_byte files op a x ≡ x = rw here refl in
-    ap (λ (y : ℕ). landed files ops a y) same ∙ uncovered files ops a x behind
+    let same : land_byte loads op a x ≡ x = rw here refl in
+    ap (λ (y : ℕ). landed loads ops a y) same ∙ uncovered loads ops a x behind
 
-pub range-before : (files : List (List ℕ)) (ops : List MemOp) (m : Memory) (at len : ℕ) → ((k : ℕ) → k < len → list_any (λ op. covers op (at + k)) ops ≡ false) → bytes_of (land files ops m) at len ≡ bytes_of m at len
-range-before files ops m at len none =
-    ap (bytes_in at len) (home-changed (landed files ops) m.areas at len)
-    ∙ range-alone (landed files ops) at len (home m.areas at len) (λ r is. part-alone (landed files ops) r at len (home-is m.areas at len r is).spanned (λ k x lt. uncovered files ops (at + k) x (none k lt)))
+pub range-before : (loads : List (ℕ × List ℕ)) (ops : List MemOp) (m : Memory) (at len : ℕ) → ((k : ℕ) → k < len → list_any (λ op. covers op (at + k)) ops ≡ false) → bytes_of (land loads ops m) at len ≡ bytes_of m at len
+range-before loads ops m at len none =
+    ap (bytes_in at len) (home-changed (landed loads ops) m.areas at len)
+    ∙ range-alone (landed loads ops) at len (home m.areas at len) (λ r is. part-alone (landed loads ops) r at len (home-is m.areas at len r is).spanned (λ k x lt. uncovered loads ops (at + k) x (none k lt)))
 
-pub read-before : (files : List (List ℕ)) (ops : List MemOp) (m : Memory) (size at : ℕ) → ((k : ℕ) → k < size / 8 → list_any (λ op. covers op (at + k)) ops ≡ false) → read_of size (land files ops m) at ≡ read_of size m at
-read-before files ops m size at none =
-    ap (read_in size at) (home-changed (landed files ops) m.areas at (size / 8))
-    ∙ read-alone (landed files ops) size at (home m.areas at (size / 8)) (λ r is. part-alone (landed files ops) r at (size / 8) (home-is m.areas at (size / 8) r is).spanned (λ k x lt. uncovered files ops (at + k) x (none k lt)))
-
--- a byte of a poke
-poke-byte : (files : List (List ℕ)) (size at value x j a : ℕ) → a ≡ at + j → j < size / 8 → landed files (Poke size at value ∷ []) a x ≡ value / 2 ^ (8 * (size / 8 - 1 - j)) % 256
-poke-byte files size at value x j a there within =
-    let low : nat_le at a ≡ true = grind (arith, nat_tests) in
-    let high : nat_lt a (at + size / 8) ≡ true = grind (arith, nat_tests) in
-    let place : a - at ≡ j = omega arith in
-    rw (low, high, place) refl
-
-number-8 : (files : List (List ℕ)) (at value : ℕ) (xs : List ℕ) → value < 256 → length xs ≡ 1 → number_of (each_from (landed files (Poke 8 at value ∷ [])) at xs) ≡ value
-number-8 files at value (x ∷ []) small long =
-    let only : landed files (Poke 8 at value ∷ []) at x ≡ value / 1 % 256 = poke-byte files 8 at value x 0 at (omega arith) (omega arith) in
-    ap (λ (b : ℕ). number_of (b ∷ [])) only ∙ omega arith
-number-8 files at value [] small long = absurd (omega arith)
-number-8 files at value (x ∷ y ∷ xs) small long = absurd (omega arith)
-
-number-16 : (files : List (List ℕ)) (at value : ℕ) (xs : List ℕ) → value < 65536 → length xs ≡ 2 → number_of (each_from (landed files (Poke 16 at value ∷ [])) at xs) ≡ value
-number-16 files at value (x ∷ y ∷ []) small long =
-    let first : landed files (Poke 16 at value ∷ []) at x ≡ value / 256 % 256 = poke-byte files 16 at value x 0 at (omega arith) (omega arith) in
-    let second : landed files (Poke 16 at value ∷ []) (at + 1) y ≡ value / 1 % 256 = poke-byte files 16 at value y 1 (at + 1) refl (omega arith) in
-    (λ i. number_of (first i ∷ second i ∷ [])) ∙ omega arith
-number-16 files at value [] small long = absurd (omega arith)
-number-16 files at value (x ∷ []) small long = absurd (omega arith)
-number-16 files at value (x ∷ y ∷ z ∷ xs) small long = absurd (omega arith)
-
-number-32 : (files : List (List ℕ)) (at value : ℕ) (xs : List ℕ) → value < 4294967296 → length xs ≡ 4 → number_of (each_from (landed files (Poke 32 at value ∷ [])) at xs) ≡ value
-number-32 files at value (x ∷ y ∷ z ∷ w ∷ []) small long =
-    let first : landed files (Poke 32 at value ∷ []) at x ≡ value / 16777216 % 256 = poke-byte files 32 at value x 0 at (omega arith) (omega arith) in
-    let second : landed files (Poke 32 at value ∷ []) (at + 1) y ≡ value / 65536 % 256 = poke-byte files 32 at value y 1 (at + 1) refl (omega arith) in
-    let third : landed files (Poke 32 at value ∷ []) (at + 1 + 1) z ≡ value / 256 % 256 = poke-byte files 32 at value z 2 (at + 1 + 1) (omega arith) (omega arith) in
-    let fourth : landed files (Poke 32 at value ∷ []) (at + 1 + 1 + 1) w ≡ value / 1 % 256 = poke-byte files 32 at value w 3 (at + 1 + 1 + 1) (omega arith) (omega arith) in
-    (λ i. number_of (first i ∷ second i ∷ third i ∷ fourth i ∷ [])) ∙ omega arith
-number-32 files at value [] small long = absurd (omega arith)
-number-32 files at value (x ∷ []) small long = absurd (omega arith)
-number-32 files at value (x ∷ y ∷ []) small long = absurd (omega arith)
-number-32 files at value (x ∷ y ∷ z ∷ []) small long = absurd (omega arith)
-number-32 files at value (x ∷ y ∷ z ∷ w ∷ v ∷ xs) small long = absurd (omega arith)
-
--- the number that a poke's bytes spell
-poke-number : (files : List (List ℕ)) (size at value : ℕ) (xs : List ℕ) → is_size size ≡ true → value < 2 ^ size → length xs ≡ size / 8 → number_of (each_from (landed files (Poke size at value ∷ [])) at xs) ≡ value
-poke-number files size at value xs sized small long = by_size (nat_eq size 8) (nat_eq size 16) refl refl
-  where
-    at_size : (n : ℕ) → size ≡ n → (value < 2 ^ n → length xs ≡ n / 8 → number_of (each_from (landed files (Poke n at value ∷ [])) at xs) ≡ value) → number_of (each_from (landed files (Poke size at value ∷ [])) at xs) ≡ value
-    at_size n is go = subst (λ (k : ℕ). value < 2 ^ k → length xs ≡ k / 8 → number_of (each_from (landed files (Poke k at value ∷ [])) at xs) ≡ value) (sym is) go small long
-
-    by_size : (a b : Bool) → nat_eq size 8 ≡ a → nat_eq size 16 ≡ b → number_of (each_from (landed files (Poke size at value ∷ [])) at xs) ≡ value
-    by_size true b is other = at_size 8 (grind (arith, nat_tests)) (number-8 files at value xs)
-    by_size false true not_8 is = at_size 16 (grind (arith, nat_tests)) (number-16 files at value xs)
-    by_size false false not_8 not_16 = at_size 32 (grind (arith, nat_tests)) (number-32 files at value xs)
-
--- a read that is admitted, and what it gives once the bytes are others
-admitted-read : (size at : ℕ) (found : Option Area) (guarded : Bool) → unless_guarded (read_in size at found) guarded ≡ Ok tt
-    → (r : Area) × (found ≡ Some r) × ((other : Area) → other.region ≡ r.region → read_in size at (Some other) ≡ Ok (number_of (part_of at (size / 8) other)))
-admitted-read size at None guarded is = absurd (cc)
-admitted-read size at (Some r) guarded is = (r, refl, by_tests (nat_eq (at % (size / 8)) 0) (allows r.region.kind size) refl refl is)
-  where
-    by_tests : (a b : Bool) → nat_eq (at % (size / 8)) 0 ≡ a → allows r.region.kind size ≡ b → unless_guarded (if not a then Err AccessFault.Unaligned else if not b then Err AccessFault.WrongSize else Ok (number_of (part_of at (size / 8) r))) guarded ≡ Ok tt
-        → (other : Area) → other.region ≡ r.region → read_in size at (Some other) ≡ Ok (number_of (part_of at (size / 8) other))
-    by_tests true true aligned allowed is other same =
-        let also : allows other.region.kind size ≡ true = ap (λ (g : Region). allows g.kind size) same ∙ allowed in
-        rw (aligned, also) refl
-    by_tests true false aligned refused is other same = absurd (cc)
-    by_tests false b refused allowed is other same = absurd (cc)
-
-pub poke-read : (files : List (List ℕ)) (m : Memory) (size at value : ℕ) → IsWhole m → Admitted m (Poke size at value) → read_of size (land files (Poke size at value ∷ []) m) at ≡ Ok value
-poke-read files m size at value whole admitted =
-    let f : ℕ → ℕ → ℕ = landed files (Poke size at value ∷ []) in
-    let found = admitted-read size at (home m.areas at (size / 8)) (is_guarded m.areas m.guarded at (size / 8)) admitted.admits in
-    let here : IsHome m.areas at (size / 8) found.0 = home-is m.areas at (size / 8) found.0 found.1 in
-    let long : length (part_of at (size / 8) found.0) ≡ size / 8 = length-part found.0 at (size / 8) here.spanned (here.filled whole.filled) in
-    ap (read_in size at) (home-changed f m.areas at (size / 8) ∙ ap (option_map (change f)) found.1)
-    ∙ found.2 (change f found.0) refl
-    ∙ ap Ok (ap number_of (part-change f found.0 at (size / 8) here.spanned) ∙ poke-number files size at value (part_of at (size / 8) found.0) admitted.can_ask.0 admitted.can_ask.1 long)
+pub read-before : (loads : List (ℕ × List ℕ)) (ops : List MemOp) (m : Memory) (size at : ℕ) → ((k : ℕ) → k < size / 8 → list_any (λ op. covers op (at + k)) ops ≡ false) → read_of size (land loads ops m) at ≡ read_of size m at
+read-before loads ops m size at none =
+    ap (read_in size at) (home-changed (landed loads ops) m.areas at (size / 8))
+    ∙ read-alone (landed loads ops) size at (home m.areas at (size / 8)) (λ r is. part-alone (landed loads ops) r at (size / 8) (home-is m.areas at (size / 8) r is).spanned (λ k x lt. uncovered loads ops (at + k) x (none k lt)))

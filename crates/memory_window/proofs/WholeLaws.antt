@@ -73,8 +73,8 @@ protected-length : (ops : List MemOp) (flags : List Bool) → length (protected_
 protected-length [] flags = refl
 protected-length (op ∷ ops) flags = protected-length ops (protect op flags) ∙ protect-length op flags
 
-pub land-whole : (files : List (List ℕ)) (ops : List MemOp) (m : Memory) → IsWhole m → IsWhole (land files ops m)
-land-whole files ops m whole = changed-whole (landed files ops) m (protected_by ops m.guarded) (protected-length ops m.guarded) whole
+pub land-whole : (loads : List (ℕ × List ℕ)) (ops : List MemOp) (m : Memory) → IsWhole m → IsWhole (land loads ops m)
+land-whole loads ops m whole = changed-whole (landed loads ops) m (protected_by ops m.guarded) (protected-length ops m.guarded) whole
 
 pub upset-whole : (m : Memory) (at value : ℕ) → IsWhole m → IsWhole (upset_at m at value)
 upset-whole m at value whole = changed-whole (λ (a x : ℕ). if nat_eq a at then value else x) m m.guarded refl whole

@@ -1,5 +1,5 @@
 //! Laws of the definitions, for the crates above and for the reader.
-ghost use Rattle.std.specs.Prelude.{◌≡◌, ℕ, ◌+◌, ◌*◌, ◌/◌, ◌<◌, List, [], ◌∷◌, None, true, false, is_ok, Ok, Err, map, length, get_or, option_map, nat_eq, IsTrue, if◌then◌else◌};
+ghost use Rattle.std.specs.Prelude.{◌≡◌, ℕ, ◌+◌, ◌*◌, ◌/◌, ◌<◌, List, [], ◌∷◌, ◌++◌, replicate, None, true, false, is_ok, Ok, Err, map, length, get_or, option_map, nat_eq, IsTrue, if◌then◌else◌};
 ghost use Rattle.memory_window.specs.declared.regions.Region.{Region};
 ghost use Rattle.memory_window.specs.declared.operations.MemOp.{MemOp};
 ghost use Rattle.std.specs.List.{list_any};
@@ -10,6 +10,7 @@ ghost use Rattle.memory_window.specs.Numbers.{number_of};
 ghost use Rattle.memory_window.specs.Reading.{IsWhole, StandAt};
 ghost use Rattle.memory_window.specs.Regions.{blank, holds, map_fault_of};
 ghost use Rattle.memory_window.specs.Memory.{Memory, byte_at, each_from, regions_of, start_memory, upset_at};
+ghost use Rattle.memory_window.specs.Operations.{IsBacked, load_bytes};
 ghost use Rattle.memory_window.specs.Landing.{covers, land, landed};
 ghost use Rattle.memory_window.specs.Access.{Admitted, admits_of, read_of, bytes_of, gives_read, gives_bytes};
 ghost use Rattle.memory_window.specs.Banks.{bank_size, bank_of, bank_holds, bank_at};
@@ -21,8 +22,8 @@ pub fn regions_are_apart()
 
 /// Landing is a function of one address and the byte there, and changes no region.
 pub fn landing_is_by_address()
-    ensures bytes { (files : List (List ℕ)) → (ops : List MemOp) → (m : Memory) → (a : ℕ) → byte_at (land files ops m).areas a ≡ option_map (landed files ops a) (byte_at m.areas a) }
-    ensures map { (files : List (List ℕ)) → (ops : List MemOp) → (m : Memory) → regions_of (land files ops m).areas ≡ regions_of m.areas }
+    ensures bytes { (loads : List (ℕ × List ℕ)) → (ops : List MemOp) → (m : Memory) → (a : ℕ) → byte_at (land loads ops m).areas a ≡ option_map (landed loads ops a) (byte_at m.areas a) }
+    ensures map { (loads : List (ℕ × List ℕ)) → (ops : List MemOp) → (m : Memory) → regions_of (land loads ops m).areas ≡ regions_of m.areas }
 {}
 
 /// An upset changes the byte at its address alone, and no region.
@@ -41,7 +42,7 @@ pub fn each_address_has_one_bank()
 /// What operations make of a bank by itself is that bank of what they make of its region.
 #[tactic(auto, using(crate::proofs::BankLaws::bank_alone))]
 pub fn banks_land_alone()
-    ensures { (files : List (List ℕ)) → (ops : List MemOp) → (at n : ℕ) → (bytes : List ℕ) → bank_of n (each_from (landed files ops) at bytes) ≡ each_from (landed files ops) (at + n * bank_size) (bank_of n bytes) }
+    ensures { (loads : List (ℕ × List ℕ)) → (ops : List MemOp) → (at n : ℕ) → (bytes : List ℕ) → bank_of n (each_from (landed loads ops) at bytes) ≡ each_from (landed loads ops) (at + n * bank_size) (bank_of n bytes) }
 {}
 
 /// Whether memory gives a read or a range depends on its regions alone.
@@ -61,7 +62,7 @@ pub fn what_is_given_has_a_value()
 /// Memory of a map at its start is whole, and landing and an upset leave it whole.
 pub fn memory_stays_whole()
     ensures start { (regions : List Region) → map_fault_of regions ≡ None → IsWhole (start_memory regions) }
-    ensures land { (files : List (List ℕ)) (ops : List MemOp) (m : Memory) → IsWhole m → IsWhole (land files ops m) }
+    ensures land { (loads : List (ℕ × List ℕ)) (ops : List MemOp) (m : Memory) → IsWhole m → IsWhole (land loads ops m) }
     ensures upset { (m : Memory) (at value : ℕ) → IsWhole m → IsWhole (upset_at m at value) }
 {}
 
@@ -71,15 +72,19 @@ pub fn reads_are_of_bytes()
     ensures read { (m : Memory) → IsWhole m → (size at value : ℕ) → read_of size m at ≡ Ok value → (bytes : List ℕ) × (length bytes ≡ size / 8) × StandAt m.areas at bytes × (value ≡ number_of bytes) }
 {}
 
-/// After an admitted poke a read of the same size gives its value.
-pub fn pokes_are_read()
-    ensures { (files : List (List ℕ)) (m : Memory) (size at value : ℕ) → IsWhole m → Admitted m (Poke size at value) → read_of size (land files (Poke size at value ∷ []) m) at ≡ Ok value }
+/// After an admitted write, be it the last of several operations, the same range reads what was written: the value of a
+/// poke in its size, the byte of a fill, the bytes that came with the operation, and those of a load file.
+pub fn writes_are_read()
+    ensures poke { (loads : List (ℕ × List ℕ)) (before : List MemOp) (m : Memory) (size at value : ℕ) → IsWhole m → Admitted m (Poke size at value) → read_of size (land loads (before ++ Poke size at value ∷ []) m) at ≡ Ok value }
+    ensures fill { (loads : List (ℕ × List ℕ)) (before : List MemOp) (m : Memory) (at len byte : ℕ) → IsWhole m → Admitted m (Fill at len byte) → bytes_of (land loads (before ++ Fill at len byte ∷ []) m) at len ≡ Ok (replicate len byte) }
+    ensures bytes { (loads : List (ℕ × List ℕ)) (before : List MemOp) (m : Memory) (at : ℕ) (part : List ℕ) → IsWhole m → Admitted m (Bytes at part) → bytes_of (land loads (before ++ Bytes at part ∷ []) m) at (length part) ≡ Ok part }
+    ensures file { (loads : List (ℕ × List ℕ)) (before : List MemOp) (m : Memory) (load at len : ℕ) → IsWhole m → Admitted m (FromFile load at len) → IsBacked loads (FromFile load at len) → bytes_of (land loads (before ++ FromFile load at len ∷ []) m) at len ≡ Ok (load_bytes loads load) }
 {}
 
 /// What no operation covers is read as before.
 pub fn else_reads_as_before()
-    ensures bytes { (files : List (List ℕ)) (ops : List MemOp) (m : Memory) (at len : ℕ) → ((k : ℕ) → k < len → list_any (λ op. covers op (at + k)) ops ≡ false) → bytes_of (land files ops m) at len ≡ bytes_of m at len }
-    ensures read { (files : List (List ℕ)) (ops : List MemOp) (m : Memory) (size at : ℕ) → ((k : ℕ) → k < size / 8 → list_any (λ op. covers op (at + k)) ops ≡ false) → read_of size (land files ops m) at ≡ read_of size m at }
+    ensures bytes { (loads : List (ℕ × List ℕ)) (ops : List MemOp) (m : Memory) (at len : ℕ) → ((k : ℕ) → k < len → list_any (λ op. covers op (at + k)) ops ≡ false) → bytes_of (land loads ops m) at len ≡ bytes_of m at len }
+    ensures read { (loads : List (ℕ × List ℕ)) (ops : List MemOp) (m : Memory) (size at : ℕ) → ((k : ℕ) → k < size / 8 → list_any (λ op. covers op (at + k)) ops ≡ false) → read_of size (land loads ops m) at ≡ read_of size m at }
 {}
 
 /// Reads of memory byte by byte: the byte at the lowest address is the most significant one.
@@ -99,7 +104,7 @@ pub fn landing_rows()
     ensures poke32 { bytes_of (land [] (Poke 32 0x1004 0xA1B2C3D4 ∷ []) worked_memory) 0x1000 8 ≡ Ok (0x11 ∷ 0x12 ∷ 0x13 ∷ 0x14 ∷ 0xA1 ∷ 0xB2 ∷ 0xC3 ∷ 0xD4 ∷ []) }
     ensures fill { bytes_of (land [] (Fill 0x1001 3 0xA1 ∷ []) worked_memory) 0x1000 8 ≡ Ok (0x11 ∷ 0xA1 ∷ 0xA1 ∷ 0xA1 ∷ 0x15 ∷ 0x16 ∷ 0x17 ∷ 0x18 ∷ []) }
     ensures part { bytes_of (land [] (Bytes 0x1005 (0xA1 ∷ 0xB2 ∷ []) ∷ []) worked_memory) 0x1000 8 ≡ Ok (0x11 ∷ 0x12 ∷ 0x13 ∷ 0x14 ∷ 0x15 ∷ 0xA1 ∷ 0xB2 ∷ 0x18 ∷ []) }
-    ensures file { bytes_of (land ((0xC1 ∷ []) ∷ (0xA1 ∷ 0xB2 ∷ 0xC3 ∷ []) ∷ []) (FromFile 2 0x1000 3 ∷ []) worked_memory) 0x1000 8 ≡ Ok (0xA1 ∷ 0xB2 ∷ 0xC3 ∷ 0x14 ∷ 0x15 ∷ 0x16 ∷ 0x17 ∷ 0x18 ∷ []) }
+    ensures file { bytes_of (land ((0x1004, 0xC1 ∷ []) ∷ (0x1000, 0xA1 ∷ 0xB2 ∷ 0xC3 ∷ []) ∷ []) (FromFile 2 0x1000 3 ∷ []) worked_memory) 0x1000 8 ≡ Ok (0xA1 ∷ 0xB2 ∷ 0xC3 ∷ 0x14 ∷ 0x15 ∷ 0x16 ∷ 0x17 ∷ 0x18 ∷ []) }
     ensures order { bytes_of (land [] (Fill 0x1001 3 0xA1 ∷ Poke 8 0x1002 0xB2 ∷ []) worked_memory) 0x1000 8 ≡ Ok (0x11 ∷ 0xA1 ∷ 0xB2 ∷ 0xA1 ∷ 0x15 ∷ 0x16 ∷ 0x17 ∷ 0x18 ∷ []) }
     ensures upset { bytes_of (upset_at worked_memory 0x1003 0xA1) 0x1000 8 ≡ Ok (0x11 ∷ 0x12 ∷ 0x13 ∷ 0xA1 ∷ 0x15 ∷ 0x16 ∷ 0x17 ∷ 0x18 ∷ []) }
     ensures flag { (land [] (Protect 5 false ∷ []) worked_memory).guarded ≡ false ∷ false ∷ false ∷ false ∷ false ∷ true ∷ [] }

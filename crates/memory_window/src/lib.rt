@@ -2,6 +2,7 @@
 #![tactic(auto)]
 
 mod access;
+mod change;
 mod chunk;
 mod giving;
 mod landing;
@@ -14,6 +15,7 @@ mod window;
 
 pub use access::AccessFault;
 pub use chunk::Chunk;
+pub use landing::bank_land;
 pub use operations::{MemOp, is_size};
 pub use ops::Ops;
 pub use ram::Ram;

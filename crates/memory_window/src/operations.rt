@@ -1,6 +1,6 @@
 //! Operations on memory.
-ghost use Rattle.std.specs.Prelude.{◌≡◌, ◌-◌, ◌*◌, ◌/◌, ◌%◌, ◌^◌, ◌<◌, ◌≤◌, []};
-ghost use Rattle.memory_window.specs.Operations.{is_size, op_at, op_len, op_byte, IsSound, IsBacked};
+ghost use Rattle.std.specs.Prelude.{◌≡◌, ◌-◌, ◌*◌, ◌/◌, ◌%◌, ◌^◌, ◌<◌, ◌≤◌};
+ghost use Rattle.memory_window.specs.Operations.{is_size, op_at, op_len};
 
 use crate::Chunk;
 
@@ -52,26 +52,10 @@ impl MemOp {
             MemOp::Protect { .. } => 0,
         }
     }
-
-    /// The `j`-th byte that it writes, counted from 0. No load file is at hand, so it isn't one from a file.
-    pub(crate) fn byte(&self, j: u32) -> u8
-        requires sound { IsSound self.now }
-        requires backed { IsBacked [] self.now }
-        requires within { j < op_len self.now }
-        ensures { result ≡ op_byte [] self.now j }
-    {
-        match self {
-            MemOp::Poke { size, value, .. } => byte_of(*size, *value, j),
-            MemOp::Fill { byte, .. } => *byte,
-            MemOp::Bytes { part, .. } => part.bytes()[j as usize],
-            MemOp::FromFile { .. } => unreachable!(),
-            MemOp::Protect { .. } => 0,
-        }
-    }
 }
 
-// The j-th byte of a value of `size` bits, from the most significant one on.
-fn byte_of(size: u8, value: u32, j: u32) -> u8
+/// The j-th byte of a value of `size` bits, from the most significant one on.
+pub(crate) fn byte_of(size: u8, value: u32, j: u32) -> u8
     requires { (size ≤ 32) × (j < size / 8) }
     ensures { result ≡ value / 2 ^ (8 * (size / 8 - 1 - j)) % 256 }
 {

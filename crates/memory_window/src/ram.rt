@@ -1,20 +1,23 @@
 //! Memory itself: one block of bytes, the map of its regions and their flags.
-ghost use Rattle.std.specs.Prelude.{◌≡◌, ◌≤◌, false, None, [], length, take, map, All, IfOk, IsTrue};
+ghost use Rattle.std.specs.Prelude.{◌≡◌, ◌≤◌, false, None, length, take, map, All, IfOk, IsTrue};
 ghost use Rattle.std.specs.List.{list_any};
 ghost use Rattle.memory_window.specs.Regions.{is_eeprom, is_mapped, ends_late, total_of, map_fault_of};
-ghost use Rattle.memory_window.specs.Operations.{IsSound, IsBacked, protect, protected_by};
-ghost use Rattle.memory_window.specs.Landing.{land, landed};
+ghost use Rattle.table_files.specs.Files.{loads_of};
+ghost use Rattle.memory_window.specs.Operations.{IsBacked, protect, protected_by};
+ghost use Rattle.memory_window.specs.Landing.{land};
 ghost use Rattle.memory_window.specs.Memory.{cut, changed, regions_of, start_memory, upset_at};
 ghost use Rattle.memory_window.specs.Access.{Admitted};
 ghost use Rattle.memory_window.specs.Reading.{IsWhole};
 
-use crate::landing::bank_land;
+use crate::change::{Change, Upset, change_all};
+use crate::landing::Landing;
 use crate::regions::{MOST_REGIONS, Region};
 use crate::{Map, MemOp, Window};
 use fsw_outside::NoMemory;
 use memory_block::Store;
 use std::alloc::Global;
 use std::marker::Model;
+use table_files::Files;
 
 /// The memory of the regions of a map.
 #[derive(Drop)]
@@ -65,15 +68,15 @@ impl Ram {
         Window::over(self.map.regions(), &self.guarded, block)
     }
 
-    /// Makes the operations, in their order. No load file is at hand, so none of them is one from a file.
-    pub fn land(&mut self, ops: &[MemOp])
+    /// Makes the operations, in their order; those from files load from these.
+    pub fn land(&mut self, ops: &[MemOp], files: &Files)
         requires admitted { All (Admitted self.old) ops.now }
-        requires backed { All (IsBacked []) ops.now }
-        ensures land { self.new ≡ land [] ops.now self.old }
+        requires backed { All (IsBacked (loads_of files.now)) ops.now }
+        ensures land { self.new ≡ land (loads_of files.now) ops.now self.old }
         ensures map { regions_of self.new.areas ≡ regions_of self.old.areas }
     {
         let regions = self.map.regions();
-        land_store(&mut self.store, regions, ops);
+        change_store(&mut self.store, regions, &Landing { ops, files });
         protect_all(&mut self.guarded[..regions.len()], ops);
     }
 
@@ -83,26 +86,20 @@ impl Ram {
         ensures upset { self.new ≡ upset_at self.old at value }
         ensures map { regions_of self.new.areas ≡ regions_of self.old.areas }
     {
-        let op = MemOp::Fill {
-            at,
-            len: 1,
-            byte: value,
-        };
-        land_store(&mut self.store, self.map.regions(), &[op]);
+        change_store(&mut self.store, self.map.regions(), &Upset { at, value });
     }
 }
 
-// Lands the operations on each region.
-fn land_store(store: &mut Store, regions: &[Region], ops: &[MemOp])
+// Changes the bytes of each region.
+fn change_store<C: Change>(store: &mut Store, regions: &[Region], change: &C)
     requires whole { total_of regions.now ≡ length store.old }
     requires within { list_any ends_late regions.now ≡ false }
-    requires sound { All IsSound ops.now }
-    requires backed { All (IsBacked []) ops.now }
-    ensures areas { cut regions.now store.new ≡ changed (landed [] ops.now) (cut regions.now store.old) }
+    requires possible { C.is_possible change.now }
+    ensures areas { cut regions.now store.new ≡ changed (C.byte change.now) (cut regions.now store.old) }
     ensures len { length store.new ≡ length store.old }
 {
     let size = store.len();
-    land_all(store.part_mut(0, size), regions, ops);
+    change_all(store.part_mut(0, size), regions, change);
 }
 
 // The flags at the start: EEPROM regions are protected.
@@ -116,22 +113,6 @@ fn start_flags(regions: &[Region]) -> [bool; MOST_REGIONS]
         flags[i] = region.kind.is_eeprom();
     }
     flags
-}
-
-// Lands the operations on each region of a block in which the regions lie side by side.
-fn land_all(block: &mut [u8], regions: &[Region], ops: &[MemOp])
-    requires whole { total_of regions.now ≡ length block.old }
-    requires within { list_any ends_late regions.now ≡ false }
-    requires sound { All IsSound ops.now }
-    requires backed { All (IsBacked []) ops.now }
-    ensures { cut regions.now block.new ≡ changed (landed [] ops.now) (cut regions.now block.old) }
-{
-    let mut from = 0;
-    for region in regions {
-        let to = from + region.len as usize;
-        bank_land(region.start, &mut block[from..to], ops);
-        from = to;
-    }
 }
 
 // Sets and takes away the flags that the operations name, in their order.

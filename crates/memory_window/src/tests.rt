@@ -1,14 +1,19 @@
 //! Worked examples of maps, reads, protection, upsets and landing.
-ghost use Rattle.std.specs.Prelude.{◌<◌, []};
+ghost use Rattle.std.specs.Prelude.{◌<◌};
+ghost use Rattle.table_files.specs.Files.{loads_of};
 ghost use Rattle.memory_window.specs.Access.{CanAsk};
 ghost use Rattle.memory_window.specs.Operations.{IsBacked};
 
 use crate::{
-    AccessFault, Chunk, Kind, Map, MapFault, MemOp, Ops, Ram, Region, Window, is_mapped, is_size,
+    AccessFault, Chunk, Kind, Map, MapFault, MemOp, Ops, Ram, Region, Window, bank_land, is_mapped,
+    is_size,
 };
+use packet_forms::crc16;
 use std::alloc::Global;
 use std::process::Abort;
+use std::test::Fail;
 use std::thread;
+use table_files::Files;
 
 fn region(kind: Kind, start: u32, len: u32) -> Region {
     Region { kind, start, len }
@@ -36,19 +41,58 @@ fn read(window: Window<'_>, size: u8, at: u32) -> Result<u32, AccessFault> {
 }
 
 // Lands one operation where it is admitted.
-fn change(ram: &mut Ram, op: MemOp) -> Result<(), AccessFault>
+fn change(ram: &mut Ram, op: MemOp, files: &Files) -> Result<(), AccessFault>
     requires ask { CanAsk ram.old op }
-    requires backed { IsBacked [] op }
+    requires backed { IsBacked (loads_of files.now) op }
 {
     ram.window().admits(&op)?;
-    ram.land(&[op]);
+    ram.land(&[op], files);
     Ok(())
 }
 
+// A file whose bytes, this many times this byte, are to be loaded at an address.
+fn load_file(alloc: Global, at: u32, len: u16, byte: u8) -> Result<Vec<u8>, Fail> {
+    let mut bytes = Vec::new(alloc);
+    bytes.resize(usize::from(len), byte)?;
+    let mut file = Vec::new(alloc);
+    file.extend_from_slice(&0x6346_4531u32.to_be_bytes())?;
+    file.extend_from_slice(&100u32.to_be_bytes())?;
+    file.resize(64, 0)?;
+    file.extend_from_slice(&at.to_be_bytes())?;
+    file.extend_from_slice(&u32::from(len).to_be_bytes())?;
+    file.extend_from_slice(&u32::from(crc16(0, &bytes)).to_be_bytes())?;
+    file.resize(80, 0)?;
+    file.extend_from_slice(&bytes)?;
+    Ok(file)
+}
+
+// Adds a file, where it may be added.
+fn add_to(files: &mut Files, file: Vec<u8>) -> bool {
+    if files.len() < 100 && file.len() <= 65_700 {
+        files.add(file).is_ok()
+    } else {
+        false
+    }
+}
+
+// Lands the load file of a number where there is one that is admitted.
+fn load(ram: &mut Ram, number: u32, files: &Files) -> bool {
+    let Some((at, bytes)) = files.load(number) else {
+        return false;
+    };
+    let len = bytes.len() as u32;
+    let op = MemOp::FromFile {
+        load: number,
+        at,
+        len,
+    };
+    change(ram, op, files).is_ok()
+}
+
 // Sets or takes away the protection of a region that has one.
-fn protect(ram: &mut Ram, region: u32, on: bool) -> bool {
+fn protect(ram: &mut Ram, region: u32, on: bool, files: &Files) -> bool {
     match ram.window().protected(region) {
-        Some(_) => change(ram, MemOp::Protect { region, on }).is_ok(),
+        Some(_) => change(ram, MemOp::Protect { region, on }, files).is_ok(),
         None => false,
     }
 }
@@ -109,7 +153,7 @@ const KINDS: [Region; 5] = [
 ];
 
 // Memory of every kind in which each byte holds its place in its region, from 1 on.
-fn numbered(rt: &impl Abort, alloc: Global) -> Ram {
+fn numbered(rt: &impl Abort, alloc: Global, files: &Files) -> Ram {
     let Ok(map) = Map::new(&KINDS) else {
         panic!(rt; "the regions are a map");
     };
@@ -117,18 +161,19 @@ fn numbered(rt: &impl Abort, alloc: Global) -> Ram {
         panic!(rt; "there is memory for it");
     };
     let part = Chunk::new(&[1, 2, 3, 4, 5, 6, 7, 8]);
-    assert!(rt; protect(&mut ram, 5, false));
+    assert!(rt; protect(&mut ram, 5, false, files));
     for region in KINDS {
         let at = region.start;
-        assert!(rt; change(&mut ram, MemOp::Bytes { at, part }).is_ok());
+        assert!(rt; change(&mut ram, MemOp::Bytes { at, part }, files).is_ok());
     }
-    assert!(rt; protect(&mut ram, 5, true));
+    assert!(rt; protect(&mut ram, 5, true, files));
     ram
 }
 
 #[test]
 fn reads_of_every_kind_at_their_edges(rt: HostRuntime) {
-    let ram = numbered(&rt, rt.alloc());
+    let none = Files::open(rt.alloc()).expect(&rt, "it takes no memory");
+    let ram = numbered(&rt, rt.alloc(), &none);
     let window = ram.window();
     let outside = Err(AccessFault::Outside);
     let unaligned = Err(AccessFault::Unaligned);
@@ -170,7 +215,8 @@ fn reads_of_every_kind_at_their_edges(rt: HostRuntime) {
 
 #[test]
 fn ranges_are_lent_in_their_units(rt: HostRuntime) {
-    let ram = numbered(&rt, rt.alloc());
+    let none = Files::open(rt.alloc()).expect(&rt, "it takes no memory");
+    let ram = numbered(&rt, rt.alloc(), &none);
     let window = ram.window();
     assert!(rt; window.bytes(0x1001, 7) == Ok([2u8, 3, 4, 5, 6, 7, 8].as_slice()));
     assert!(rt; window.bytes(0x1001, 8) == Err(AccessFault::Outside));
@@ -187,7 +233,8 @@ fn ranges_are_lent_in_their_units(rt: HostRuntime) {
 
 #[test]
 fn eeprom_protection_is_taken_away_and_set_again(rt: HostRuntime) {
-    let mut ram = numbered(&rt, rt.alloc());
+    let none = Files::open(rt.alloc()).expect(&rt, "it takes no memory");
+    let mut ram = numbered(&rt, rt.alloc(), &none);
     let at = 0xFFFF_FFF8;
     let (size, value) = (32, 0x0A0B_0C0D);
     let (len, byte) = (1, 9);
@@ -195,14 +242,18 @@ fn eeprom_protection_is_taken_away_and_set_again(rt: HostRuntime) {
     assert!(rt; ram.window().protected(1).is_none());
     assert!(rt; ram.window().protected(6).is_none());
     assert!(rt; ram.window().protected(5) == Some(true));
-    assert!(rt; change(&mut ram, MemOp::Poke { size, at, value }) == Err(AccessFault::Protected));
-    assert!(rt; protect(&mut ram, 5, false));
+    assert!(rt;
+        change(&mut ram, MemOp::Poke { size, at, value }, &none) == Err(AccessFault::Protected)
+    );
+    assert!(rt; protect(&mut ram, 5, false, &none));
     assert!(rt; ram.window().protected(5) == Some(false));
-    assert!(rt; change(&mut ram, MemOp::Poke { size, at, value }).is_ok());
+    assert!(rt; change(&mut ram, MemOp::Poke { size, at, value }, &none).is_ok());
     assert!(rt; ram.window().read32(at) == Ok(0x0A0B_0C0D));
-    assert!(rt; protect(&mut ram, 5, true));
-    assert!(rt; change(&mut ram, MemOp::Fill { at, len, byte }) == Err(AccessFault::Protected));
-    assert!(rt; !protect(&mut ram, 1, true));
+    assert!(rt; protect(&mut ram, 5, true, &none));
+    assert!(rt;
+        change(&mut ram, MemOp::Fill { at, len, byte }, &none) == Err(AccessFault::Protected)
+    );
+    assert!(rt; !protect(&mut ram, 1, true, &none));
     assert!(rt;
         change(
             &mut ram,
@@ -210,7 +261,8 @@ fn eeprom_protection_is_taken_away_and_set_again(rt: HostRuntime) {
                 at: 0x1000,
                 len: 8,
                 byte: 3
-            }
+            },
+            &none
         )
         .is_ok()
     );
@@ -227,7 +279,8 @@ fn admits_file(window: Window<'_>, at: u32, len: u32) -> Result<(), AccessFault>
 
 #[test]
 fn load_files_are_admitted_as_ranges(rt: HostRuntime) {
-    let mut ram = numbered(&rt, rt.alloc());
+    let none = Files::open(rt.alloc()).expect(&rt, "it takes no memory");
+    let mut ram = numbered(&rt, rt.alloc(), &none);
     let window = ram.window();
     assert!(rt; admits_file(window, 0x1000, 8).is_ok());
     assert!(rt; admits_file(window, 0x1001, 8) == Err(AccessFault::Outside));
@@ -235,12 +288,13 @@ fn load_files_are_admitted_as_ranges(rt: HostRuntime) {
     assert!(rt; admits_file(window, 0x3004, 4).is_ok());
     assert!(rt; admits_file(window, 0xFFFF_FFF9, 7) == Err(AccessFault::Protected));
     assert!(rt; admits_file(window, 0xFFFF_FFF9, 8) == Err(AccessFault::Outside));
-    assert!(rt; protect(&mut ram, 5, false));
+    assert!(rt; protect(&mut ram, 5, false, &none));
     assert!(rt; admits_file(ram.window(), 0xFFFF_FFF9, 7).is_ok());
 }
 
 #[test]
 fn operations_land_in_command_order(rt: HostRuntime) {
+    let none = Files::open(rt.alloc()).expect(&rt, "it takes no memory");
     let made = Ram::new(rt.alloc(), Map::new(&KINDS).expect(&rt, "a map"));
     let mut ram = made.expect(&rt, "memory for it");
     ram.upset(0x1000, 0x44);
@@ -265,14 +319,104 @@ fn operations_land_in_command_order(rt: HostRuntime) {
             && window.admits(&earlier).is_ok()
             && window.admits(&poke).is_ok()
     );
-    ram.land(&[later, earlier, poke]);
+    ram.land(&[later, earlier, poke], &none);
     assert!(rt;
         ram.window().bytes(0x1000, 8) == Ok([0x44u8, 0x11, 0x33, 0x44, 0x11, 0x22, 0, 0].as_slice())
     );
 }
 
+// The bytes of a range, where they are all this one.
+fn are_all(window: Window<'_>, at: u32, len: u16, byte: u8) -> bool {
+    if len == 0 {
+        return true;
+    }
+    match window.bytes(at, u32::from(len)) {
+        Ok(bytes) => bytes.iter().all(|b| *b == byte),
+        Err(_) => false,
+    }
+}
+
+#[test]
+fn loads_cross_banks(rt: HostRuntime) -> Result<(), Fail> {
+    let mut files = Files::open(rt.alloc())?;
+    assert!(rt; add_to(&mut files, load_file(rt.alloc(), 0xFFC0, 128, 0x5A)?));
+    assert!(rt; add_to(&mut files, load_file(rt.alloc(), 0x1_FFF0, 17, 0x6B)?));
+    assert!(rt; add_to(&mut files, load_file(rt.alloc(), 0x1_FFFF, 1, 0x7C)?));
+    let map = Map::new(&[region(Kind::Ram, 0, 131_072)])?;
+    let mut ram = Ram::new(rt.alloc(), map)?;
+    assert!(rt;
+        load(&mut ram, 1, &files) && !load(&mut ram, 2, &files) && load(&mut ram, 3, &files)
+    );
+    assert!(rt; !load(&mut ram, 0, &files) && !load(&mut ram, 4, &files));
+    let window = ram.window();
+    assert!(rt; are_all(window, 0, 0xFFC0, 0) && are_all(window, 0xFFC0, 128, 0x5A));
+    assert!(rt; are_all(window, 0x1_0040, 0xFFBF, 0) && window.read8(0x1_FFFF) == Ok(0x7C));
+    Ok(())
+}
+
+#[test]
+fn fills_and_loads_land_in_order(rt: HostRuntime) -> Result<(), Fail> {
+    let mut files = Files::open(rt.alloc())?;
+    assert!(rt; add_to(&mut files, load_file(rt.alloc(), 0x1000, 6, 0x5A)?));
+    let map = Map::new(&[region(Kind::Ram, 0x1000, 131_072)])?;
+    let mut ram = Ram::new(rt.alloc(), map)?;
+    let (at, len, byte) = (0x1001, 65_536, 0x11);
+    assert!(rt; change(&mut ram, MemOp::Fill { at, len, byte }, &files).is_ok());
+    let (at, len, byte) = (0x1_1002, 1, 0x22);
+    assert!(rt; change(&mut ram, MemOp::Fill { at, len, byte }, &files).is_ok());
+    let window = ram.window();
+    assert!(rt; window.read8(0x1000) == Ok(0) && are_all(window, 0x1001, 0xFFFF, 0x11));
+    assert!(rt; window.read32(0x1_1000) == Ok(0x1100_2200));
+    assert!(rt; load(&mut ram, 1, &files));
+    let (size, at, value) = (16, 0x1002, 0x3344);
+    assert!(rt; change(&mut ram, MemOp::Poke { size, at, value }, &files).is_ok());
+    let (at, part) = (0x1003, Chunk::new(&[0x66]));
+    assert!(rt; change(&mut ram, MemOp::Bytes { at, part }, &files).is_ok());
+    assert!(rt;
+        ram.window().bytes(0x1000, 8)
+            == Ok([0x5Au8, 0x5A, 0x33, 0x66, 0x5A, 0x5A, 0x11, 0x11].as_slice())
+    );
+    Ok(())
+}
+
+#[test]
+fn banks_are_landed_one_by_one(rt: HostRuntime) -> Result<(), Fail> {
+    let files = Files::open(rt.alloc())?;
+    let ops = [
+        MemOp::Fill {
+            at: 0xFFFE,
+            len: 4,
+            byte: 0x5A,
+        },
+        MemOp::Poke {
+            size: 16,
+            at: 0xFFFF,
+            value: 0x1122,
+        },
+        MemOp::Bytes {
+            at: 0x1_0001,
+            part: Chunk::new(&[1, 2, 3]),
+        },
+        MemOp::Protect {
+            region: 1,
+            on: true,
+        },
+    ];
+    let mut first = [0; 4];
+    bank_land(0xFFFC, &mut first, &ops, &files);
+    assert_eq!(rt; first, [0, 0, 0x5A, 0x11]);
+    let mut second = [9; 4];
+    bank_land(0x1_0000, &mut second, &ops, &files);
+    assert_eq!(rt; second, [0x22, 1, 2, 3]);
+    let mut last = [7; 2];
+    bank_land(0xFFFF_FFFE, &mut last, &ops, &files);
+    assert_eq!(rt; last, [7, 7]);
+    Ok(())
+}
+
 #[test]
 fn the_largest_map_is_taken(rt: HostRuntime) {
+    let none = Files::open(rt.alloc()).expect(&rt, "it takes no memory");
     let whole = Map::new(&[region(Kind::Ram, 0x10, 4_194_304)]);
     let made = Ram::new(rt.alloc(), whole.expect(&rt, "a map"));
     let mut ram = made.expect(&rt, "memory for it");
@@ -284,7 +428,8 @@ fn the_largest_map_is_taken(rt: HostRuntime) {
                 at: 0x10,
                 len: 4_194_304,
                 byte: 0xA5
-            }
+            },
+            &none
         )
         .is_ok()
     );
@@ -300,7 +445,8 @@ fn the_largest_map_is_taken(rt: HostRuntime) {
 
 #[test]
 fn a_window_is_read_by_two_threads(rt: HostRuntime) {
-    let ram = numbered(&rt, rt.alloc());
+    let none = Files::open(rt.alloc()).expect(&rt, "it takes no memory");
+    let ram = numbered(&rt, rt.alloc(), &none);
     let window = ram.window();
     let (first, last) = thread::join(&rt, || window.read8(0x1000), || window.read16(0x2006));
     assert!(rt; first == Ok(1) && last == Ok(0x0708));

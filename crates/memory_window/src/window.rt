@@ -1,6 +1,7 @@
 //! A view of memory that may be copied and read by several threads.
-ghost use Rattle.std.specs.Prelude.{◌≡◌, ◌+◌, ◌/◌, ◌<◌, ◌≤◌, ◌&&◌, length, take, drop, IfSome, IfOk, IfErr, MatchResult, Ok, Err, IsTrue, option_map, if◌then◌else◌};
-ghost use Rattle.memory_window.specs.Regions.{is_eeprom, total_of};
+ghost use Rattle.std.specs.Prelude.{◌≡◌, ◌+◌, ◌/◌, ◌<◌, ◌≤◌, ◌&&◌, ◌^◌, false, length, take, drop, IfSome, IfOk, IfErr, MatchResult, Ok, Err, IsTrue, option_map, if◌then◌else◌};
+ghost use Rattle.std.specs.List.{list_any};
+ghost use Rattle.memory_window.specs.Regions.{is_eeprom, ends_late, total_of};
 ghost use Rattle.memory_window.specs.Operations.{is_size};
 ghost use Rattle.memory_window.specs.Numbers.{number_of};
 
@@ -22,7 +23,7 @@ pub struct Window<'a> {
     // One flag for each region; those behind the last one say nothing.
     flags: &'a [bool],
     block: &'a [u8],
-    ghost bounded: { (length regions.now ≤ 8) × (length flags.now ≡ 8) × (total_of regions.now ≡ length block.now) },
+    ghost bounded: { (length regions.now ≤ 8) × (length flags.now ≡ 8) × (total_of regions.now ≡ length block.now) × (list_any ends_late regions.now ≡ false) },
 }
 
 impl<'a> Part<'a> {
@@ -46,6 +47,7 @@ impl<'a> Window<'a> {
         requires few { length regions.now ≤ 8 }
         requires flags { length flags.now ≡ 8 }
         requires whole { total_of regions.now ≡ length block.now }
+        requires within { list_any ends_late regions.now ≡ false }
         ensures { seen result ≡ record { areas = cut regions.entry.now block.entry.now; guarded = take (length regions.entry.now) flags.entry.now } }
     {
         Window {
@@ -59,6 +61,7 @@ impl<'a> Window<'a> {
     fn home(self, at: u32, len: u32) -> Option<Part<'a>>
         ensures area { home (seen self.entry).areas at len ≡ option_map area_of result }
         ensures inside { IfSome result (λ p. (p.region.start ≤ at) × (at + len ≤ p.region.start + length p.bytes.now)) }
+        ensures ends { IfSome result (λ p. at + len ≤ 2 ^ 32) }
         ensures guard { IfSome result (λ p. is_guarded (seen self.entry).areas (seen self.entry).guarded at len ≡ (is_eeprom p.region.kind && p.guarded)) }
     {
         let mut from = 0;
@@ -102,6 +105,7 @@ impl<'a> Window<'a> {
         ensures ok { IfOk result (λ p. bytes_of (seen self.entry) at len ≡ Ok (part_of at len (area_of p))) }
         ensures fault { IfErr result (λ fault. bytes_of (seen self.entry) at len ≡ Err fault) }
         ensures inside { IfOk result (λ p. (p.region.start ≤ at) × (at + len ≤ p.region.start + length p.bytes.now)) }
+        ensures ends { IfOk result (λ p. at + len ≤ 2 ^ 32) }
         ensures guard { IfOk result (λ p. is_guarded (seen self.entry).areas (seen self.entry).guarded at len ≡ (is_eeprom p.region.kind && p.guarded)) }
     {
         let Some(part) = self.home(at, len) else {
@@ -143,6 +147,7 @@ impl<'a> Window<'a> {
         requires { 0 < len }
         ensures bytes { MatchResult result (λ bytes. bytes_of (seen self.entry) at len ≡ Ok bytes.now) (λ fault. bytes_of (seen self.entry) at len ≡ Err fault) }
         ensures len { IfOk result (λ bytes. length bytes.now ≡ len) }
+        ensures ends { IfOk result (λ bytes. at + len ≤ 2 ^ 32) }
     {
         let part = self.reach_range(at, len)?;
         let from = (at - part.region.start) as usize;
