@@ -1,34 +1,30 @@
--- What MM leaves is admitted and names no load file.
-use Rattle.std.proofs.Common.{◌≡◌, ℕ, ◌+◌, ◌<◌, ◌%◌, ◌^◌, Bool, true, false, cond, List, [], ◌∷◌, ◌++◌, Option, Some, None, refl, ◌∙◌, subst, arith, append-nil, length-append}
-use Rattle.std.specs.Prelude.{is_none, Result, Ok, Err, is_some}
+-- What MM leaves is admitted, and its load files are there.
+use Rattle.std.proofs.Common.{◌≡◌, ℕ, ◌+◌, ◌<◌, ◌%◌, ◌^◌, Bool, true, false, cond, List, [], ◌∷◌, ◌++◌, length, Option, Some, None, refl, ◌∙◌, subst, arith, append-nil, length-append}
+use Rattle.std.specs.Prelude.{◌==◌, is_none, Result, Ok, Err, is_some}
+use Rattle.std.proofs.lemmas.Grind.{common_steps}
 use Rattle.std.proofs.lemmas.List.Elements.{filter_map-append, All-append}
 use Rattle.std.proofs.lemmas.Nat.{pow_pos}
+use Rattle.packet_forms.specs.Crc.{crc_of}
 use Rattle.commands.proofs.Answering.{none_fail, one_passes}
-use Rattle.memory_window.specs.Memory.{Memory}
-use Rattle.memory_window.specs.Operations.{is_size, IsBacked}
+use Rattle.table_files.specs.Files.{nth}
+use Rattle.memory_window.specs.Operations.{is_size, bytes_loaded, IsBacked}
 use Rattle.memory_window.specs.Access.{is_protected, Admitted}
-use Rattle.memory_window.specs.Window.{seen}
-use Rattle.memory_window.specs.declared.window.Window.{Window}
 use Rattle.memory_window.specs.declared.access.AccessFault.{AccessFault}
 use Rattle.memory_window.specs.declared.operations.MemOp.{MemOp}
 use Rattle.memory_window.specs.declared.operations.MemOp.TheVariants as ops
-use Rattle.mm_core.specs.Reading.{value_at, admission_of, protection_of}
-use Rattle.mm_core.specs.Instructions.{operation_of, is_sized}
-use Rattle.mm_core.specs.Verdicts.{own_refusal, access_refusal}
+use Rattle.mm_core.specs.Reading.{Seen, value_at, range_at, admission_of, protection_of}
+use Rattle.mm_core.specs.Instructions.{file_operation, operation_of, is_fill_len, is_dump_len, is_sized}
+use Rattle.mm_core.specs.Verdicts.{file_refusal, access_refusal, CanObey}
 use Rattle.mm_core.specs.Step.{operations_of}
 use Rattle.mm_core.specs.State.{CanLand}
 use Rattle.mm_core.specs.declared.verdicts.Refusal.{Refusal}
-use Rattle.mm_core.specs.declared.verdicts.Refusal.TheVariants.{Size, Region}
+use Rattle.mm_core.specs.declared.verdicts.Refusal.TheVariants.{Size, Length, Crc, Region}
 use Rattle.mm_core.specs.declared.instructions.Instruction.{Instruction}
-use Rattle.mm_core.specs.declared.instructions.Instruction.TheVariants.{Plain, Peek, Poke, Protect}
+use Rattle.mm_core.specs.declared.instructions.Instruction.TheVariants.{Plain, Peek, Poke, Load, LoadFile, Fill, Protect, Dump}
 
 access_passes : (access : Result (Unit {0}) AccessFault) → access_refusal access ≡ None → access ≡ Ok tt
 access_passes (Ok done) passes = refl
 access_passes (Err fault) passes = cc
-
-chosen : (test : Bool) (own : Option Refusal) → cond test own (Some Size) ≡ None → (test ≡ true) × (own ≡ None)
-chosen true own passes = (refl, passes)
-chosen false own passes = cc
 
 is_eeprom_number : (protection : Option Bool) → cond {A = Option Refusal} (is_none protection) (Some Region) None ≡ None → is_some protection ≡ true
 is_eeprom_number None passes = cc
@@ -37,56 +33,88 @@ is_eeprom_number (Some guarded) passes = refl
 low_fits : (size value : ℕ) → value % 2 ^ size < 2 ^ size
 low_fits size value = let some : 0 < 2 ^ size = pow_pos size in omega arith
 
+chosen : (test : Bool) (own : Option Refusal) (e : Refusal) → cond test own (Some e) ≡ None → (test ≡ true) × (own ≡ None)
+chosen true own e passes = (refl, passes)
+chosen false own e passes = cc
+
 -- a command that its own refusals let pass has a size that can be read and written
-pub passes_sized : (image : Memory) (instruction : Instruction) → own_refusal image instruction ≡ None → is_sized instruction ≡ true
-passes_sized image Plain passes = refl
-passes_sized image (Peek size at) passes = (chosen (is_size size) (access_refusal (value_at image size at)) passes).0
-passes_sized image (Poke size at value) passes = (chosen (is_size size) (access_refusal (admission_of image (ops.Poke size at (value % 2 ^ size)))) passes).0
-passes_sized image (Protect region on) passes = refl
+pub passes_sized : (seen : Seen) (instruction : Instruction) → CanObey seen instruction → is_sized instruction ≡ true
+passes_sized seen Plain can = refl
+passes_sized seen (Peek size at) can = (chosen (is_size size) (access_refusal (value_at seen.image size at)) Size can.passes).0
+passes_sized seen (Poke size at value) can = (chosen (is_size size) (access_refusal (admission_of seen.image (ops.Poke size at (value % 2 ^ size)))) Size can.passes).0
+passes_sized seen (Load at crc part) can = refl
+passes_sized seen (LoadFile n) can = refl
+passes_sized seen (Fill at len byte) can = refl
+passes_sized seen (Protect region on) can = refl
+passes_sized seen (Dump at len) can = (chosen (is_dump_len len) (access_refusal (range_at seen.image at len)) Length can.passes).0
 
--- and leaves an operation that memory admits
-pub operation_admitted : (image : Memory) (instruction : Instruction) (op : MemOp) → own_refusal image instruction ≡ None → operation_of instruction ≡ Some op → Admitted image op
+some_fill : (len : ℕ) → is_fill_len len ≡ true → 0 < len
+some_fill len test = grind (arith, common_steps)
+
+-- an operation that can land: memory admits it, and its load file is there
+pub record Lands (seen : Seen) (op : MemOp) : Type 0 where
+  pub admitted : Admitted seen.image op
+  pub backed : IsBacked seen.loads op
+
+-- the operation that loads a file
+file_lands : (seen : Seen) (n : ℕ) (found : Option (ℕ × List ℕ)) (op : MemOp) → nth seen.loads n ≡ found → file_refusal seen.image n found ≡ None → 0 < length (bytes_loaded found) → file_operation n found ≡ Some op → Lands seen op
+unfolding admission_of
+file_lands seen n None op is passes some_bytes left = cc
+file_lands seen n (Some load) op is passes some_bytes left =
+    let same : ops.FromFile n load.0 (length load.1) ≡ op = cc in
+    subst (Lands seen) same (record {
+      admitted = record { can_ask = some_bytes; admits = access_passes (admission_of seen.image (ops.FromFile n load.0 (length load.1))) passes };
+      backed = (load.1, is, refl);
+    })
+
+-- and leaves an operation that can land
+pub operation_lands : (seen : Seen) (instruction : Instruction) (op : MemOp) → CanObey seen instruction → operation_of seen.loads instruction ≡ Some op → Lands seen op
 unfolding admission_of protection_of
-operation_admitted image Plain op passes left = cc
-operation_admitted image (Peek size at) op passes left = cc
-operation_admitted image (Poke size at value) op passes left =
+operation_lands seen Plain op can left = cc
+operation_lands seen (Peek size at) op can left = cc
+operation_lands seen (Poke size at value) op can left =
     let same : ops.Poke size at (value % 2 ^ size) ≡ op = cc in
-    let parts = chosen (is_size size) (access_refusal (admission_of image (ops.Poke size at (value % 2 ^ size)))) passes in
-    subst (Admitted image) same (record { can_ask = (parts.0, low_fits size value); admits = access_passes (admission_of image (ops.Poke size at (value % 2 ^ size))) parts.1 })
-operation_admitted image (Protect region on) op passes left =
+    let parts = chosen (is_size size) (access_refusal (admission_of seen.image (ops.Poke size at (value % 2 ^ size)))) Size can.passes in
+    subst (Lands seen) same (record { admitted = record { can_ask = (parts.0, low_fits size value); admits = access_passes (admission_of seen.image (ops.Poke size at (value % 2 ^ size))) parts.1 }; backed = tt })
+operation_lands seen (Load at crc part) op can left =
+    let same : ops.Bytes at part ≡ op = cc in
+    let parts = chosen (crc_of 0 part == crc) (access_refusal (admission_of seen.image (ops.Bytes at part))) Crc can.passes in
+    subst (Lands seen) same (record { admitted = record { can_ask = can.has_bytes; admits = access_passes (admission_of seen.image (ops.Bytes at part)) parts.1 }; backed = tt })
+operation_lands seen (LoadFile n) op can left = file_lands seen n (nth seen.loads n) op refl can.passes can.has_bytes left
+operation_lands seen (Fill at len byte) op can left =
+    let same : ops.Fill at len byte ≡ op = cc in
+    let parts = chosen (is_fill_len len) (access_refusal (admission_of seen.image (ops.Fill at len byte))) Length can.passes in
+    subst (Lands seen) same (record { admitted = record { can_ask = some_fill len parts.0; admits = access_passes (admission_of seen.image (ops.Fill at len byte)) parts.1 }; backed = tt })
+operation_lands seen (Protect region on) op can left =
     let same : ops.Protect region on ≡ op = cc in
-    subst (Admitted image) same (record { can_ask = is_eeprom_number (is_protected image region) passes; admits = refl })
-
-operation_backed : (instruction : Instruction) (op : MemOp) → operation_of instruction ≡ Some op → IsBacked [] op
-operation_backed Plain op left = cc
-operation_backed (Peek size at) op left = cc
-operation_backed (Poke size at value) op left = let same : ops.Poke size at (value % 2 ^ size) ≡ op = cc in subst (IsBacked []) same tt
-operation_backed (Protect region on) op left = let same : ops.Protect region on ≡ op = cc in subst (IsBacked []) same tt
+    subst (Lands seen) same (record { admitted = record { can_ask = is_eeprom_number (is_protected seen.image region) can.passes; admits = refl }; backed = tt })
+operation_lands seen (Dump at len) op can left = cc
 
 -- no operation, and one more
-pub nothing_lands : (window : Window) (ops : List MemOp) → ops ≡ [] → CanLand window 0 ops
-nothing_lands window ops none = rw none (record { few = omega arith; admitted = none_fail (Admitted (seen window)); backed = none_fail (IsBacked []) })
+pub nothing_lands : (seen : Seen) (ops : List MemOp) → ops ≡ [] → CanLand seen 0 ops
+nothing_lands seen ops none = rw none (record { few = omega arith; admitted = none_fail (Admitted seen.image); backed = none_fail (IsBacked seen.loads) })
 
-pub one_more_lands : (window : Window) (n : ℕ) (before after : List MemOp) (instruction : Instruction) (op : MemOp) → CanLand window n before → own_refusal (seen window) instruction ≡ None → operation_of instruction ≡ Some op
-    → after ≡ before ++ op ∷ [] → CanLand window (n + 1) after
-one_more_lands window n before after instruction op land passes left is =
+pub one_more_lands : (seen : Seen) (n : ℕ) (before after : List MemOp) (instruction : Instruction) (op : MemOp) → CanLand seen n before → CanObey seen instruction → operation_of seen.loads instruction ≡ Some op
+    → after ≡ before ++ op ∷ [] → CanLand seen (n + 1) after
+one_more_lands seen n before after instruction op land can left is =
     let few = land.few in
     let long = length-append before (op ∷ []) in
+    let lands = operation_lands seen instruction op can left in
     rw is (record {
       few = omega (arith, long, few);
-      admitted = All-append (Admitted (seen window)) before (op ∷ []) land.admitted (one_passes (Admitted (seen window)) op (operation_admitted (seen window) instruction op passes left));
-      backed = All-append (IsBacked []) before (op ∷ []) land.backed (one_passes (IsBacked []) op (operation_backed instruction op left));
+      admitted = All-append (Admitted seen.image) before (op ∷ []) land.admitted (one_passes (Admitted seen.image) op lands.admitted);
+      backed = All-append (IsBacked seen.loads) before (op ∷ []) land.backed (one_passes (IsBacked seen.loads) op lands.backed);
     })
 
 -- the operations of these orders at one more
-pub operations_same : (orders : List Instruction) (instruction : Instruction) → operation_of instruction ≡ None → operations_of (orders ++ instruction ∷ []) ≡ operations_of orders
+pub operations_same : (loads : List (ℕ × List ℕ)) (orders : List Instruction) (instruction : Instruction) → operation_of loads instruction ≡ None → operations_of loads (orders ++ instruction ∷ []) ≡ operations_of loads orders
 unfolding operations_of
-operations_same orders instruction none = filter_map-append operation_of orders (instruction ∷ []) ∙ rw none (append-nil (operations_of orders))
+operations_same loads orders instruction none = filter_map-append (operation_of loads) orders (instruction ∷ []) ∙ rw none (append-nil (operations_of loads orders))
 
-pub operations_more : (orders : List Instruction) (instruction : Instruction) (op : MemOp) → operation_of instruction ≡ Some op → operations_of (orders ++ instruction ∷ []) ≡ operations_of orders ++ op ∷ []
+pub operations_more : (loads : List (ℕ × List ℕ)) (orders : List Instruction) (instruction : Instruction) (op : MemOp) → operation_of loads instruction ≡ Some op → operations_of loads (orders ++ instruction ∷ []) ≡ operations_of loads orders ++ op ∷ []
 unfolding operations_of
-operations_more orders instruction op some = filter_map-append operation_of orders (instruction ∷ []) ∙ rw some refl
+operations_more loads orders instruction op some = filter_map-append (operation_of loads) orders (instruction ∷ []) ∙ rw some refl
 
-pub operations_none : operations_of [] ≡ []
+pub operations_none : (loads : List (ℕ × List ℕ)) → operations_of loads [] ≡ []
 unfolding operations_of
-operations_none = refl
+operations_none loads = refl

@@ -33,4 +33,4 @@ items_asleep history input none = ap (command_items mm_answers mm_name (turn_of 
 
 pub operations_asleep : (input : Input) → input.commands ≡ [] → mm_operations input ≡ []
 unfolding mm_operations operations_of orders_in
-operations_asleep input none = ap (λ (heard : List (Verdict Instruction)). operations_of (orders_in heard)) (none_heard input none)
+operations_asleep input none = ap (λ (heard : List (Verdict Instruction)). operations_of input.seen.loads (orders_in heard)) (none_heard input none)

@@ -15,13 +15,19 @@ command_id = 0x1888
 abbrev pub request_id : ℕ
 request_id = 0x1889
 
--- Its housekeeping, and the packet with a value that was read.
+-- Its housekeeping, the packet with a value that was read, and that with a part of a dump.
 abbrev pub housekeeping_id : ℕ
 housekeeping_id = 0x0887
 
 abbrev pub peek_id : ℕ
 peek_id = 0x088A
 
--- The codes, each with the shortest and the longest payload: no-op, reset counters, peek, poke, and EEPROM enable and disable.
+abbrev pub dump_id : ℕ
+dump_id = 0x088B
+
+-- The codes, each with the shortest and the longest payload: no-op, reset counters, peek, poke, load, load of a file, fill, EEPROM
+-- enable and disable, and dump.
 unfoldable pub mm_codes : List CodeRow
-mm_codes = code_row 0 0 0 ∷ code_row 1 0 0 ∷ code_row 2 5 5 ∷ code_row 3 9 9 ∷ code_row 11 1 1 ∷ code_row 12 1 1 ∷ []
+mm_codes =
+    code_row 0 0 0 ∷ code_row 1 0 0 ∷ code_row 2 5 5 ∷ code_row 3 9 9 ∷ code_row 4 7 206 ∷ code_row 5 2 2 ∷ code_row 8 9 9 ∷ code_row 11 1 1 ∷ code_row 12 1 1
+    ∷ code_row 13 8 8 ∷ []

@@ -15,9 +15,9 @@ area kind start bytes = record { region = record { kind = kind; start = start; l
 abbrev pub three_areas : Memory
 three_areas = record { areas = area Ram 0x1000 (0xA1 ∷ 0xB2 ∷ 0xC3 ∷ 0xD4 ∷ zeros 12) ∷ area Eeprom 0x2000 (zeros 16) ∷ area Mem16 0x3000 (zeros 16) ∷ []; guarded = false ∷ true ∷ false ∷ [] }
 
--- That memory, and no load files.
+-- That memory, and two load files: two bytes for 0x1008, and one for protected EEPROM.
 abbrev pub seen_three : Seen
-seen_three = record { image = three_areas; files = [] }
+seen_three = record { image = three_areas; loads = (0x1008, 0xE1 ∷ 0xE2 ∷ []) ∷ (0x200F, 0xE3 ∷ []) ∷ [] }
 
 -- Eight regions of EEPROM, each protected or not.
 abbrev pub eight_regions : List Bool → Memory

@@ -19,9 +19,9 @@ use Rattle.mm_core.specs.declared.instructions.Instruction.{Instruction}
 abbrev pub Input : Type 0
 Input = CommandInput Seen
 
--- The input of a wakeup at this time with these packets and this window.
-abbrev pub input_of : ℕ → List (List ℕ) → Window → Input
-input_of now commands window = record { time = now; commands = commands; seen = seen_in window }
+-- The input of a wakeup at this time with these packets, this window, and the load files among these files.
+abbrev pub input_of : ℕ → List (List ℕ) → Window → List (List ℕ) → Input
+input_of now commands window files = record { time = now; commands = commands; seen = seen_in window files }
 
 -- The verdicts on the packets of a wakeup, and on all packets of a history.
 abbrev pub heard_at : Input → List (Verdict Instruction)
@@ -51,9 +51,9 @@ unfoldable pub mm_items : List Input → Input → List Out
 mm_items history input = command_items mm_answers mm_name (turn_of history input) (heard_at input)
 
 -- The operations that these orders leave, in command order.
-unfoldable pub operations_of : List Instruction → List MemOp
-operations_of orders = filter_map operation_of orders
+unfoldable pub operations_of : List (ℕ × List ℕ) → List Instruction → List MemOp
+operations_of loads orders = filter_map (operation_of loads) orders
 
 -- The operations that MM leaves in a wakeup.
 unfoldable pub mm_operations : Input → List MemOp
-mm_operations input = operations_of (orders_in (heard_at input))
+mm_operations input = operations_of input.seen.loads (orders_in (heard_at input))

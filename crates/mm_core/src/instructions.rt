@@ -1,15 +1,23 @@
 //! What a command asks for.
 ghost use Rattle.std.specs.Prelude.{◌≡◌, true};
-ghost use Rattle.mm_core.specs.Instructions.{operation_of, is_sized};
+ghost use Rattle.table_files.specs.Files.{loads_of, nth};
+ghost use Rattle.mm_core.specs.Instructions.{file_operation, operation_of, is_fill_len, is_dump_len, is_sized};
 
 use crate::messages::{CODES, COMMAND_ID, REQUEST_ID, name};
 use crate::reading::low_bits;
 use commands::{Command, Terms};
-use memory_window::MemOp;
-use packet_forms::{Name, be32};
+use memory_window::{Chunk, MemOp};
+use packet_forms::{Name, be16, be32};
+use table_files::Files;
+
+/// How many bytes a command fills at most.
+const MOST_FILLED: u32 = 65_536;
+
+/// How many bytes a command dumps at most.
+const MOST_DUMPED: u32 = 2_048;
 
 /// What an accepted command asks for.
-#[derive(Clone, Copy, Debug, PartialEq, Eq)]
+#[derive(Clone, Copy, Debug)]
 pub(crate) enum Instruction {
     /// Nothing of memory.
     Plain,
@@ -17,8 +25,16 @@ pub(crate) enum Instruction {
     Peek { size: u8, at: u32 },
     /// To write the low `size` bits of `value`.
     Poke { size: u8, at: u32, value: u32 },
+    /// To write the bytes, which are to have this check.
+    Load { at: u32, crc: u16, part: Chunk },
+    /// To write the bytes of the load file of this number, counted from 1, at its address.
+    LoadFile { load: u16 },
+    /// To write `len` times the byte.
+    Fill { at: u32, len: u32, byte: u8 },
     /// To set the protection of an EEPROM region or to take it away.
     Protect { region: u8, on: bool },
+    /// To show `len` bytes.
+    Dump { at: u32, len: u32 },
 }
 
 impl Command for Instruction {
@@ -51,6 +67,19 @@ impl Command for Instruction {
                 at: be32(payload, 1),
                 value: be32(payload, 5),
             },
+            4 => Instruction::Load {
+                at: be32(payload, 0),
+                crc: be16(payload, 4),
+                part: Chunk::new(&payload[6..]),
+            },
+            5 => Instruction::LoadFile {
+                load: be16(payload, 0),
+            },
+            8 => Instruction::Fill {
+                at: be32(payload, 0),
+                len: be32(payload, 4),
+                byte: payload[8],
+            },
             11 => Instruction::Protect {
                 region: payload[0],
                 on: false,
@@ -59,15 +88,19 @@ impl Command for Instruction {
                 region: payload[0],
                 on: true,
             },
+            13 => Instruction::Dump {
+                at: be32(payload, 0),
+                len: be32(payload, 4),
+            },
             _ => Instruction::Plain,
         }
     }
 }
 
-/// The operation that a command leaves.
-pub(crate) fn operation_of(instruction: &Instruction) -> Option<MemOp>
+/// The operation that a command leaves, with these files.
+pub(crate) fn operation_of(files: &Files, instruction: &Instruction) -> Option<MemOp>
     requires { is_sized instruction.now ≡ true }
-    ensures { result ≡ operation_of instruction.now }
+    ensures { result ≡ operation_of (loads_of files.now) instruction.now }
 {
     match instruction {
         Instruction::Plain => None,
@@ -77,9 +110,48 @@ pub(crate) fn operation_of(instruction: &Instruction) -> Option<MemOp>
             at: *at,
             value: low_bits(*size, *value),
         }),
+        Instruction::Load { at, part, .. } => Some(MemOp::Bytes {
+            at: *at,
+            part: *part,
+        }),
+        Instruction::LoadFile { load } => file_operation(files, *load),
+        Instruction::Fill { at, len, byte } => Some(MemOp::Fill {
+            at: *at,
+            len: *len,
+            byte: *byte,
+        }),
         Instruction::Protect { region, on } => Some(MemOp::Protect {
             region: u32::from(*region),
             on: *on,
         }),
+        Instruction::Dump { .. } => None,
     }
+}
+
+/// The operation that loads the file of a number, where there is one.
+pub(crate) fn file_operation(files: &Files, load: u16) -> Option<MemOp>
+    ensures { result ≡ file_operation load (nth (loads_of files.now) load) }
+{
+    match files.load(u32::from(load)) {
+        None => None,
+        Some((at, bytes)) => Some(MemOp::FromFile {
+            load: u32::from(load),
+            at,
+            len: bytes.len() as u32,
+        }),
+    }
+}
+
+/// Whether one command may fill so many bytes.
+pub(crate) fn is_fill_len(len: u32) -> bool
+    ensures { result ≡ is_fill_len len }
+{
+    0 < len && len <= MOST_FILLED
+}
+
+/// Whether one command may dump so many bytes.
+pub(crate) fn is_dump_len(len: u32) -> bool
+    ensures { result ≡ is_dump_len len }
+{
+    0 < len && len <= MOST_DUMPED
 }

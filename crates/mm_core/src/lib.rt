@@ -1,4 +1,4 @@
-//! MM: memory peek and poke, and the protection of EEPROM regions, by command.
+//! MM: memory is read and written by command, as a value, as bytes and from files, and EEPROM regions are protected.
 #![tactic(auto)]
 
 mod answers;

@@ -14,14 +14,20 @@ pub(crate) const HOUSEKEEPING_ID: u16 = 0x0887;
 
 pub(crate) const PEEK_ID: u16 = 0x088A;
 
-/// No-op, reset counters, peek, poke, and EEPROM enable and disable.
-pub(crate) const CODES: [CodeRow; 6] = [
+pub(crate) const DUMP_ID: u16 = 0x088B;
+
+/// No-op, reset counters, peek, poke, load, load of a file, fill, EEPROM enable and disable, and dump.
+pub(crate) const CODES: [CodeRow; 10] = [
     CodeRow(0, 0, 0),
     CodeRow(1, 0, 0),
     CodeRow(2, 5, 5),
     CodeRow(3, 9, 9),
+    CodeRow(4, 7, 206),
+    CodeRow(5, 2, 2),
+    CodeRow(8, 9, 9),
     CodeRow(11, 1, 1),
     CodeRow(12, 1, 1),
+    CodeRow(13, 8, 8),
 ];
 
 /// MM's name.

@@ -1,11 +1,19 @@
 //! What is read and asked of the window.
-ghost use Rattle.std.specs.Prelude.{◌≡◌, ◌<◌, ◌^◌, ◌%◌, IsTrue, is_none, not, Ok};
+ghost use Rattle.std.specs.Prelude.{◌≡◌, ◌+◌, ◌<◌, ◌≤◌, ◌^◌, ◌%◌, length, IsTrue, IfOk, MatchResult, Ok, Err};
 ghost use Rattle.memory_window.specs.Operations.{is_size};
+ghost use Rattle.memory_window.specs.Access.{CanAsk};
 ghost use Rattle.memory_window.specs.Window.{seen};
-ghost use Rattle.memory_window.specs.declared.operations.MemOp.TheVariants as ops;
-ghost use Rattle.mm_core.specs.Reading.{value_at, admission_of, protection_of};
+ghost use Rattle.mm_core.specs.Reading.{value_at, range_at, admission_of, protection_of};
 
 use memory_window::{AccessFault, MemOp, Window};
+use table_files::Files;
+
+/// What MM reads beside its packets: the frame's image, and the files that were handed over.
+#[derive(Clone, Copy)]
+pub(crate) struct Reads<'a> {
+    pub(crate) window: Window<'a>,
+    pub(crate) files: &'a Files,
+}
 
 /// Reads 8, 16 or 32 bits.
 #[tactic(auto, unfolding(crate::specs::Reading::value_at))]
@@ -30,22 +38,24 @@ pub(crate) fn protection_of(window: Window<'_>, region: u8) -> Option<bool>
     window.protected(u32::from(region))
 }
 
-/// Whether a poke of the low bits of a value is admitted.
-#[tactic(auto, unfolding(crate::specs::Reading::admission_of))]
-pub(crate) fn poke_admission(
-    window: Window<'_>,
-    size: u8,
-    at: u32,
-    value: u32,
-) -> Result<(), AccessFault>
-    requires { IsTrue (is_size size) }
-    ensures { result ≡ admission_of (seen window.entry) (MemOp.Poke size at (value % 2 ^ size)) }
+/// The bytes of a range.
+#[tactic(auto, unfolding(crate::specs::Reading::range_at))]
+pub(crate) fn range_at(window: Window<'_>, at: u32, len: u32) -> Result<&[u8], AccessFault>
+    requires { 0 < len }
+    ensures bytes { MatchResult result (λ bytes. range_at (seen window.entry) at len ≡ Ok bytes.now) (λ fault. range_at (seen window.entry) at len ≡ Err fault) }
+    ensures len { IfOk result (λ bytes. length bytes.now ≡ len) }
+    ensures ends { IfOk result (λ bytes. at + len ≤ 2 ^ 32) }
 {
-    window.admits(&MemOp::Poke {
-        size,
-        at,
-        value: low_bits(size, value),
-    })
+    window.bytes(at, len)
+}
+
+/// Whether an operation is admitted.
+#[tactic(auto, unfolding(crate::specs::Reading::admission_of))]
+pub(crate) fn admission_of(window: Window<'_>, op: &MemOp) -> Result<(), AccessFault>
+    requires { CanAsk (seen window) op.now }
+    ensures { result ≡ admission_of (seen window.entry) op.now }
+{
+    window.admits(op)
 }
 
 /// The low 8, 16 or 32 bits of a value.

@@ -4,6 +4,7 @@ ghost use Rattle.std.specs.List.{AllPass};
 ghost use Rattle.bus_pipes.specs.Counted.{is_item_counted};
 ghost use Rattle.memory_window.specs.Access.{Admitted};
 ghost use Rattle.memory_window.specs.Operations.{IsBacked};
+ghost use Rattle.table_files.specs.Files.{loads_of};
 ghost use Rattle.memory_window.specs.Window.{seen};
 ghost use Rattle.mm_core.specs.Step.{Input, input_of, mm_items, mm_operations};
 ghost use Rattle.mm_core.specs.State.{Stands};
@@ -11,23 +12,24 @@ ghost use Rattle.mm_core.specs.State.{Stands};
 use crate::answers::reply;
 use crate::housekeeping::housekeeping;
 use crate::instructions::{Instruction, operation_of};
+use crate::reading::Reads;
 use crate::state::Mm;
 use crate::verdicts::{Refusal, own_refusal};
 use bus_pipes::{Counts, Outbox};
 use commands::{Commanded, handle_all};
 use memory_window::{Ops, Window};
 use packet_forms::Packet;
+use table_files::Files;
 
 // Commands change nothing of MM but its counts: all else is left to the end of the frame.
 #[derive(Clone, Copy, Debug, PartialEq, Eq)]
 struct Hands {}
 
-impl<'a> Commanded<Window<'a>> for Hands {
-    ghost use Rattle.std.specs.Prelude.{◌≡◌, None};
+impl<'a> Commanded<Reads<'a>> for Hands {
+    ghost use Rattle.std.specs.Prelude.{◌≡◌};
     ghost use Rattle.std.proofs.Common.{arith};
-    ghost use Rattle.memory_window.specs.Window.{seen};
     ghost use Rattle.mm_core.specs.Reading.{Seen, seen_in};
-    ghost use Rattle.mm_core.specs.Verdicts.{own_refusal};
+    ghost use Rattle.mm_core.specs.Verdicts.{own_refusal, CanObey};
     ghost use Rattle.mm_core.specs.Step.{Turn, mm_answers, operations_of};
     ghost use Rattle.mm_core.specs.State.{CanLand};
 
@@ -41,44 +43,44 @@ impl<'a> Commanded<Window<'a>> for Hands {
 
     ghost Turn = { Turn };
 
-    ghost refuses = { λ seen orders instruction. own_refusal seen.image instruction };
+    ghost refuses = { λ seen orders instruction. own_refusal seen instruction };
 
     ghost answers = { mm_answers };
 
     ghost basis = { λ turn. turn.input.seen };
 
-    ghost belongs = { λ turn window now. (turn.input.seen ≡ seen_in window) × (turn.input.time ≡ now) };
+    ghost belongs = { λ turn reads now. (turn.input.seen ≡ seen_in reads.window reads.files.now) × (turn.input.time ≡ now) };
 
-    ghost stands = { λ turn orders hands ops. ops ≡ operations_of orders };
+    ghost stands = { λ turn orders hands ops. ops ≡ operations_of turn.input.seen.loads orders };
 
-    ghost is_safe = { λ window n hands ops. CanLand window n ops };
+    ghost is_safe = { λ reads n hands ops. CanLand (seen_in reads.window reads.files.now) n ops };
 
-    ghost can_obey = { λ window hands instruction. own_refusal (seen window) instruction ≡ None };
+    ghost can_obey = { λ reads hands instruction. CanObey (seen_in reads.window reads.files.now) instruction };
 
-    ghost most = { 1 };
+    ghost most = { 16 };
 
-    ghost still_safe = { λ window n hands ops safe. record { few = Prim.omega arith; admitted = safe.admitted; backed = safe.backed } };
+    ghost still_safe = { λ reads n hands ops safe. record { few = Prim.omega arith; admitted = safe.admitted; backed = safe.backed } };
 
-    ghost timed = { λ turn window now belongs. belongs.1 };
+    ghost timed = { λ turn reads now belongs. belongs.1 };
 
-    fn refusal(&self, instruction: &Instruction, reads: Window<'a>, now: u32) -> Option<Refusal> {
+    fn refusal(&self, instruction: &Instruction, reads: Reads<'a>, now: u32) -> Option<Refusal> {
         own_refusal(reads, instruction)
     }
 
-    fn housekeeping(&self, counts: Counts, reads: Window<'a>, now: u32) -> Packet {
-        housekeeping(reads, counts, now)
+    fn housekeeping(&self, counts: Counts, reads: Reads<'a>, now: u32) -> Packet {
+        housekeeping(reads.window, counts, now)
     }
 
     fn obey(
         &mut self,
         instruction: &Instruction,
-        reads: Window<'a>,
+        reads: Reads<'a>,
         now: u32,
         left: &mut Ops,
         out: &mut Outbox,
     ) {
-        reply(reads, instruction, now, out);
-        let Some(op) = operation_of(instruction) else {
+        reply(reads.window, instruction, now, out);
+        let Some(op) = operation_of(reads.files, instruction) else {
             return;
         };
         left.push(op);
@@ -87,9 +89,11 @@ impl<'a> Commanded<Window<'a>> for Hands {
 
 impl Mm {
     /// Handles the packets of the pipe, at most 16. What is sent goes to `out`, which is empty, the operations to `ops`,
-    /// which is empty too, and the state after the wakeup to `next`. All reading and all admission is by the window.
+    /// which is empty too, and the state after the wakeup to `next`. All reading and all admission is by the window; load
+    /// files are those among the files.
     pub fn step(
         &self,
+        files: &Files,
         commands: &[Packet],
         window: Window<'_>,
         now: u32,
@@ -101,22 +105,23 @@ impl Mm {
         requires empty { out.old.items ≡ [] }
         requires room { 272 ≤ out.old.room }
         requires no_ops { ops.old ≡ [] }
-        ensures stands { (history : List Input) → Stands history self.now → Stands (history ++ input_of now commands.now window.entry ∷ []) next.new }
-        ensures items { (history : List Input) → Stands history self.now → out.new.items ≡ mm_items history (input_of now commands.now window.entry) }
-        ensures ops { ops.new ≡ mm_operations (input_of now commands.now window.entry) }
+        ensures stands { (history : List Input) → Stands history self.now → Stands (history ++ input_of now commands.now window.entry files.now ∷ []) next.new }
+        ensures items { (history : List Input) → Stands history self.now → out.new.items ≡ mm_items history (input_of now commands.now window.entry files.now) }
+        ensures ops { ops.new ≡ mm_operations (input_of now commands.now window.entry files.now) }
         ensures admitted { All (Admitted (seen window.entry)) ops.new }
-        ensures backed { All (IsBacked []) ops.new }
+        ensures backed { All (IsBacked (loads_of files.now)) ops.new }
         ensures counted { AllPass is_item_counted out.new.items }
         ensures few { length out.new.items ≤ 17 * length commands.now }
         ensures room { out.new.room ≡ out.old.room }
     {
         *next = *self;
-        next.advance(commands, window, now, out, ops);
+        next.advance(files, commands, window, now, out, ops);
     }
 
     /// The same in place.
     pub fn advance(
         &mut self,
+        files: &Files,
         commands: &[Packet],
         window: Window<'_>,
         now: u32,
@@ -127,11 +132,11 @@ impl Mm {
         requires empty { out.old.items ≡ [] }
         requires room { 272 ≤ out.old.room }
         requires no_ops { ops.old ≡ [] }
-        ensures stands { (history : List Input) → Stands history self.old → Stands (history ++ input_of now commands.now window.entry ∷ []) self.new }
-        ensures items { (history : List Input) → Stands history self.old → out.new.items ≡ mm_items history (input_of now commands.now window.entry) }
-        ensures ops { ops.new ≡ mm_operations (input_of now commands.now window.entry) }
+        ensures stands { (history : List Input) → Stands history self.old → Stands (history ++ input_of now commands.now window.entry files.now ∷ []) self.new }
+        ensures items { (history : List Input) → Stands history self.old → out.new.items ≡ mm_items history (input_of now commands.now window.entry files.now) }
+        ensures ops { ops.new ≡ mm_operations (input_of now commands.now window.entry files.now) }
         ensures admitted { All (Admitted (seen window.entry)) ops.new }
-        ensures backed { All (IsBacked []) ops.new }
+        ensures backed { All (IsBacked (loads_of files.now)) ops.new }
         ensures counted { AllPass is_item_counted out.new.items }
         ensures few { length out.new.items ≤ 17 * length commands.now }
         ensures room { out.new.room ≡ out.old.room }
@@ -140,7 +145,7 @@ impl Mm {
             &mut self.counts,
             &mut Hands {},
             commands,
-            window,
+            Reads { window, files },
             now,
             ops,
             out,

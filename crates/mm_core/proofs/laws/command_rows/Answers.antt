@@ -4,11 +4,12 @@ use Rattle.packet_forms.specs.Packets.{message_id, function_code, is_checksum_ri
 use Rattle.commands.specs.Verdicts.{verdict_at}
 use Rattle.mm_core.specs.Messages.{mm_codes, mm_name}
 use Rattle.mm_core.specs.Instructions.{instruction_of}
-use Rattle.mm_core.specs.Reading.{value_at, admission_of, protection_of}
+use Rattle.mm_core.specs.Reading.{value_at, range_at, admission_of, protection_of}
+use Rattle.packet_forms.specs.Crc.{low_bits, crc_bit, crc_of}
 use Rattle.mm_core.proofs.laws.command_rows.Goals as goal
 
 pub returns : goal.returns
-unfolding be16_at be32_at message_id function_code is_checksum_right checksum_of payload_of is_command verdict_at mm_codes mm_name instruction_of value_at admission_of protection_of
+unfolding be16_at be32_at message_id function_code is_checksum_right checksum_of payload_of is_command verdict_at mm_codes mm_name instruction_of value_at admission_of protection_of low_bits crc_bit crc_of range_at
 returns c = record {
   noop = refl;
   reset = refl;
@@ -18,4 +19,8 @@ returns c = record {
   disable = refl;
   request = refl;
   other = refl;
+  load = refl;
+  load_file = refl;
+  fill = refl;
+  dump = refl;
 }
