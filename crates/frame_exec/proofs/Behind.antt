@@ -33,9 +33,10 @@ pub ready_beside : (b : Bench) (block : Waiting) (room : b.drops.room ≡ 1525) 
 ready_beside b block room ready = record { cs = ready.cs; md = ready.md }
 
 -- a bench whose block is empty stands for all frames as earlier ones
-pub begins_behind : (b : Bench) (setup : Setup) (frames : List Frame) → b.epoch ≡ setup.epoch → has_failed b ≡ false → Has b (run_of setup frames) → IsReady b → b.block ≡ empty_block → Follows b setup frames []
-begins_behind b setup frames epoch well has ready empty = record {
+pub begins_behind : (b : Bench) (setup : Setup) (frames : List Frame) → b.epoch ≡ setup.epoch → b.files.now ≡ setup.files → has_failed b ≡ false → Has b (run_of setup frames) → IsReady b → b.block ≡ empty_block → Follows b setup frames []
+begins_behind b setup frames epoch files well has ready empty = record {
   epoch = epoch;
+  files = files;
   well = well;
   has = subst (λ (fs : List Frame). Has b (run_of setup fs)) (sym (append-nil frames)) has;
   ready = ready;
@@ -44,7 +45,7 @@ begins_behind b setup frames epoch well has ready empty = record {
 
 -- a bench that stands for frames follows them
 pub standing_follows : (b : Bench) (setup : Setup) (frames : List Frame) → Stands b setup frames → Follows b setup frames []
-standing_follows b setup frames stands = begins_behind b setup frames stands.epoch stands.well stands.has stands.ready stands.waits
+standing_follows b setup frames stands = begins_behind b setup frames stands.epoch stands.files stands.well stands.has stands.ready stands.waits
 
 -- the ends and the size of the lines, with one later frame more
 pub notes_behind : (setup : Setup) (earlier later : List Frame) (frame : Frame) (block : Waiting)
@@ -91,10 +92,10 @@ adds_marked (Err error) text old middle new start between end puts told marked l
 }
 
 -- one later frame more, whose lines were put behind those that wait
-pub follows_next : {E : Type 0} (b : Bench) (setup : Setup) (earlier later : List Frame) (frame : Frame) (text : List ℕ) (old new : Waiting) (before after : Option (List ℕ)) → b.epoch ≡ setup.epoch → has_failed b ≡ false
+pub follows_next : {E : Type 0} (b : Bench) (setup : Setup) (earlier later : List Frame) (frame : Frame) (text : List ℕ) (old new : Waiting) (before after : Option (List ℕ)) → b.epoch ≡ setup.epoch → b.files.now ≡ setup.files → has_failed b ≡ false
     → Has b (run_of setup ((earlier ++ later) ++ frame ∷ [])) → IsReady b → b.block ≡ new → text ≡ frame_lines setup (earlier ++ later) frame
     → Notes (ends_from 0 (lines_behind setup earlier later)) (length (joined (lines_behind setup earlier later))) old → Adds {E = E} (Ok tt) text old new before after → Follows b setup earlier (later ++ frame ∷ [])
-follows_next b setup earlier later frame text old new before after epoch well has ready same lines notes adds =
+follows_next b setup earlier later frame text old new before after epoch files well has ready same lines notes adds =
     let size : adds.count ≡ length (frame_lines setup (earlier ++ later) frame) = adds.size ∙ ap (length {A = ℕ}) lines in
     let given = length (joined (lines_behind setup earlier later)) in
     let ends = ends_from 0 (lines_behind setup earlier later) in
@@ -102,6 +103,7 @@ follows_next b setup earlier later frame text old new before after epoch well ha
     subst (λ (n : ℕ). Notes (ends ++ (given + n) ∷ []) (given + n) new) size (adds.notes ends given notes) in
     record {
       epoch = epoch;
+      files = files;
       well = well;
       has = subst (λ (frames : List Frame). Has b (run_of setup frames)) (append_assoc earlier later (frame ∷ [])) has;
       ready = ready;

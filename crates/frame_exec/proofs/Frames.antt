@@ -1,5 +1,6 @@
 -- A run at one more frame.
 use Rattle.std.proofs.Common.{◌≡◌, ℕ, ◌+◌, ◌<◌, List, [], ◌∷◌, ◌++◌, length, refl, sym, ◌∙◌, ap, subst, fold, arith, add-zero, zero-add, true, false, All, Box, Global}
+use denote.Ref.{Bor}
 use Rattle.std.specs.List.{flat_map}
 use Rattle.std.proofs.lemmas.List.Sums.{fold_push}
 use Rattle.histories.specs.Words.{along}
@@ -9,6 +10,7 @@ use Rattle.bus_pipes.specs.Pipes.{empty_pipes}
 use Rattle.bus_pipes.specs.Delivery.{drops_from}
 use Rattle.bus_pipes.specs.declared.names.Out.{Out}
 use Rattle.bus_pipes.specs.declared.names.Dropped.{Dropped}
+use Rattle.table_files.specs.Files.{loads_of}
 use Rattle.memory_window.specs.Regions.{is_mapped}
 use Rattle.memory_window.specs.Memory.{Memory, regions_of, start_memory}
 use Rattle.memory_window.specs.declared.regions.Region.{Region}
@@ -35,7 +37,7 @@ use Rattle.frame_exec.specs.Sending.{upset_by}
 use Rattle.frame_exec.specs.Runs.{Setup, State, beginning, image_at, left_by, sent_at, offers_at, after_frame, run_of, frame_lines, log_of, lines_at, operations_at}
 use Rattle.frame_exec.specs.Standing.{AppsStand, Has, IsReady, Stands, CanRun}
 use Rattle.frame_exec.specs.Landable.{CanLand}
-use Rattle.frame_exec.specs.Stages.{KeepsApps, RunsIn, IsSameFrame, Lands}
+use Rattle.frame_exec.specs.Stages.{KeepsApps, RunsIn, IsSameFrame, Lands, loads_in}
 
 -- what a run has come to, at one more frame
 pub run_more : (setup : Setup) (frames : List Frame) (frame : Frame) → run_of setup (frames ++ frame ∷ []) ≡ after_frame setup (run_of setup frames) frame
@@ -112,7 +114,7 @@ unfolding frame_lines lines_at
 lines_are setup frames frame number sent drops a b c = rw (a, b, c) refl
 
 -- the bench has what the run has come to after one more frame
-pub has_after : (before b : Bench) (setup : Setup) (s : State) (frame : Frame) → KeepsApps before b → b.bus ≡ before.bus → b.log ≡ before.log → b.ram ≡ land [] before.ops before.ram
+pub has_after : (before b : Bench) (setup : Setup) (s : State) (frame : Frame) → KeepsApps before b → b.bus ≡ before.bus → b.log ≡ before.log → b.ram ≡ land (loads_of setup.files) before.ops before.ram
     → b.number ≡ s.number + 1 → b.tables ≡ s.tables → RunsIn setup s frame before → Has b (after_frame setup s frame)
 unfolding after_frame
 has_after before b setup s frame kept pipes log memory number tables ran = record {
@@ -121,7 +123,7 @@ has_after before b setup s frame kept pipes log memory number tables ran = recor
   apps = apps_kept before b (after_frame setup s frame) kept ran.apps;
   pipes = pipes ∙ ran.pipes;
   made = subst (LogStands _) (sym log) ran.made;
-  memory = memory ∙ ap (λ (xs : List MemOp). land [] xs before.ram) ran.operations ∙ ap (λ (m : Memory). land [] (operations_at setup s frame) m) ran.memory;
+  memory = memory ∙ ap (λ (xs : List MemOp). land (loads_of setup.files) xs before.ram) ran.operations ∙ ap (λ (m : Memory). land (loads_of setup.files) (operations_at setup s frame) m) ran.memory;
 }
 
 -- the states of the applications were kept twice
@@ -133,33 +135,38 @@ module _ (before middle b : Bench) (setup : Setup) (frames : List Frame) (frame 
   kept : KeepsApps before b
   kept = kept_twice before middle b same.apps lands.apps
 
-  landed : b.ram ≡ land [] before.ops before.ram
-  landed = lands.memory ∙ ap (λ (ops : List MemOp). land [] ops middle.ram) same.operations ∙ ap (λ (m : Memory). land [] before.ops m) same.memory
+  landed : b.ram ≡ land (loads_in before) before.ops before.ram
+  landed =
+      lands.memory ∙ ap (λ (fs : Bor (List (List ℕ))). land (loads_of fs.now) middle.ops middle.ram) same.files ∙ ap (λ (ops : List MemOp). land (loads_in before) ops middle.ram) same.operations
+      ∙ ap (λ (m : Memory). land (loads_in before) before.ops m) same.memory
 
   tables_same : b.tables ≡ before.tables
   tables_same = lands.tables ∙ same.tables
 
-  pub has_next : before.number ≡ (run_of setup frames).number → before.tables ≡ (run_of setup frames).tables → RunsIn setup (run_of setup frames) frame before → Has b (run_of setup (frames ++ frame ∷ []))
-  has_next number tables ran =
+  pub has_next : before.files.now ≡ setup.files → before.number ≡ (run_of setup frames).number → before.tables ≡ (run_of setup frames).tables → RunsIn setup (run_of setup frames) frame before → Has b (run_of setup (frames ++ frame ∷ []))
+  has_next files number tables ran =
       subst (Has b) (sym (run_more setup frames frame))
-      (has_after before b setup (run_of setup frames) frame kept (lands.pipes ∙ same.pipes) (lands.log ∙ same.log) landed (lands.number ∙ ap (λ (n : ℕ). n + 1) (same.number ∙ number)) (tables_same ∙ tables) ran)
+      (has_after before b setup (run_of setup frames) frame kept (lands.pipes ∙ same.pipes) (lands.log ∙ same.log) (landed ∙ ap (λ (fs : List (List ℕ)). land (loads_of fs) before.ops before.ram) files) (lands.number ∙ ap (λ (n : ℕ). n + 1) (same.number ∙ number)) (tables_same ∙ tables) ran)
 
   pub ready_next : IsReady before → IsReady b
   ready_next ready = ready_by before b (ap (λ (m : Memory). regions_of m.areas) landed ∙ regions-changed _ before.ram.areas) tables_same kept ready
 
 -- what can be landed on the frame's image can be once its lines were given away
-pub can_land_still : (before middle : Bench) → IsSameFrame before middle → CanLand before.ram before.ops → CanLand middle.ram middle.ops
-can_land_still before middle same can = subst (λ (m : Memory). CanLand m middle.ops) (sym same.memory) (subst (λ (ops : List MemOp). CanLand before.ram ops) (sym same.operations) can)
+pub can_land_still : (before middle : Bench) → IsSameFrame before middle → CanLand (loads_in before) before.ram before.ops → CanLand (loads_in middle) middle.ram middle.ops
+can_land_still before middle same can =
+    subst (λ (fs : Bor (List (List ℕ))). CanLand (loads_of fs.now) middle.ram middle.ops) (sym same.files)
+    (subst (λ (m : Memory). CanLand (loads_in before) m middle.ops) (sym same.memory) (subst (λ (ops : List MemOp). CanLand (loads_in before) before.ram ops) (sym same.operations) can))
 
 -- a bench that was opened stands for no frames
-pub stands_opened : (b : Bench) (setup : Setup) → b.epoch ≡ setup.epoch → b.failed ≡ false → b.block ≡ empty_block → b.number ≡ 0 → b.tables ≡ tables_of setup.files
+pub stands_opened : (b : Bench) (setup : Setup) → b.epoch ≡ setup.epoch → b.files.now ≡ setup.files → b.failed ≡ false → b.block ≡ empty_block → b.number ≡ 0 → b.tables ≡ tables_of setup.files
     → hs_stands b.tables [] b.hs.state.value → cs_stands b.tables [] b.cs.state.value → mm_stands b.tables [] b.mm.state.value → md_stands b.tables [] b.md.state.value
     → SetGiven setup.regions b.tables → AllGiven setup.regions b.md.state.value → b.bus ≡ empty_pipes → LogStands [] b.log → b.ram ≡ start_memory setup.regions → Stands b setup []
 unfolding run_of beginning
-stands_opened b setup epoch well waits number tables hs cs mm md given dwells pipes made memory =
+stands_opened b setup epoch files well waits number tables hs cs mm md given dwells pipes made memory =
     let same : regions_of b.ram.areas ≡ setup.regions = ap (λ (m : Memory). regions_of m.areas) memory ∙ regions-cut setup.regions _ in
     record {
       epoch = epoch;
+      files = files;
       well = well;
       waits = waits;
       has = record {

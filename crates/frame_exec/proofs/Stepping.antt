@@ -1,5 +1,6 @@
 -- The applications of the bench, woken in a frame.
 use Rattle.std.proofs.Common.{◌≡◌, ℕ, ◌+◌, List, ◌++◌, ◌∙◌, ap, subst, sym, refl}
+use denote.Ref.{Bor}
 use Rattle.std.specs.List.{flat_map}
 use Rattle.bus_pipes.specs.Delivery.{after_offers, drops_from}
 use Rattle.bus_pipes.specs.declared.names.Out.{Out}
@@ -7,6 +8,7 @@ use Rattle.packet_log.specs.Sent.{makes}
 use Rattle.packet_log.specs.Standing.{Stands as LogStands}
 use Rattle.frame_exec.specs.Sending.{packet_in, sent_of}
 use Rattle.bus_pipes.specs.Pipes.{Pipes}
+use Rattle.table_files.specs.Files.{loads_of}
 use Rattle.memory_window.specs.Memory.{Memory}
 use Rattle.mm_core.specs.Step.{mm_operations}
 use Rattle.scenario.specs.declared.frame.App.TheVariants as names
@@ -17,19 +19,22 @@ use Rattle.frame_exec.specs.Applications.{hs_stands, cs_stands, mm_stands, md_st
 use Rattle.frame_exec.specs.Wakes.{HasTaken, IsWoken, unless, joined}
 use Rattle.frame_exec.specs.Runs.{Setup, State, is_held, time_at, image_at, hs_input_at, cs_input_at, mm_input_at, md_input_at, items_at, operations_at, left_by, sent_at, offers_at, after_frame}
 use Rattle.frame_exec.specs.Standing.{AppsStand}
-use Rattle.frame_exec.specs.Stages.{Takes, Steps, Sends, RunsIn, time_of, items_in}
+use Rattle.frame_exec.specs.Stages.{Takes, Steps, Sends, RunsIn, loads_in, time_of, items_in}
 use Rattle.frame_exec.proofs.Frames.{apps_kept}
 use Rattle.frame_exec.proofs.Waking.{woken_state, woken_items, woken_beside, seen_by, moved}
 
 -- A bench that has what a run has come to but for the frame's upsets, which are written; then what the applications took, and then that
 -- they were woken.
-module _ (setup : Setup) (s : State) (frame : Frame) (start took stepped : Bench) (epoch : start.epoch ≡ setup.epoch) (number : start.number ≡ s.number) (tables : start.tables ≡ s.tables) (pipes : start.bus ≡ s.pipes)
+module _ (setup : Setup) (s : State) (frame : Frame) (start took stepped : Bench) (epoch : start.epoch ≡ setup.epoch) (files : start.files.now ≡ setup.files) (number : start.number ≡ s.number) (tables : start.tables ≡ s.tables) (pipes : start.bus ≡ s.pipes)
     (image : start.ram ≡ image_at s frame) (apps : AppsStand start s) (takes : Takes frame.held start took) (steps : Steps frame.counters took stepped) where
   same_tables : took.tables ≡ s.tables
   same_tables = takes.run.tables ∙ tables
 
   same_time : time_of took ≡ time_at setup s
   same_time = ap (λ (e : ℕ). e + took.number) (takes.run.epoch ∙ epoch) ∙ ap (λ (n : ℕ). setup.epoch + n) (takes.run.number ∙ number)
+
+  same_loads : loads_in took ≡ loads_of setup.files
+  same_loads = ap (λ (fs : Bor (List (List ℕ))). loads_of fs.now) takes.run.files ∙ ap loads_of files
 
   same_image : took.ram ≡ image_at s frame
   same_image = takes.memory ∙ image
@@ -60,9 +65,11 @@ module _ (setup : Setup) (s : State) (frame : Frame) (start took stepped : Bench
   cs_woken = moved (λ (t : TableSet) (n : ℕ) (m : Memory). IsWoken (cs_stands t) (cs_gives t) took.cs.held (cs_reads n took.cs.commands m) took.cs.state.value stepped.cs.state.value stepped.cs.out.items)
       took.tables s.tables (time_of took) (time_at setup s) took.ram (image_at s frame) same_tables same_time same_image steps.cs
 
-  mm_woken : IsWoken (mm_stands s.tables) (mm_gives s.tables) took.mm.held (mm_reads (time_at setup s) took.mm.commands (image_at s frame)) took.mm.state.value stepped.mm.state.value stepped.mm.out.items
-  mm_woken = moved (λ (t : TableSet) (n : ℕ) (m : Memory). IsWoken (mm_stands t) (mm_gives t) took.mm.held (mm_reads n took.mm.commands m) took.mm.state.value stepped.mm.state.value stepped.mm.out.items)
-      took.tables s.tables (time_of took) (time_at setup s) took.ram (image_at s frame) same_tables same_time same_image (steps.mm took.tables)
+  mm_woken : IsWoken (mm_stands s.tables) (mm_gives s.tables) took.mm.held (mm_reads (loads_of setup.files) (time_at setup s) took.mm.commands (image_at s frame)) took.mm.state.value stepped.mm.state.value stepped.mm.out.items
+  mm_woken =
+      subst (λ (loads : List (ℕ × List ℕ)). IsWoken (mm_stands s.tables) (mm_gives s.tables) took.mm.held (mm_reads loads (time_at setup s) took.mm.commands (image_at s frame)) took.mm.state.value stepped.mm.state.value stepped.mm.out.items) same_loads
+      (moved (λ (t : TableSet) (n : ℕ) (m : Memory). IsWoken (mm_stands t) (mm_gives t) took.mm.held (mm_reads (loads_in took) n took.mm.commands m) took.mm.state.value stepped.mm.state.value stepped.mm.out.items)
+      took.tables s.tables (time_of took) (time_at setup s) took.ram (image_at s frame) same_tables same_time same_image (steps.mm took.tables))
 
   md_woken : IsWoken (md_stands s.tables) (md_gives s.tables) took.md.held (md_reads (time_at setup s) took.md.commands (image_at s frame)) took.md.state.value stepped.md.state.value stepped.md.out.items
   md_woken = moved (λ (t : TableSet) (n : ℕ) (m : Memory). IsWoken (md_stands t) (md_gives t) took.md.held (md_reads n took.md.commands m) took.md.state.value stepped.md.state.value stepped.md.out.items)
@@ -75,7 +82,7 @@ module _ (setup : Setup) (s : State) (frame : Frame) (start took stepped : Bench
         stepped.hs.state.value s.hs hs_took hs_woken stand.hs;
     cs = woken_state (cs_stands s.tables) (cs_gives s.tables) (λ commands. cs_reads (time_at setup s) commands (image_at s frame)) _ took.cs.held s.pipes.cs took.cs.commands took.cs.out.items stepped.cs.out.items took.cs.state.value
         stepped.cs.state.value s.cs cs_took cs_woken stand.cs;
-    mm = woken_state (mm_stands s.tables) (mm_gives s.tables) (λ commands. mm_reads (time_at setup s) commands (image_at s frame)) _ took.mm.held s.pipes.mm took.mm.commands took.mm.out.items stepped.mm.out.items took.mm.state.value
+    mm = woken_state (mm_stands s.tables) (mm_gives s.tables) (λ commands. mm_reads (loads_of setup.files) (time_at setup s) commands (image_at s frame)) _ took.mm.held s.pipes.mm took.mm.commands took.mm.out.items stepped.mm.out.items took.mm.state.value
         stepped.mm.state.value s.mm mm_took mm_woken stand.mm;
     md = woken_state (md_stands s.tables) (md_gives s.tables) (λ commands. md_reads (time_at setup s) commands (image_at s frame)) _ took.md.held s.pipes.md took.md.commands took.md.out.items stepped.md.out.items took.md.state.value
         stepped.md.state.value s.md md_took md_woken stand.md;
@@ -88,7 +95,7 @@ module _ (setup : Setup) (s : State) (frame : Frame) (start took stepped : Bench
       took.hs.state.value stepped.hs.state.value s.hs hs_took hs_woken stand.hs in
       let cs = woken_items (cs_stands s.tables) (cs_gives s.tables) (λ commands. cs_reads (time_at setup s) commands (image_at s frame)) _ took.cs.held s.pipes.cs took.cs.commands took.cs.out.items stepped.cs.out.items
       took.cs.state.value stepped.cs.state.value s.cs cs_took cs_woken stand.cs in
-      let mm = woken_items (mm_stands s.tables) (mm_gives s.tables) (λ commands. mm_reads (time_at setup s) commands (image_at s frame)) _ took.mm.held s.pipes.mm took.mm.commands took.mm.out.items stepped.mm.out.items
+      let mm = woken_items (mm_stands s.tables) (mm_gives s.tables) (λ commands. mm_reads (loads_of setup.files) (time_at setup s) commands (image_at s frame)) _ took.mm.held s.pipes.mm took.mm.commands took.mm.out.items stepped.mm.out.items
       took.mm.state.value stepped.mm.state.value s.mm mm_took mm_woken stand.mm in
       let md = woken_items (md_stands s.tables) (md_gives s.tables) (λ commands. md_reads (time_at setup s) commands (image_at s frame)) _ took.md.held s.pipes.md took.md.commands took.md.out.items stepped.md.out.items
       took.md.state.value stepped.md.state.value s.md md_took md_woken stand.md in
@@ -97,9 +104,10 @@ module _ (setup : Setup) (s : State) (frame : Frame) (start took stepped : Bench
   pub operations_after : stepped.ops ≡ operations_at setup s frame
   unfolding operations_at mm_input_at
   operations_after =
-      woken_beside (λ commands. mm_operations (mm_reads (time_at setup s) commands (image_at s frame))) _ took.mm.held s.pipes.mm took.mm.commands took.mm.out.items stepped.ops mm_took
-      (moved (λ (t : TableSet) (n : ℕ) (m : Memory). stepped.ops ≡ unless took.mm.held (mm_operations (mm_reads n took.mm.commands m))) took.tables s.tables (time_of took) (time_at setup s) took.ram (image_at s frame) same_tables
-      same_time same_image steps.operations)
+      woken_beside (λ commands. mm_operations (mm_reads (loads_of setup.files) (time_at setup s) commands (image_at s frame))) _ took.mm.held s.pipes.mm took.mm.commands took.mm.out.items stepped.ops mm_took
+      (subst (λ (loads : List (ℕ × List ℕ)). stepped.ops ≡ unless took.mm.held (mm_operations (mm_reads loads (time_at setup s) took.mm.commands (image_at s frame)))) same_loads
+      (moved (λ (t : TableSet) (n : ℕ) (m : Memory). stepped.ops ≡ unless took.mm.held (mm_operations (mm_reads (loads_in took) n took.mm.commands m))) took.tables s.tables (time_of took) (time_at setup s) took.ram (image_at s frame) same_tables
+      same_time same_image steps.operations))
 
   -- what the pipes hold then
   left : stepped.bus ≡ left_by frame.held s.pipes

@@ -1,5 +1,5 @@
 -- The words of the applications, by the tables in force.
-use Rattle.std.specs.Prelude.{ℕ, List, [], map}
+use Rattle.std.specs.Prelude.{ℕ, List, map}
 use Rattle.histories.specs.Entries.Entry.{Woken}
 use Rattle.packet_forms.specs.declared.name.Counter.{Counter}
 use Rattle.bus_pipes.specs.declared.names.Out.{Out}
@@ -59,12 +59,12 @@ md_gives tables history input = md_items tables.dwells history input
 abbrev pub hs_reads : ℕ → List (List ℕ) → List (List ℕ) → List Counter → HsInput
 hs_reads time commands events counters = record { time = time; commands = commands; seen = record { events = events; counters = counters } }
 
--- what a wakeup of another application reads, by its time, the packets of the pipe, and memory
+-- what a wakeup of another application reads, by its time, the packets of the pipe, and memory; MM also by the load files
 abbrev pub cs_reads : ℕ → List (List ℕ) → Memory → CsInput
 cs_reads time commands memory = record { time = time; commands = commands; seen = memory }
 
-abbrev pub mm_reads : ℕ → List (List ℕ) → Memory → MmInput
-mm_reads time commands memory = record { time = time; commands = commands; seen = record { image = memory; files = [] } }
+abbrev pub mm_reads : List (ℕ × List ℕ) → ℕ → List (List ℕ) → Memory → MmInput
+mm_reads loads time commands memory = record { time = time; commands = commands; seen = record { image = memory; loads = loads } }
 
 abbrev pub md_reads : ℕ → List (List ℕ) → Memory → MdInput
 md_reads time commands memory = record { time = time; commands = commands; seen = memory }

@@ -5,6 +5,7 @@ use Rattle.histories.specs.Words.{along}
 use Rattle.bus_pipes.specs.Pipes.{Pipes, empty_pipes}
 use Rattle.bus_pipes.specs.Delivery.{after_offers, drops_from}
 use Rattle.bus_pipes.specs.declared.names.Out.{Out}
+use Rattle.table_files.specs.Files.{loads_of}
 use Rattle.memory_window.specs.Memory.{Memory, start_memory}
 use Rattle.memory_window.specs.Landing.{land}
 use Rattle.memory_window.specs.declared.regions.Region.{Region}
@@ -67,7 +68,7 @@ unfoldable pub cs_input_at : Setup → State → Frame → CsInput
 cs_input_at setup s frame = cs_reads (time_at setup s) s.pipes.cs (image_at s frame)
 
 unfoldable pub mm_input_at : Setup → State → Frame → MmInput
-mm_input_at setup s frame = mm_reads (time_at setup s) s.pipes.mm (image_at s frame)
+mm_input_at setup s frame = mm_reads (loads_of setup.files) (time_at setup s) s.pipes.mm (image_at s frame)
 
 unfoldable pub md_input_at : Setup → State → Frame → MdInput
 md_input_at setup s frame = md_reads (time_at setup s) s.pipes.md (image_at s frame)
@@ -121,7 +122,7 @@ after_frame setup s frame = record {
   md = history_after (is_held apps.Md frame) s.md (md_input_at setup s frame);
   pipes = after_offers (left_by frame.held s.pipes) (offers_at setup s frame);
   made = s.made ++ flat_map makes (joined (items_at setup s frame));
-  memory = land [] (operations_at setup s frame) (image_at s frame);
+  memory = land (loads_of setup.files) (operations_at setup s frame) (image_at s frame);
 }
 
 -- what a run has come to after these frames

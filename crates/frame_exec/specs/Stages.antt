@@ -3,6 +3,7 @@ use Rattle.std.specs.Prelude.{◌≡◌, ℕ, ◌+◌, false, List, [], ◌∷�
 use Rattle.std.specs.List.{flat_map, fold, list_any}
 use Rattle.bus_pipes.specs.Delivery.{after_offers, drops_from}
 use Rattle.bus_pipes.specs.declared.names.Out.{Out}
+use Rattle.table_files.specs.Files.{loads_of}
 use Rattle.memory_window.specs.Landing.{land}
 use Rattle.mm_core.specs.Step.{mm_operations}
 use Rattle.packet_forms.specs.declared.name.Counter.{Counter}
@@ -23,13 +24,14 @@ use Rattle.frame_exec.specs.Runs.{Setup, State, image_at, items_at, operations_a
 use Rattle.frame_exec.specs.Landable.{CanLand}
 use Rattle.frame_exec.specs.Standing.{AppsStand}
 
--- number, epoch, the mark of failure, the tables and the lines that wait stay
+-- number, epoch, the mark of failure, the tables, the files and the lines that wait stay
 pub record IsSameRun (old new : Bench) : Type 0 where
   pub waits : new.block ≡ old.block
   pub epoch : new.epoch ≡ old.epoch
   pub number : new.number ≡ old.number
   pub failed : new.failed ≡ old.failed
   pub tables : new.tables ≡ old.tables
+  pub files : new.files ≡ old.files
 
 -- the states of the applications stay
 pub record KeepsApps (old new : Bench) : Type 0 where
@@ -72,6 +74,10 @@ pub record IsClear (b : Bench) : Type 0 where
   pub md : b.md.out.items ≡ []
   pub operations : b.ops ≡ []
 
+-- the load files that MM reads
+abbrev pub loads_in : Bench → List (ℕ × List ℕ)
+loads_in b = loads_of b.files.now
+
 -- the time of the frame that comes
 abbrev pub time_of : Bench → ℕ
 time_of b = b.epoch + b.number
@@ -81,9 +87,9 @@ pub record Steps (counters : List Counter) (old new : Bench) : Type 0 where
   pub run : IsSameRun old new
   pub hs : IsWoken (hs_stands old.tables) (hs_gives old.tables) old.hs.held (hs_reads (time_of old) old.hs.commands old.events counters) old.hs.state.value new.hs.state.value new.hs.out.items
   pub cs : IsWoken (cs_stands old.tables) (cs_gives old.tables) old.cs.held (cs_reads (time_of old) old.cs.commands old.ram) old.cs.state.value new.cs.state.value new.cs.out.items
-  pub mm : (tables : TableSet) → IsWoken (mm_stands tables) (mm_gives tables) old.mm.held (mm_reads (time_of old) old.mm.commands old.ram) old.mm.state.value new.mm.state.value new.mm.out.items
+  pub mm : (tables : TableSet) → IsWoken (mm_stands tables) (mm_gives tables) old.mm.held (mm_reads (loads_in old) (time_of old) old.mm.commands old.ram) old.mm.state.value new.mm.state.value new.mm.out.items
   pub md : (tables : TableSet) → IsWoken (md_stands tables) (md_gives tables) old.md.held (md_reads (time_of old) old.md.commands old.ram) old.md.state.value new.md.state.value new.md.out.items
-  pub operations : new.ops ≡ unless old.mm.held (mm_operations (mm_reads (time_of old) old.mm.commands old.ram))
+  pub operations : new.ops ≡ unless old.mm.held (mm_operations (mm_reads (loads_in old) (time_of old) old.mm.commands old.ram))
   pub pipes : new.bus ≡ old.bus
   pub log : new.log ≡ old.log
   pub memory : new.ram ≡ old.ram
@@ -94,7 +100,7 @@ pub record CanSend (b : Bench) : Type 0 where
   pub cs : AreSendable 33 b.cs.out.items
   pub mm : AreSendable 272 b.mm.out.items
   pub md : AreSendable 20 b.md.out.items
-  pub operations : CanLand b.ram b.ops
+  pub operations : CanLand (loads_in b) b.ram b.ops
 
 -- the items were sent behind these packets
 pub record Sends (sends : List (List ℕ)) (old new : Bench) : Type 0 where
@@ -123,6 +129,7 @@ pub record IsSameFrame (old new : Bench) : Type 0 where
   pub number : new.number ≡ old.number
   pub failed : new.failed ≡ old.failed
   pub tables : new.tables ≡ old.tables
+  pub files : new.files ≡ old.files
   pub apps : KeepsApps old new
   pub pipes : new.bus ≡ old.bus
   pub log : new.log ≡ old.log
@@ -135,11 +142,12 @@ pub record Lands (old new : Bench) : Type 0 where
   pub number : new.number ≡ old.number + 1
   pub failed : new.failed ≡ old.failed
   pub tables : new.tables ≡ old.tables
+  pub files : new.files ≡ old.files
   pub apps : KeepsApps old new
   pub pipes : new.bus ≡ old.bus
   pub log : new.log ≡ old.log
   pub waits : new.block ≡ old.block
-  pub memory : new.ram ≡ land [] old.ops old.ram
+  pub memory : new.ram ≡ land (loads_in old) old.ops old.ram
 
 -- the lines of what was sent and dropped
 abbrev pub lines_in : Bench → List ℕ

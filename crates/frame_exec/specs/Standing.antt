@@ -45,6 +45,7 @@ waiting_in b = b.block
 -- the bench stands for these frames, of a scenario with this header
 pub record Stands (b : Bench) (setup : Setup) (frames : List Frame) : Type 0 where
   pub epoch : b.epoch ≡ setup.epoch
+  pub files : b.files.now ≡ setup.files
   pub well : has_failed b ≡ false
   pub waits : waiting_in b ≡ empty_block
   pub has : Has b (run_of setup frames)

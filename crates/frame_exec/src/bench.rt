@@ -28,14 +28,15 @@ use table_files::Files;
 /// How many packets are dropped in a frame at most: all that are sent and all that the applications give.
 const DROPS: u32 = 1525;
 
-/// The bench, after some frames. It takes all its memory as it is opened.
+/// The bench, after some frames. It takes all its memory as it is opened, and borrows the files, from which MM loads.
 #[derive(Drop)]
-pub struct Bench {
+pub struct Bench<'f> {
     epoch: u32,
     // one more than the last frame's number, which may be the largest of four bytes
     number: u64,
     failed: bool,
     tables: Tables,
+    files: &'f Files,
     hs: HsSlot,
     // the packets that HS took from its pipe of events
     events: Batch,
@@ -54,7 +55,7 @@ pub struct Bench {
     ghost drops_room: { drops.room ≡ 1525 },
 }
 
-impl Bench {
+impl<'f> Bench<'f> {
     ghost use Rattle.std.specs.Prelude.{ℕ, ◌+◌, ◌-◌, ◌<◌, ◌≤◌, List, [], ◌∷◌, ◌++◌, length, true, ◌||◌, All, IfOk, IfErr, OnOk, OnErr, is_err};
     ghost use Rattle.fsw_outside.specs.Told.{WhereTold};
     ghost use Rattle.fsw_outside.specs.Causes.{HasCause};
@@ -70,7 +71,7 @@ impl Bench {
     ghost use Rattle.frame_exec.specs.Following.{Follows, IsCutAt, Adds};
     ghost use Rattle.frame_exec.specs.Tables.{SetGiven, AreLoaded, Opens, region_fault};
     ghost use Rattle.frame_exec.specs.Landable.{CanLand};
-    ghost use Rattle.frame_exec.specs.Stages.{IsSameRun, IsUpset, Takes, IsClear, Steps, CanSend, Sends, RunsIn, IsSameFrame, Lands, items_in, lines_in};
+    ghost use Rattle.frame_exec.specs.Stages.{IsSameRun, IsUpset, Takes, IsClear, Steps, CanSend, Sends, RunsIn, IsSameFrame, Lands, items_in, loads_in, lines_in};
     ghost use Rattle.frame_exec.specs.Wakes.{joined};
 
     /// A bench with the tables that were loaded from these files and the memory of the header's map, which stands for no
@@ -80,10 +81,10 @@ impl Bench {
     pub fn open(
         alloc: Global,
         tables: Tables,
-        files: &Files,
+        files: &'f Files,
         header: &Header,
         workers: u32,
-    ) -> Result<Bench, OpenFault>
+    ) -> Result<Bench<'f>, OpenFault>
         requires workers { (1 ≤ workers) × (workers ≤ 16) }
         requires loaded { AreLoaded files.now tables }
         ensures stands { IfOk result (λ bench. Stands bench (setup_in header.now files.now) []) }
@@ -97,22 +98,28 @@ impl Bench {
                 entry: place.entry,
             });
         }
-        match Bench::begin(alloc, &tables, header) {
+        match Bench::begin(alloc, &tables, files, header) {
             Ok(bench) => Ok(bench),
             Err(NoMemory) => Err(OpenFault::NoMemory),
         }
     }
 
     // A bench that stands for no frames, on tables whose reads the header's map gives.
-    fn begin(alloc: Global, tables: &Tables, header: &Header) -> Result<Bench, NoMemory>
+    fn begin(
+        alloc: Global,
+        tables: &Tables,
+        files: &'f Files,
+        header: &Header,
+    ) -> Result<Bench<'f>, NoMemory>
         requires given { SetGiven header.now.map tables.now }
-        ensures { (files : List (List ℕ)) → AreLoaded files tables.now → IfOk result (λ bench. Stands bench (setup_in header.now files) []) }
+        ensures { AreLoaded files.now tables.now → IfOk result (λ bench. Stands bench (setup_in header.now files.now) []) }
     {
         Ok(Bench {
             epoch: header.epoch,
             number: 0,
             failed: false,
             tables: *tables,
+            files,
             hs: Slot::open(alloc, Hs::start(tables.hs(), 0, 3))?,
             events: Batch::new(),
             cs: Slot::open(alloc, Cs::start(tables.eeprom(), tables.memory()))?,
@@ -229,10 +236,10 @@ impl Bench {
     // Lands the frame's operations, and goes on to the next frame.
     fn land(&mut self)
         requires number { self.old.number < 4294967296 }
-        requires can_land { CanLand self.old.ram self.old.ops }
+        requires can_land { CanLand (loads_in self.old) self.old.ram self.old.ops }
         ensures { Lands self.old self.new }
     {
-        self.ram.land(self.ops.items());
+        self.ram.land(self.ops.items(), self.files);
         self.number += 1;
     }
 
@@ -291,7 +298,13 @@ impl Bench {
         };
         self.hs.step(hs, &mut ());
         self.cs.step(cs, &mut ());
-        self.mm.step(MmReads { window, time }, &mut self.ops);
+        let files = self.files;
+        let mm = MmReads {
+            window,
+            files,
+            time,
+        };
+        self.mm.step(mm, &mut self.ops);
         self.md.step(MdReads { window, time }, &mut ());
     }
 
@@ -333,9 +346,9 @@ impl Bench {
         requires time { self.old.epoch + self.old.number < 4294967296 }
         requires upsets { All (λ (u : Upset). is_mapped (regions_of self.old.ram.areas) u.at ≡ true) input.now.upsets }
         requires ready { IsReady self.old }
-        ensures runs { (setup : Setup) (s : State) → self.old.epoch ≡ setup.epoch → Has self.old s → RunsIn setup s input.now self.new }
+        ensures runs { (setup : Setup) (s : State) → self.old.epoch ≡ setup.epoch → self.old.files.now ≡ setup.files → Has self.old s → RunsIn setup s input.now self.new }
         ensures run { IsSameRun self.old self.new }
-        ensures can_land { CanLand self.new.ram self.new.ops }
+        ensures can_land { CanLand (loads_in self.new) self.new.ram self.new.ops }
         ensures ready { IsReady self.new }
     {
         self.upset(input.upsets());

@@ -1,6 +1,7 @@
 //! MM as the bench wakes it.
 
 ghost use Rattle.std.specs.Prelude.{◌≡◌, []};
+ghost use Rattle.table_files.specs.Files.{loads_of};
 ghost use Rattle.memory_window.specs.Window.{seen};
 ghost use Rattle.mm_core.specs.Step.{Input, input_of, mm_operations};
 ghost use Rattle.frame_exec.specs.Tables.{TableSet};
@@ -13,20 +14,22 @@ use bus_pipes::Outbox;
 use memory_window::{Ops, Window};
 use mm_core::Mm;
 use packet_forms::Packet;
+use table_files::Files;
 
 /// How many items MM gives in a frame at most.
 pub(crate) const MM_ITEMS: u32 = 272;
 
 pub(crate) type MmSlot = Slot<Mm, MM_ITEMS>;
 
-/// What MM reads in a frame beside its packets: the frame's image, and its time.
+/// What MM reads in a frame beside its packets: the frame's image, the files, and its time.
 #[derive(Clone, Copy, Drop)]
-pub(crate) struct MmReads<'a> {
+pub(crate) struct MmReads<'a, 'f> {
     pub(crate) window: Window<'a>,
+    pub(crate) files: &'f Files,
     pub(crate) time: u32,
 }
 
-impl<'a> Application<MmReads<'a>, Ops> for Mm {
+impl<'a, 'f> Application<MmReads<'a, 'f>, Ops> for Mm {
     ghost Setup = { TableSet };
 
     ghost Input = { Input };
@@ -39,26 +42,26 @@ impl<'a> Application<MmReads<'a>, Ops> for Mm {
 
     ghost belongs = { λ setup reads. Unit {0} };
 
-    ghost input = { λ reads commands. input_of reads.time commands reads.window };
+    ghost input = { λ reads commands. input_of reads.time commands reads.window reads.files.now };
 
     ghost can_step = { λ reads mm. Unit {0} };
 
     ghost is_clear = { λ ops. ops ≡ [] };
 
-    ghost fills = { λ reads commands ops. (ops ≡ mm_operations (input_of reads.time commands reads.window)) × CanLand (seen reads.window) ops };
+    ghost fills = { λ reads commands ops. (ops ≡ mm_operations (input_of reads.time commands reads.window reads.files.now)) × CanLand (loads_of reads.files.now) (seen reads.window) ops };
 
-    fn is_idle(&self, reads: MmReads<'a>, commands: &[Packet]) -> bool {
+    fn is_idle(&self, reads: MmReads<'a, 'f>, commands: &[Packet]) -> bool {
         let _ = reads;
         self.is_idle(commands)
     }
 
     fn advance(
         &mut self,
-        reads: MmReads<'a>,
+        reads: MmReads<'a, 'f>,
         commands: &[Packet],
         out: &mut Outbox,
         beside: &mut Ops,
     ) {
-        self.advance(commands, reads.window, reads.time, out, beside);
+        self.advance(reads.files, commands, reads.window, reads.time, out, beside);
     }
 }

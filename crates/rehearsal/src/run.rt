@@ -27,7 +27,7 @@ use std::thread::Threads;
 use table_files::Files;
 
 /// Hands on what waits behind the frames that were run, and answers the report of them; where that fails the output failed.
-fn hand_on<O: Sink>(bench: &mut Bench, out: &mut O, report: Report) -> Report
+fn hand_on<O: Sink>(bench: &mut Bench<'_>, out: &mut O, report: Report) -> Report
     requires follows { (setup : Setup) × (earlier : List Frame) × (later : List Frame) × Follows bench.old setup earlier later × (report.frames ≡ length (earlier ++ later)) }
     requires ended { (report.status ≢ Status.ReadFailed) × (report.status ≢ Status.WriteFailed) × (report.status ≢ Status.WordsRefused) × (report.status ≢ Status.FileRefused) × (report.status ≢ Status.NoMemory) }
     ensures hands_on { (setup : Setup) (earlier later : List Frame) → Follows bench.old setup earlier later → report.frames ≡ length (earlier ++ later)
@@ -46,7 +46,7 @@ fn hand_on<O: Sink>(bench: &mut Bench, out: &mut O, report: Report) -> Report
 /// the block of the bench is full.
 pub fn run_frames<R: Threads + Sync, S: Source, O: Sink, G: Gate>(
     rt: &R,
-    bench: &mut Bench,
+    bench: &mut Bench<'_>,
     source: &mut S,
     reader: &mut Reader,
     feed: &mut Feed,

@@ -1,4 +1,5 @@
-use Rattle.std.proofs.Common.{◌++◌, length, sym, ◌∙◌, subst, arith}
+use Rattle.std.proofs.Common.{List, ℕ, ◌++◌, length, sym, ap, ◌∙◌, subst, arith}
+use denote.Ref.{Bor}
 use Rattle.std.specs.Prelude.{Err}
 use Rattle.fsw_outside.specs.declared.traits.Failed.{Failed}
 use Rattle.frame_exec.specs.Stages.{lines_in}
@@ -33,24 +34,24 @@ pub returns-in-Ok-clause-follows : goal.returns-in-Ok-clause-follows
 returns-in-Ok-clause-follows g c = λ setup earlier later follows.
     let run = c.run.ensures.run in
     let same = c.in-Ok.ensures.same in
-    let r = c.run.ensures.runs setup (run_of setup (earlier ++ later)) follows.epoch follows.has in
+    let r = c.run.ensures.runs setup (run_of setup (earlier ++ later)) follows.epoch follows.files follows.has in
     let lines = lines_are setup (earlier ++ later) c.args.input.now c.run.new.self.number _ c.run.new.self.drops.items (run.number ∙ follows.has.number) r.sent r.drops in
     follows_next c.land.new.self setup earlier later c.args.input.now _ c.run.new.self.block c.add_lines.new.self.block _ _
-    (c.land.ensures.epoch ∙ same.epoch ∙ run.epoch ∙ follows.epoch) (c.land.ensures.failed ∙ same.failed ∙ run.failed ∙ follows.well)
-    (has_next c.run.new.self c.add_lines.new.self c.land.new.self setup (earlier ++ later) c.args.input.now same c.land.ensures (run.number ∙ follows.has.number) (run.tables ∙ follows.has.tables) r)
+    (c.land.ensures.epoch ∙ same.epoch ∙ run.epoch ∙ follows.epoch) (ap (λ (fs : Bor (List (List ℕ))). fs.now) (c.land.ensures.files ∙ same.files ∙ run.files) ∙ follows.files) (c.land.ensures.failed ∙ same.failed ∙ run.failed ∙ follows.well)
+    (has_next c.run.new.self c.add_lines.new.self c.land.new.self setup (earlier ++ later) c.args.input.now same c.land.ensures (ap (λ (fs : Bor (List (List ℕ))). fs.now) run.files ∙ follows.files) (run.number ∙ follows.has.number) (run.tables ∙ follows.has.tables) r)
     (ready_next c.run.new.self c.add_lines.new.self c.land.new.self setup (earlier ++ later) c.args.input.now same c.land.ensures c.run.ensures.ready)
     c.land.ensures.waits lines
     (subst (Notes (ends_from 0 (lines_behind setup earlier later)) (length (joined (lines_behind setup earlier later)))) (sym run.waits) follows.notes) c.in-Ok.ensures.adds
 
 pub returns-in-Ok-clause-told : goal.returns-in-Ok-clause-told
 returns-in-Ok-clause-told g c = λ setup earlier later follows.
-    let r = c.run.ensures.runs setup (run_of setup (earlier ++ later)) follows.epoch follows.has in
+    let r = c.run.ensures.runs setup (run_of setup (earlier ++ later)) follows.epoch follows.files follows.has in
     let lines = lines_are setup (earlier ++ later) c.args.input.now c.run.new.self.number _ c.run.new.self.drops.items (c.run.ensures.run.number ∙ follows.has.number) r.sent r.drops in
     told_added _ _ c.args.self.now.block c.run.new.self.block c.add_lines.new.self.block c.land.new.self.block _ _ lines c.run.ensures.run.waits c.land.ensures.waits c.in-Ok.ensures.adds
 
 pub returns-in-Err-clause-cut : goal.returns-in-Err-clause-cut
 returns-in-Err-clause-cut g c = λ setup earlier later follows.
-    let r = c.run.ensures.runs setup (run_of setup (earlier ++ later)) follows.epoch follows.has in
+    let r = c.run.ensures.runs setup (run_of setup (earlier ++ later)) follows.epoch follows.files follows.has in
     let lines = lines_are setup (earlier ++ later) c.args.input.now c.run.new.self.number _ c.run.new.self.drops.items (c.run.ensures.run.number ∙ follows.has.number) r.sent r.drops in
     cut_added {E = Failed} c.in-Err.field-0 setup earlier later c.args.input.now (lines_in c.run.new.self) c.args.self.now.block c.add_lines.new.self.block (g.O.Sink.held c.args.sink.now) (g.O.Sink.held c.add_lines.new.sink) c.cut.result.late
     lines follows.notes

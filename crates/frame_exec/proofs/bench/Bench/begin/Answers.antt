@@ -12,11 +12,11 @@ use Rattle.frame_exec.proofs.Frames.{stands_opened}
 use Rattle.frame_exec.proofs.bench.Bench.begin.Goals as goal
 
 pub returns : goal.returns
-returns c = λ files loaded.
+returns c = λ loaded.
     let tables = c.args.tables.now in
     let regions = c.args.header.now.map in
     let dwells = c.start-4.ensures.given regions (subst (TablesGiven regions) (sym c.dwells.ensures.dwells) c.requires.given.dwells) in
-    stands_opened _ _ refl refl c.in_ok-open-7.ensures.empty refl loaded.named
+    stands_opened _ _ refl refl refl c.in_ok-open-7.ensures.empty refl loaded.named
     (subst (HsStands (setup_of tables.hs 0 3) []) (sym c.in_ok-open.ensures) (subst (λ (hs : HsTables). HsStands (setup_of hs 0 3) [] c.start.result) c.hs.ensures c.start.ensures))
     (subst (CsStands tables.eeprom tables.memory []) (sym c.in_ok-open-2.ensures)
     (subst (λ (memory : List Segment). CsStands tables.eeprom memory [] c.start-2.result) c.memory.ensures (subst (λ (eeprom : List Segment). CsStands eeprom c.memory.result.now [] c.start-2.result) c.eeprom.ensures c.start-2.ensures)))

@@ -1,4 +1,5 @@
 use Rattle.std.proofs.Common.{ℕ, List, ◌++◌, ◌∙◌, ap, subst, arith}
+use denote.Ref.{Bor}
 use Rattle.frame_exec.specs.Runs.{run_of}
 use Rattle.fsw_outside.specs.Written.{AppendsPart}
 use Rattle.fsw_outside.specs.TellingLaws.{told_map}
@@ -27,7 +28,7 @@ land-requires g c =
 
 pub returns-in-Ok-clause-lines : goal.returns-in-Ok-clause-lines
 returns-in-Ok-clause-lines g c = λ setup frames stands.
-    let r = c.run.ensures.runs setup (run_of setup frames) stands.epoch stands.has in
+    let r = c.run.ensures.runs setup (run_of setup frames) stands.epoch stands.files stands.has in
     let lines = lines_are setup frames c.args.input.now c.run.new.self.number _ c.run.new.self.drops.items (c.run.ensures.run.number ∙ stands.has.number) r.sent r.drops in
     told_map c.in-Ok.ensures.content (λ before after written. written ∙ ap (λ (bytes : List ℕ). before ++ bytes) lines)
 
@@ -37,18 +38,19 @@ returns-in-Ok-clause-stands g c = λ setup frames stands.
     let same = c.in-Ok.ensures.same in
     record {
       epoch = c.land.ensures.epoch ∙ same.epoch ∙ run.epoch ∙ stands.epoch;
+      files = ap (λ (fs : Bor (List (List ℕ))). fs.now) (c.land.ensures.files ∙ same.files ∙ run.files) ∙ stands.files;
       well = c.land.ensures.failed ∙ same.failed ∙ run.failed ∙ stands.well;
       waits = c.land.ensures.waits ∙ c.in-Ok.ensures.handed;
-      has = has_next c.run.new.self c.write.new.self c.land.new.self setup frames c.args.input.now same c.land.ensures (run.number ∙ stands.has.number) (run.tables ∙ stands.has.tables)
-          (c.run.ensures.runs setup (run_of setup frames) stands.epoch stands.has);
+      has = has_next c.run.new.self c.write.new.self c.land.new.self setup frames c.args.input.now same c.land.ensures (ap (λ (fs : Bor (List (List ℕ))). fs.now) run.files ∙ stands.files) (run.number ∙ stands.has.number) (run.tables ∙ stands.has.tables)
+          (c.run.ensures.runs setup (run_of setup frames) stands.epoch stands.files stands.has);
       ready = ready_next c.run.new.self c.write.new.self c.land.new.self setup frames c.args.input.now same c.land.ensures c.run.ensures.ready;
     }
 
 pub returns-in-Err-clause-interrupted : goal.returns-in-Err-clause-interrupted
-returns-in-Err-clause-interrupted g c = λ setup frames stands. record { memory = c.in-Err.ensures.same.memory ∙ (c.run.ensures.runs setup (run_of setup frames) stands.epoch stands.has).memory }
+returns-in-Err-clause-interrupted g c = λ setup frames stands. record { memory = c.in-Err.ensures.same.memory ∙ (c.run.ensures.runs setup (run_of setup frames) stands.epoch stands.files stands.has).memory }
 
 pub returns-in-Err-clause-lines : goal.returns-in-Err-clause-lines
 returns-in-Err-clause-lines g c = λ setup frames stands.
-    let r = c.run.ensures.runs setup (run_of setup frames) stands.epoch stands.has in
+    let r = c.run.ensures.runs setup (run_of setup frames) stands.epoch stands.files stands.has in
     let lines = lines_are setup frames c.args.input.now c.run.new.self.number _ c.run.new.self.drops.items (c.run.ensures.run.number ∙ stands.has.number) r.sent r.drops in
     told_map c.in-Err.ensures.content (λ before after part. subst (λ (bytes : List ℕ). AppendsPart bytes before after) lines part)

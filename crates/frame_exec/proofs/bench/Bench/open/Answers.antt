@@ -11,4 +11,4 @@ begin-requires c =
     record { given = subst (SetGiven c.args.header.now.map) (sym c.requires.loaded.named) (given_tables c.args.header.now.map c.args.files.now none) }
 
 pub returns-in-Ok-clause-follows : goal.returns-in-Ok-clause-follows
-returns-in-Ok-clause-follows c = standing_follows c.in-Ok.bench _ [] (c.in-Ok.ensures c.args.files.now c.requires.loaded)
+returns-in-Ok-clause-follows c = standing_follows c.in-Ok.bench _ [] (c.in-Ok.ensures c.requires.loaded)

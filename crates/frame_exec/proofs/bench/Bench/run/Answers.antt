@@ -1,4 +1,5 @@
-use Rattle.std.proofs.Common.{◌≡◌, List, true, All, sym, ◌∙◌, ap, subst}
+use denote.Ref.{Bor}
+use Rattle.std.proofs.Common.{◌≡◌, ℕ, List, true, All, sym, ◌∙◌, ap, subst}
 use Rattle.memory_window.specs.Regions.{is_mapped}
 use Rattle.memory_window.specs.Memory.{Memory, regions_of}
 use Rattle.scenario.specs.declared.frame.Upset.{Upset}
@@ -21,11 +22,11 @@ step-requires-clause-ready c =
     ready_by c.upset.new.self c.take.new.self (ap (λ (m : Memory). regions_of m.areas) c.take.ensures.memory) c.take.ensures.run.tables c.take.ensures.apps upset
 
 pub returns-clause-runs : goal.returns-clause-runs
-returns-clause-runs c = λ setup s epoch has.
+returns-clause-runs c = λ setup s epoch files has.
     let old = c.args.self.now in
     let frame = c.args.input.now in
     let upset = c.upset.ensures in
     let steps = subst (λ (counters : List Counter). Steps counters c.take.new.self c.step.new.self) c.counters.ensures.value c.step.ensures.steps in
-    ran setup s frame c.upset.new.self c.take.new.self c.step.new.self (upset.run.epoch ∙ epoch) (upset.run.number ∙ has.number) (upset.run.tables ∙ has.tables) (upset.pipes ∙ has.pipes)
+    ran setup s frame c.upset.new.self c.take.new.self c.step.new.self (upset.run.epoch ∙ epoch) (ap (λ (fs : Bor (List (List ℕ))). fs.now) upset.run.files ∙ files) (upset.run.number ∙ has.number) (upset.run.tables ∙ has.tables) (upset.pipes ∙ has.pipes)
     (image_is s frame old.ram c.upset.new.self.ram c.upsets.result.now has.memory c.upsets.ensures.value upset.memory) (apps_kept old c.upset.new.self s upset.apps has.apps)
     (subst (λ (held : List App). Takes held c.upset.new.self c.take.new.self) c.held.ensures.value c.take.ensures) steps c.send.new.self (subst (LogStands s.made) (sym upset.log) has.made) c.send.ensures

@@ -18,7 +18,7 @@ returns c =
     let sends = c.sends.ensures.value in
     let offered = c.deliver.ensures.after ∙ ap (after_offers old.bus) sends in
     record {
-      run = record { waits = refl; epoch = refl; number = refl; failed = refl; tables = refl };
+      run = record { waits = refl; epoch = refl; number = refl; failed = refl; tables = refl; files = refl };
       apps = record { hs = refl; cs = refl; mm = refl; md = refl };
       operations = refl;
       sent = λ made stands.

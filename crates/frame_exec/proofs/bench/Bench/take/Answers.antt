@@ -11,7 +11,7 @@ returns c =
     let md = ap (λ (p : Pipes). p.md) c.take-3.ensures.pipes ∙ ap (λ (p : Pipes). p.md) c.take_unless-2.ensures.pipes ∙ ap (λ (p : Pipes). p.md) c.take-2.ensures.pipes ∙ ap (λ (p : Pipes). p.md) c.take_unless.ensures.pipes
     ∙ ap (λ (p : Pipes). p.md) c.take.ensures.pipes in
     record {
-      run = record { waits = refl; epoch = refl; number = refl; failed = refl; tables = refl };
+      run = record { waits = refl; epoch = refl; number = refl; failed = refl; tables = refl; files = refl };
       apps = record { hs = c.take.ensures.state; cs = c.take-2.ensures.state; mm = c.take-3.ensures.state; md = c.take-4.ensures.state };
       hs = taken_by _ _ _ _ _ _ _ c.is_held-hs_held.ensures refl c.take.ensures.takes;
       events = λ free. c.take_unless.ensures.taken (c.is_held-hs_held.ensures ∙ free) ∙ events;
