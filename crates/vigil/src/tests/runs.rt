@@ -56,7 +56,7 @@ fn nth<'a>(files: &[&'a [u8]], place: usize) -> &'a [u8] {
     }
 }
 
-/// Runs these words over a shelf whose file `s` is this text, and whose files `a` to `f` are the first six of these.
+/// Runs these words over a shelf whose file `s` is this text, and whose files `a` to `h` are the first eight of these.
 pub fn run_beside<R: Threads + Sync + AllocGlobal>(
     rt: &R,
     words: &[&str],
@@ -78,6 +78,8 @@ pub fn run_beside<R: Threads + Sync + AllocGlobal>(
     shelf.put("d", nth(files, 3))?;
     shelf.put("e", nth(files, 4))?;
     shelf.put("f", nth(files, 5))?;
+    shelf.put("g", nth(files, 6))?;
+    shelf.put("h", nth(files, 7))?;
     let mut out = MemSink::short(alloc, outside.out, ROOM, most)?;
     let mut err = MemSink::short(alloc, outside.err, 256, most)?;
     let report = vigil(rt, alloc, &given, &mut shelf, &mut out, &mut err, &OpenGate);
@@ -182,10 +184,22 @@ pub fn assert_lines<R: Threads + Sync + AllocGlobal + Abort>(
     frames: u32,
     lines: &[Line<'_>],
 ) -> Result<(), Fail> {
+    assert_lines_beside(rt, header, &[], body, frames, lines)
+}
+
+/// Asserts that a header and a body run to their end beside these files, in so many frames, and give these lines.
+pub fn assert_lines_beside<R: Threads + Sync + AllocGlobal + Abort>(
+    rt: &R,
+    header: &str,
+    files: &[&[u8]],
+    body: &str,
+    frames: u32,
+    lines: &[Line<'_>],
+) -> Result<(), Fail> {
     let mut text = String::from_str(rt.alloc(), header)?;
     text.push_str(body)?;
     let log = log_of(rt.alloc(), lines)?;
-    assert_log(rt, text.as_str(), frames, log.as_str())
+    assert_log_beside(rt, files, text.as_str(), frames, log.as_str())
 }
 
 /// Lines that stand in a frame of a scenario: the frame's number, and the lines.

@@ -1,5 +1,6 @@
-//! Files of tables.
+//! Files of tables, and files to be loaded.
 
+use packet_forms::crc16;
 use std::alloc::Global;
 use std::test::Fail;
 
@@ -39,6 +40,22 @@ pub fn headers(alloc: Global, name: &str, offset: u32, payload: u32) -> Result<V
     push_u32(&mut bytes, payload)?;
     bytes.extend_from_slice(name.as_bytes())?;
     pad(&mut bytes, 116)?;
+    Ok(bytes)
+}
+
+/// A file of bytes to be loaded at an address: this many times this byte, with their check.
+pub fn load_file(alloc: Global, at: u32, len: u32, byte: u8) -> Result<Vec<u8>, Fail> {
+    let mut data = Vec::new(alloc);
+    data.resize(len as usize, byte)?;
+    let mut bytes = Vec::new(alloc);
+    push_u32(&mut bytes, 0x6346_4531)?;
+    push_u32(&mut bytes, 100)?;
+    pad(&mut bytes, 64)?;
+    push_u32(&mut bytes, at)?;
+    push_u32(&mut bytes, len)?;
+    push_u32(&mut bytes, u32::from(crc16(0, &data)))?;
+    pad(&mut bytes, 80)?;
+    bytes.extend_from_slice(&data)?;
     Ok(bytes)
 }
 
