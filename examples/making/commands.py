@@ -2,6 +2,8 @@
 
 import struct
 
+from making.log import crc16
+
 
 def packet(message_id, body):
     """A space packet: its id, sequence flags 3 and count 0, and how many bytes follow the first six, less one."""
@@ -88,6 +90,26 @@ def mm_peek(size, at):
 def mm_poke(size, at, value):
     """Writes the low 8, 16 or 32 bits of a value to an address."""
     return command(MM, 3, struct.pack(">BII", size, at, value))
+
+
+def mm_load(at, data):
+    """Writes 1 to 200 bytes, with their check."""
+    return command(MM, 4, struct.pack(">IH", at, crc16(data)) + data)
+
+
+def mm_load_file(load):
+    """Writes the bytes of a load file, counted among load files alone, at its address."""
+    return command(MM, 5, struct.pack(">H", load))
+
+
+def mm_fill(at, length, byte):
+    """Writes one byte over 1 to 65,536 bytes."""
+    return command(MM, 8, struct.pack(">IIB", at, length, byte))
+
+
+def mm_dump(at, length):
+    """Shows 1 to 2,048 bytes."""
+    return command(MM, 13, struct.pack(">II", at, length))
 
 
 def mm_eeprom_enable(region):

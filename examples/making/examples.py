@@ -2,7 +2,7 @@
 
 from making.commands import *
 from making.log import *
-from making.tables import MEMORY_TABLE, actions_table, apps_table, checksum_table, counters_table, dwell_table, events_table
+from making.tables import MEMORY_TABLE, actions_table, apps_table, checksum_table, counters_table, dwell_table, events_table, load_file
 
 RAM = "region RAM 0x1000 256"
 
@@ -280,6 +280,57 @@ def eeprom():
     )
 
 
+def loads():
+    image = bytes(range(1, 9))
+    return Example(
+        "loads",
+        "Memory is loaded in three ways: by a command with its bytes, from a file that is named beside the scenario, and by a fill. "
+        "They land in command order at the end of the frame that answers them, so where they overlap the last one stays; "
+        "the dump among them shows memory as it was before, and that of the next frame all of it, in parts of 128 bytes. "
+        "A load whose check is wrong by one bit is refused with 10, a second load file, which isn't there, with 11, and a load of protected EEPROM with 7.",
+        [
+            "# Memory and EEPROM side by side. The load file has 8 bytes for 0x1004.",
+            f"epoch {EPOCH}",
+            RAM,
+            "region EEPROM 0x1100 64",
+            "start",
+            "",
+            "# Frame 0: a fill, the load file, a load and a poke, one over the other, and a dump that comes too early.",
+            send(mm_fill(0x1000, 256, 0x11)),
+            send(mm_load_file(1)),
+            send(mm_load(0x1006, b"\xAA\xBB\xCC")),
+            send(mm_poke(8, 0x1007, 0xDD)),
+            send(mm_dump(0x1000, 16)),
+            "tick",
+            "",
+            "# Frame 1: a dump of all of it in two parts. What is refused: another check, a second load file, and protected EEPROM.",
+            send(mm_dump(0x1000, 129)),
+            send(command(MM, 4, bytes.fromhex("00001006" "8553" "AABBCC"))),
+            send(mm_load_file(2)),
+            send(mm_load(0x1100, b"\xEE")),
+            send(mm_fill(0x10FF, 2, 0)),
+            "tick",
+            "tick",
+            "end",
+        ],
+        [
+            event(1, "MM", 0, 24, 2),
+            event(1, "MM", 1, 21, 2),
+            event(1, "MM", 2, 20, 2),
+            event(1, "MM", 3, 19, 2),
+            *dump_packets(1, 0, 0x1000, bytes(16)),
+            event(1, "MM", 4, 29, 2),
+            *dump_packets(2, 1, 0x1000, b"\x11" * 4 + image[:2] + b"\xAA\xDD\xCC" + image[5:] + b"\x11" * 117),
+            event(2, "MM", 5, 29, 2),
+            event(2, "MM", 6, 10, 3),
+            event(2, "MM", 7, 11, 3),
+            event(2, "MM", 8, 7, 3),
+            event(2, "MM", 9, 4, 3),
+        ],
+        {"image.load": load_file(0x1004, image)},
+    )
+
+
 def held():
     line = send(no_op(MM))
     return Example(
@@ -362,13 +413,17 @@ def commands():
             "start",
             "upset 0x1080 0x5A",
             "",
-            "# Memory Manager: codes 0, 1, 2, 3, 11, 12, and the request.",
+            "# Memory Manager: codes 0 to 5, 8, 11, 12 and 13, and the request.",
             send(no_op(MM)),
             send(reset_counts(MM)),
             send(mm_peek(8, 0x1080)),
             send(mm_poke(16, 0x1010, 0xBEEF)),
+            send(mm_load(0x1020, b"123456789")),
+            send(mm_load_file(1)),
+            send(mm_fill(0x1030, 8, 0xA5)),
             send(mm_eeprom_enable(2)),
             send(mm_eeprom_disable(2)),
+            send(mm_dump(0x1080, 4)),
             send(housekeeping(MM_HOUSEKEEPING)),
             "tick",
             "",
@@ -414,41 +469,47 @@ def commands():
             peek_packet(1, 0, 8, 0x1080, 0x5A),
             event(1, "MM", 2, 18, 2),
             event(1, "MM", 3, 19, 2),
-            event(1, "MM", 4, 27, 2),
-            event(1, "MM", 5, 28, 2),
-            mm_housekeeping_packet(1, 0, 4, 0, 0),
-            event(2, "MD", 6, 16, 2),
-            event(2, "MD", 7, 17, 2),
-            event(2, "MD", 8, 18, 2),
-            event(2, "MD", 9, 19, 2),
-            event(2, "MD", 10, 20, 2),
+            event(1, "MM", 4, 20, 2),
+            event(1, "MM", 5, 21, 2),
+            event(1, "MM", 6, 24, 2),
+            event(1, "MM", 7, 27, 2),
+            event(1, "MM", 8, 28, 2),
+            *dump_packets(1, 0, 0x1080, b"\x5A\0\0\0"),
+            event(1, "MM", 9, 29, 2),
+            mm_housekeeping_packet(1, 0, 8, 0, 0),
+            event(2, "MD", 10, 16, 2),
+            event(2, "MD", 11, 17, 2),
+            event(2, "MD", 12, 18, 2),
+            event(2, "MD", 13, 19, 2),
+            event(2, "MD", 14, 20, 2),
             md_housekeeping_packet(2, 0, 3, 0, 0),
-            event(3, "CS", 11, 16, 2),
-            event(3, "CS", 12, 17, 2),
-            event(3, "CS", 13, 19, 2),
-            event(3, "CS", 14, 18, 2),
-            event(3, "CS", 15, 21, 2),
-            event(3, "CS", 16, 20, 2),
-            event(3, "CS", 17, 23, 2),
-            event(3, "CS", 18, 22, 2),
+            event(3, "CS", 15, 16, 2),
+            event(3, "CS", 16, 17, 2),
+            event(3, "CS", 17, 19, 2),
+            event(3, "CS", 18, 18, 2),
+            event(3, "CS", 19, 21, 2),
+            event(3, "CS", 20, 20, 2),
+            event(3, "CS", 21, 23, 2),
+            event(3, "CS", 22, 22, 2),
             baseline_packet(3, 0, 2, 1, baseline),
-            event(3, "CS", 19, 24, 2),
+            event(3, "CS", 23, 24, 2),
             cs_housekeeping_packet(3, 0, 7, 0, 7, 0, 0, 3),
-            event(4, "HS", 20, 16, 2),
-            event(4, "HS", 21, 17, 2),
-            event(4, "HS", 22, 19, 2),
-            event(4, "HS", 23, 18, 2),
-            event(4, "HS", 24, 21, 2),
-            event(4, "HS", 25, 20, 2),
-            event(4, "HS", 26, 24, 2),
-            event(4, "HS", 27, 25, 2),
+            event(4, "HS", 24, 16, 2),
+            event(4, "HS", 25, 17, 2),
+            event(4, "HS", 26, 19, 2),
+            event(4, "HS", 27, 18, 2),
+            event(4, "HS", 28, 21, 2),
+            event(4, "HS", 29, 20, 2),
+            event(4, "HS", 30, 24, 2),
+            event(4, "HS", 31, 25, 2),
             hs_housekeeping_packet(4, 0, 6, 0, (1, 1), (0, 0), 0, 0, {}),
         ],
         {
+            "bytes.load": load_file(0x1040, b"\x01\x02\x03"),
             "dwell1.table": dwell_table(1, False, [(1, 1, 0x1080)]),
             "memory.table": checksum_table(MEMORY_TABLE, {1: (1, 0x1080, 16)}),
         },
     )
 
 
-EXAMPLES = [first(), health(), dwell(), checksum(), eeprom(), held(), refused_file(), refused_scenario(), commands()]
+EXAMPLES = [first(), health(), dwell(), checksum(), eeprom(), loads(), held(), refused_file(), refused_scenario(), commands()]

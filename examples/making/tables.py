@@ -1,8 +1,9 @@
-"""Files of tables, laid out as docs/FILES.md tells them."""
+"""Files of tables and files to be loaded, laid out as docs/FILES.md tells them."""
 
 import struct
 
 from making import Wrong
+from making.log import crc16
 
 DWELL_TABLES, DWELL_ENTRIES, CHECKSUM_ENTRIES = range(1, 5), range(1, 26), range(1, 17)
 APP_ENTRIES, EVENT_ENTRIES, COUNTER_ENTRIES, ACTION_ENTRIES = range(1, 33), range(1, 17), range(1, 33), range(1, 9)
@@ -14,6 +15,11 @@ def table_file(name, payload):
     first = struct.pack(">II56x", 0x63464531, 8)
     second = struct.pack(">4xII40s", 0, len(payload), name.encode())
     return first + second + payload
+
+
+def load_file(at, data):
+    """The file of bytes that are to be loaded at an address, with their check."""
+    return struct.pack(">II56x", 0x63464531, 100) + struct.pack(">III4x", at, len(data), crc16(data)) + data
 
 
 def dwell_table(number, enabled, entries):

@@ -10,6 +10,10 @@ U8, U16, U32 = range(1 << 8), range(1 << 16), range(1 << 32)
 NUMBER = re.compile("0x[0-9a-fA-F]{1,16}|[0-9]{1,20}")
 NAME = re.compile("[0-9A-Za-z_]{1,19}")
 HEX = re.compile("([0-9A-Fa-f]{2}){8,64}")
+BYTES = re.compile("([0-9A-Fa-f]{2}){1,200}")
+LOADED = re.compile("([0-9A-Fa-f]{2}){1,65536}")
+
+FORMS = {NAME: "1 to 19 letters, digits and _", HEX: "HEX of 8 to 64 bytes", BYTES: "HEX of 1 to 200 bytes", LOADED: "HEX of 1 to 65,536 bytes"}
 
 APPLICATIONS = {"HS": HS, "MM": MM, "MD": MD, "CS": CS}
 IDS = {**APPLICATIONS, "HS_HOUSEKEEPING": HS_HOUSEKEEPING, "MM_HOUSEKEEPING": MM_HOUSEKEEPING, "MD_HOUSEKEEPING": MD_HOUSEKEEPING, "CS_HOUSEKEEPING": CS_HOUSEKEEPING}
@@ -29,6 +33,10 @@ SENT = {
     event_message: "NAME EVENT",
     mm_peek: "SIZE ADDRESS",
     mm_poke: "SIZE ADDRESS VALUE",
+    mm_load: "ADDRESS HEX",
+    mm_load_file: "LOAD",
+    mm_fill: "ADDRESS COUNT BYTE",
+    mm_dump: "ADDRESS COUNT",
     mm_eeprom_enable: "REGION",
     mm_eeprom_disable: "REGION",
     md_start: "TABLE..",
@@ -46,9 +54,9 @@ SENT = {
 
 # What fits the field of each word; TABLE.. are the bits of a mask.
 FIELDS = {
-    **dict.fromkeys(["SIZE", "REGION", "CODE"], U8),
-    **dict.fromkeys(["TABLE", "ENTRY", "LENGTH", "DELAY", "ID", "MAXIMUM", "EVENT"], U16),
-    **dict.fromkeys(["ADDRESS", "VALUE"], U32),
+    **dict.fromkeys(["SIZE", "REGION", "CODE", "BYTE"], U8),
+    **dict.fromkeys(["TABLE", "ENTRY", "LENGTH", "DELAY", "ID", "MAXIMUM", "EVENT", "LOAD"], U16),
+    **dict.fromkeys(["ADDRESS", "VALUE", "COUNT"], U32),
     "TABLE..": range(1, 17),
 }
 DWELL_ENTRY = {"LENGTH": U16, "DELAY": U16, "ADDRESS": U32}
@@ -89,11 +97,11 @@ def number(name, word, allowed):
 
 
 def field(name, word, allowed):
-    """A field of a table's entry: a number, a name, or the bytes of a packet."""
-    if allowed not in (NAME, HEX):
+    """A field of a table's entry: a number, a name, or bytes."""
+    if allowed not in FORMS:
         return number(name, word, allowed)
     if not allowed.fullmatch(word):
-        raise Wrong(f"{word!r} isn't {'1 to 19 letters, digits and _' if allowed is NAME else 'HEX of 8 to 64 bytes'}")
+        raise Wrong(f"{word!r} isn't {FORMS[allowed]}")
     return word if allowed is NAME else bytes.fromhex(word)
 
 
@@ -136,4 +144,6 @@ def argument(name, word):
         return choice(word, IDS)
     if name == "NAME":
         return field(name, word, NAME)
+    if name == "HEX":
+        return field(name, word, BYTES)
     return number(name, word, FIELDS[name])
