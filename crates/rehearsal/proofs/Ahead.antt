@@ -8,7 +8,7 @@ use Rattle.scenario.specs.declared.reason.Reason.{Reason}
 use Rattle.scenario.specs.FrameLists.{Frame}
 use Rattle.scenario.specs.Texts.{Text, Given, Head, Whole, Reading, Bad, reading, IsGoodFrame, AreGood}
 use Rattle.scenario.specs.Standing.{Stands}
-use Rattle.scenario.proofs.TextLaws.{texts_grow, given_are_good, items_have_stops, stops_stay}
+use Rattle.scenario.specs.TextLaws.{texts_grow, given_are_good, items_have_stops, stops_stay}
 use Rattle.rehearsal.specs.declared.report.Report.{Report}
 use Rattle.rehearsal.specs.declared.report.Status.TheVariants as statuses
 use Rattle.rehearsal.specs.Text.{StopsAt}

@@ -19,7 +19,7 @@ use Rattle.rehearsal.specs.Text.{Holds, IsRead}
 use Rattle.rehearsal.specs.Outcome.{frame_in_item, frames_of, setup_of, refused_read, log_in, IsTextOf, IsWhole, Outcome}
 use Rattle.rehearsal.specs.declared.report.Status.TheVariants as statuses
 use Rattle.rehearsal.specs.declared.report.Report.{Report}
-use Rattle.scenario.proofs.TextLaws.{texts_grow}
+use Rattle.scenario.specs.TextLaws.{texts_grow}
 use Rattle.rehearsal.proofs.Endings.{open_at_more, ended_at_end}
 
 -- the text that was handed out: the bytes that were fed and those that are pending

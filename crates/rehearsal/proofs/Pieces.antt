@@ -9,7 +9,7 @@ use Rattle.scenario.specs.declared.reader.Reader.{Reader}
 use Rattle.scenario.specs.declared.item.Item.TheVariants as answers
 use Rattle.scenario.specs.Texts.{Text, Given, Open, reading}
 use Rattle.scenario.specs.Answers.{answer_at_end}
-use Rattle.scenario.proofs.TextLaws.{open_is_bounded}
+use Rattle.scenario.specs.TextLaws.{open_is_bounded}
 use Rattle.rehearsal.proofs.Endings.{open_at_more}
 use Rattle.scenario.specs.Standing.{Stands, fed, closed, left}
 use Rattle.rehearsal.specs.Fed.{Fed}

@@ -8,7 +8,7 @@ use Rattle.scenario.specs.declared.frame.Upset.{Upset}
 use Rattle.scenario.specs.FrameLists.{Frame}
 use Rattle.scenario.specs.Texts.{Text, Given, Head, Whole, IsGoodFrame, AreGood}
 use Rattle.scenario.specs.Standing.{Stands, is_finished}
-use Rattle.scenario.proofs.TextLaws.{given_are_good, closed_is}
+use Rattle.scenario.specs.TextLaws.{given_are_good, closed_is}
 use Rattle.frame_exec.specs.Standing.{CanRun}
 use Rattle.rehearsal.specs.Fed.{Fed}
 use Rattle.rehearsal.specs.Text.{Holds}

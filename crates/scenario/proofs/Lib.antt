@@ -2,10 +2,6 @@ pub mod WordsLemmas
 pub mod LineLemmas
 pub mod StandingLemmas
 pub mod NextLemmas
-pub mod GrowthLemmas
-pub mod SaidLemmas
 pub mod SendLemmas
 pub mod BeginLemmas
-pub mod GoodLemmas
-pub mod TextLaws
 pub mod FirstLemmas

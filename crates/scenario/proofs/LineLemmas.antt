@@ -1,24 +1,13 @@
--- Lemmas on whole lines, and on what they give.
-use Rattle.std.proofs.Common.{◌≡◌, ℕ, ◌+◌, ◌<◌, ◌≤◌, min, Bool, true, false, ◌&&◌, ◌||◌, nat_lt, List, [], ◌∷◌, ◌++◌, length, map, Option, Ok, Err, refl, ap, sym, ◌∙◌, arith, append_assoc}
+-- Lemmas on the lines of bytes, and on what they give.
+use Rattle.std.proofs.Common.{◌≡◌, ℕ, ◌+◌, min, Bool, true, false, ◌&&◌, ◌||◌, nat_lt, List, [], ◌∷◌, ◌++◌, length, map, Option, Ok, Err, refl, ap, sym, ◌∙◌, arith}
 use Rattle.std.specs.List.{slice_split, All, AllByRecursion}
-use Rattle.std.proofs.lemmas.Bool.Decides.{nat_tests}
 use Rattle.std.proofs.lemmas.List.Elements.{All-cons}
-use Rattle.std.proofs.lemmas.List.Splits.{slice_split_at, slice_split_none, length-slice_split}
+use Rattle.std.proofs.lemmas.List.Splits.{slice_split_at, slice_split_none}
 use Rattle.scenario.specs.declared.reason.Reason.{Reason}
 use Rattle.scenario.specs.declared.sentence.Sentence.{Sentence}
-use Rattle.scenario.specs.Texts.{Line, Before, Given, Reading, Bad, whole_lines, with_items, reads, passed, given, read, read_bytes, end_of, bad_end_of, ending_at}
+use Rattle.scenario.specs.Texts.{Before, Bad, whole_lines, with_items, reads, passed, given, read, read_bytes, ending_at}
 use Rattle.scenario.specs.Standing.{is_lf, IsNoLf}
-
--- what one whole line gives, in front of others
-pub read_good : (end : Bool) (old : Before) (line : Line) (more : List Line) (said : Option Sentence) → reads old line ≡ Ok said
-    → read end old (line ∷ more) ≡ with_items (given old.sentences said) (map (λ _. end_of old line) (given old.sentences said)) (read end (passed old line said) more)
-unfolding read
-read_good end old line more said e = rw (e, read) refl
-
-pub read_bad : (end : Bool) (old : Before) (line : Line) (more : List Line) (reason : Reason) → reads old line ≡ Err reason
-    → read end old (line ∷ more) ≡ record { items = []; ending = Bad (old.lines + 1) reason; stops = bad_end_of old line ∷ [] }
-unfolding read
-read_bad end old line more reason e = rw (e, read) refl
+use Rattle.scenario.specs.LineLaws.{read_good, read_bad, whole_first, parts_some}
 
 no_lf_all : (bytes : List ℕ) → AllByRecursion IsNoLf bytes → All (λ b. is_lf b ≡ false) bytes
 no_lf_all [] h = λ k d below. absurd (omega (arith, below))
@@ -31,14 +20,6 @@ one_part bytes h = slice_split_none is_lf bytes (no_lf_all bytes h)
 -- and with an LF behind them they are the first part
 pub first_part : (bytes more : List ℕ) → AllByRecursion IsNoLf bytes → slice_split is_lf (bytes ++ 10 ∷ more) ≡ bytes ∷ slice_split is_lf more
 first_part bytes more h = slice_split_at is_lf bytes 10 more (no_lf_all bytes h) refl
-
--- a part with others behind it is a whole line
-pub whole_first : (end : Bool) (part : List ℕ) (parts : List (List ℕ)) → 0 < length parts → whole_lines end (part ∷ parts) ≡ record { bytes = part; takes = length part + 1 } ∷ whole_lines end parts
-whole_first end part [] h = absurd (omega (arith, h))
-whole_first end part (next ∷ more) h = refl
-
-parts_some : (bytes : List ℕ) → 0 < length (slice_split is_lf bytes)
-parts_some bytes = omega (arith, length-slice_split is_lf bytes)
 
 -- a line that its LF ends, in front of others
 pub read_line : (end : Bool) (old : Before) (bytes more : List ℕ) (said : Option Sentence) → AllByRecursion IsNoLf bytes
@@ -99,17 +80,3 @@ pub read_rest : (end : Bool) (old : Before) (bytes : List ℕ) → AllByRecursio
 unfolding read_bytes read
 read_rest end old bytes plain none =
     ap (λ parts. read end old (whole_lines end parts)) (one_part bytes plain) ∙ rw none refl
-
--- items in front of items in front
-pub with_items-with_items : (xs ys : List Given) (ms ns : List ℕ) (r : Reading) → with_items xs ms (with_items ys ns r) ≡ with_items (xs ++ ys) (ms ++ ns) r
-with_items-with_items xs ys ms ns r = rw (append_assoc, append_assoc) refl
-
-short_when : (old : Before) (line : Line) (said : Option Sentence) (a b : Bool) → nat_lt 640 (length line.bytes) ≡ a → nat_lt 16777216 (old.bytes + line.takes) ≡ b → reads old line ≡ Ok said → (length line.bytes ≤ 640) × (old.bytes + line.takes ≤ 16777216)
-unfolding reads
-short_when old line said true b e1 e2 e = absurd (let k = rw e1 at e in cc)
-short_when old line said false true e1 e2 e = absurd (let k = rw (e1, e2) at e in cc)
-short_when old line said false false e1 e2 e = (grind (arith, nat_tests), grind (arith, nat_tests))
-
--- a line that isn't too long has 640 bytes at most, and ends by the text's largest byte
-pub reads_short : (old : Before) (line : Line) (said : Option Sentence) → reads old line ≡ Ok said → (length line.bytes ≤ 640) × (old.bytes + line.takes ≤ 16777216)
-reads_short old line said e = short_when old line said (nat_lt 640 (length line.bytes)) (nat_lt 16777216 (old.bytes + line.takes)) refl refl e

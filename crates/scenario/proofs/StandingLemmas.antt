@@ -15,15 +15,16 @@ use Rattle.scenario.specs.declared.sentence.Place.{Place}
 use Rattle.scenario.specs.declared.sentence.Place.TheVariants as places
 use Rattle.scenario.specs.declared.sentence.Sentence.{Sentence}
 use Rattle.scenario.specs.declared.sentence.Sentence.TheVariants as says
-use Rattle.scenario.specs.declared.sentence.Verb.TheVariants as verbs
 use Rattle.scenario.specs.Sentences.{stands_at, verb_said, IsPlaced}
-use Rattle.scenario.specs.Frames.{place_after, epoch_of, regions_of, frame_of, header_of, is_started}
+use Rattle.scenario.specs.Frames.{place_after, epoch_of, regions_of, frame_of, header_of}
 use Rattle.scenario.specs.Texts.{Text, Line, Before, nothing, Given, Head, Whole, Reading, Bad, Ended, Unended, with_items, reads, passed, given, read_bytes, reading, ending_at}
 use Rattle.scenario.specs.Following.{Follows}
 use Rattle.scenario.specs.Answers.{item_said, end_answer, answer_at_end, IsLast, IsItem}
 use Rattle.scenario.specs.Standing.{Stands, fed, is_lf, IsNoLf, line_bytes, HasHead, has_line, left, Passes}
+use Rattle.scenario.specs.LineLaws.{reads_short, with_items-with_items, passed_bytes, never_bad}
+use Rattle.scenario.specs.PlaceLaws.{HasPlace, place_on, not_started_start, started_tick}
 use Rattle.scenario.proofs.WordsLemmas.{position_is, position_none, take_more}
-use Rattle.scenario.proofs.LineLemmas.{read_line, read_line_bad, read_last, read_last_bad, read_rest, reads_short, with_items-with_items}
+use Rattle.scenario.proofs.LineLemmas.{read_line, read_line_bad, read_last, read_last_bad, read_rest}
 
 -- a reader that was just opened
 pub stands_opened : (r : Reader) → r.line.value ≡ [] → r.whole ≡ false → r.finished ≡ false → Follows r.progress nothing → r.progress.shown ≡ false
@@ -146,16 +147,6 @@ ending_answer true old place lines e1 e2 = rw (e1, e2) (by_place (place_after ol
   by_place places.Inside lines = refl
   by_place places.Ended lines = refl
 
-pub never_bad : (end : Bool) (old : Before) (line : ℕ) (reason : Reason) → ending_at end old ≡ Bad line reason → ⊥
-never_bad false old line reason e = cc
-never_bad true old line reason e = by_place (place_after old.sentences) old.lines line reason e where
-  by_place : (place : Place) (lines line : ℕ) (reason : Reason) → elim place [ places.Ended ↦ Ended | _ ↦ Unended lines ] ≡ Bad line reason → ⊥
-  by_place places.Opening lines line reason e = cc
-  by_place places.Header lines line reason e = cc
-  by_place places.Between lines line reason e = cc
-  by_place places.Inside lines line reason e = cc
-  by_place places.Ended lines line reason e = cc
-
 -- what is known where no line is left
 pub record AtEnd (r : Reader) (t : Text) (gave : List Given) : Type 0 where
   pub gave_all : gave ≡ (reading t).items
@@ -207,62 +198,6 @@ at_bad r t gave reason s some refused =
 
 -- ---- a good line is passed
 
-pub not_started_epoch : (p : Place) → stands_at p verbs.Epoch ≡ true → is_started p ≡ false
-not_started_epoch places.Opening h = refl
-not_started_epoch _ h = absurd (false≢true h)
-
-pub not_started_region : (p : Place) → stands_at p verbs.Region ≡ true → is_started p ≡ false
-not_started_region places.Header h = refl
-not_started_region _ h = absurd (false≢true h)
-
-pub not_started_start : (p : Place) → stands_at p verbs.Start ≡ true → is_started p ≡ false
-not_started_start places.Header h = refl
-not_started_start _ h = absurd (false≢true h)
-
-started_send : (p : Place) → stands_at p verbs.Send ≡ true → is_started p ≡ true
-started_send places.Between h = refl
-started_send places.Inside h = refl
-started_send _ h = absurd (false≢true h)
-
-started_app : (p : Place) → stands_at p verbs.App ≡ true → is_started p ≡ true
-started_app places.Between h = refl
-started_app places.Inside h = refl
-started_app _ h = absurd (false≢true h)
-
-started_upset : (p : Place) → stands_at p verbs.Upset ≡ true → is_started p ≡ true
-started_upset places.Between h = refl
-started_upset places.Inside h = refl
-started_upset _ h = absurd (false≢true h)
-
-started_hold : (p : Place) → stands_at p verbs.Hold ≡ true → is_started p ≡ true
-started_hold places.Between h = refl
-started_hold places.Inside h = refl
-started_hold _ h = absurd (false≢true h)
-
-pub started_tick : (p : Place) → stands_at p verbs.Tick ≡ true → is_started p ≡ true
-started_tick places.Between h = refl
-started_tick places.Inside h = refl
-started_tick _ h = absurd (false≢true h)
-
-started_end : (p : Place) → stands_at p verbs.End ≡ true → is_started p ≡ true
-started_end places.Between h = refl
-started_end _ h = absurd (false≢true h)
-
--- the place lies behind `start` where the header is there
-abbrev pub HasPlace : List Sentence → Type 0
-HasPlace old = is_started (place_after old) ≡ is_some (header_of old)
-
-pub place_on : (old : List Sentence) (s : Sentence) → stands_at (place_after old) (verb_said s) ≡ true → HasPlace old → HasPlace (s ∷ old)
-place_on old (says.Epoch n) h k = sym (not_started_epoch _ h) ∙ k
-place_on old (says.Region r) h k = sym (not_started_region _ h) ∙ k
-place_on old says.Start h k = refl
-place_on old (says.Send p) h k = sym (started_send _ h) ∙ k
-place_on old (says.Count c) h k = sym (started_app _ h) ∙ k
-place_on old (says.Upset u) h k = sym (started_upset _ h) ∙ k
-place_on old (says.Hold a) h k = sym (started_hold _ h) ∙ k
-place_on old says.Tick h k = sym (started_tick _ h) ∙ k
-place_on old says.End h k = sym (started_end _ h) ∙ k
-
 place_passed : (old : Before) (line : Line) (said : Option Sentence) → IsPlaced (place_after old.sentences) said → HasPlace old.sentences → HasPlace (passed old line said).sentences
 place_passed old line None h k = k
 place_passed old line (Some s) h k = place_on old.sentences s h k
@@ -294,10 +229,6 @@ head_passed : (old : Before) (line : Line) (said : Option Sentence) (gave : List
     → HasHead (header_of (passed old line said).sentences) (gave ++ given old.sentences said)
 head_passed old line None gave h k head = head_same (header_of old.sentences) gave head
 head_passed old line (Some s) gave h k head = head_on old.sentences s gave h k head
-
-pub passed_bytes : (old : Before) (line : Line) (said : Option Sentence) → (passed old line said).bytes ≡ old.bytes + line.takes
-passed_bytes old line None = refl
-passed_bytes old line (Some s) = refl
 
 later_good : (b end : Bool) (old : Before) (bytes more : List ℕ) (said : Option Sentence) → AllByRecursion IsNoLf bytes → b ≡ true
     → reads old (record { bytes = bytes; takes = if b then length bytes + 1 else length bytes }) ≡ Ok said

@@ -7,3 +7,9 @@ pub mod Texts
 pub mod Following
 pub mod Answers
 pub mod Standing
+pub mod LineLaws
+pub mod PlaceLaws
+pub mod SaidLaws
+pub mod GrowthLaws
+pub mod GoodLaws
+pub mod TextLaws

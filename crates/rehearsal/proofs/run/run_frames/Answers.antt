@@ -13,7 +13,7 @@ use Rattle.rehearsal.specs.Fed.{Fed}
 use Rattle.rehearsal.specs.Run.{IsCutShort}
 use Rattle.rehearsal.specs.Text.{IsRead, Holds}
 use Rattle.rehearsal.specs.Outcome.{frames_of, setup_of, log_in}
-use Rattle.scenario.proofs.TextLaws.{given_first}
+use Rattle.scenario.specs.TextLaws.{given_first}
 use Rattle.rehearsal.proofs.TextFacts.{no_later_head, can_run, few_frames}
 use Rattle.rehearsal.proofs.Endings.{not_open_at_end, not_open_at_bad}
 use Rattle.rehearsal.proofs.Outcomes.{whole_of, is_closed, text_of, closed_same, open_after, tells_some, reading_same, reading_whole, frames_more, setup_append, refused_append, log_in_more, log_in_none, read_failed, done, refused_at, runs_next}

@@ -2,7 +2,7 @@ use Rattle.std.proofs.Common.{ℕ, ◌<◌, Bool, false, [], ◌∷◌, length, 
 use Rattle.fsw_outside.specs.TellingLaws.{told_then, told_map, told_nothing}
 use Rattle.scenario.specs.Texts.{Given, reading}
 use Rattle.scenario.specs.Standing.{header_in}
-use Rattle.scenario.proofs.TextLaws.{given_first}
+use Rattle.scenario.specs.TextLaws.{given_first}
 use Rattle.rehearsal.specs.Outcome.{IsTextOf}
 use Rattle.rehearsal.proofs.TextFacts.{no_first_frame}
 use Rattle.rehearsal.proofs.Endings.{not_open_at_end, not_open_at_bad}

@@ -1,4 +1,4 @@
-use Rattle.scenario.proofs.TextLaws.{given_are_good}
+use Rattle.scenario.specs.TextLaws.{given_are_good}
 use Rattle.scenario.proofs.laws.given_items_are_good.Goals as goal
 
 pub returns : goal.returns

@@ -1,4 +1,4 @@
-use Rattle.scenario.proofs.TextLaws.{items_are_good}
+use Rattle.scenario.specs.TextLaws.{items_are_good}
 use Rattle.scenario.proofs.laws.items_are_good.Goals as goal
 
 pub returns : goal.returns

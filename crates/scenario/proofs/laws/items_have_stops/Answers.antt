@@ -1,4 +1,4 @@
-use Rattle.scenario.proofs.TextLaws.{items_have_stops}
+use Rattle.scenario.specs.TextLaws.{items_have_stops}
 use Rattle.scenario.proofs.laws.items_have_stops.Goals as goal
 
 pub returns-clause-items : goal.returns-clause-items

@@ -1,4 +1,4 @@
-use Rattle.scenario.proofs.TextLaws.{open_is_bounded}
+use Rattle.scenario.specs.TextLaws.{open_is_bounded}
 use Rattle.scenario.proofs.laws.open_texts_are_bounded.Goals as goal
 
 pub returns : goal.returns

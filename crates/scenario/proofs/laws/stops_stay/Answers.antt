@@ -1,4 +1,4 @@
-use Rattle.scenario.proofs.TextLaws.{stops_stay}
+use Rattle.scenario.specs.TextLaws.{stops_stay}
 use Rattle.scenario.proofs.laws.stops_stay.Goals as goal
 
 pub returns : goal.returns

@@ -1,4 +1,4 @@
-use Rattle.scenario.proofs.TextLaws.{texts_grow}
+use Rattle.scenario.specs.TextLaws.{texts_grow}
 use Rattle.scenario.proofs.laws.texts_grow.Goals as goal
 
 pub returns : goal.returns

@@ -3,8 +3,8 @@ use Rattle.std.proofs.Common.{◌≡◌, ◌<◌, ℕ, ◌≤◌, Bool, false, L
 use Rattle.scenario.specs.declared.reader.Reader.{Reader}
 use Rattle.scenario.specs.Texts.{Text, Given, Reading, Open, Grows, AreGood, reading}
 use Rattle.scenario.specs.Standing.{Stands, is_finished}
-use Rattle.scenario.proofs.GrowthLemmas as growth
-use Rattle.scenario.proofs.GoodLemmas as good
+use Rattle.scenario.specs.GrowthLaws as growth
+use Rattle.scenario.specs.GoodLaws as good
 
 -- an open text that grows keeps its items and its stops, or its bad line
 pub texts_grow : (front more : List ℕ) (end : Bool) → Grows (reading (record { bytes = front; closed = false })) (reading (record { bytes = front ++ more; closed = end }))

@@ -3,14 +3,12 @@ use Rattle.std.proofs.Common.{◌≡◌, ℕ, ◌+◌, ◌<◌, ◌≤◌, min, 
 use Rattle.std.specs.List.{slice_split, onto_first}
 use Rattle.std.proofs.lemmas.Bool.Decides.{nat_tests}
 use Rattle.std.proofs.lemmas.List.{length-map, get_or_append_left}
-use Rattle.std.proofs.lemmas.List.Splits.{length-slice_split}
 use Rattle.scenario.specs.declared.reason.Reason.{Reason}
 use Rattle.scenario.specs.declared.reason.Reason.TheVariants as reasons
 use Rattle.scenario.specs.declared.sentence.Sentence.{Sentence}
 use Rattle.scenario.specs.Texts.{Text, Line, Before, nothing, Given, Reading, Bad, Open, Grows, whole_lines, with_items, reads, passed, given, read, read_bytes, reading, end_of}
 use Rattle.scenario.specs.Standing.{is_lf}
-use Rattle.scenario.proofs.LineLemmas.{read_good, read_bad, whole_first, reads_short, with_items-with_items}
-use Rattle.scenario.proofs.StandingLemmas.{passed_bytes, never_bad}
+use Rattle.scenario.specs.LineLaws.{read_good, read_bad, whole_first, parts_some, reads_short, with_items-with_items, passed_bytes, never_bad}
 
 -- parts in front of parts, the last one and the first one joined
 abbrev pub join : List (List ℕ) → List (List ℕ) → List (List ℕ)
@@ -18,9 +16,6 @@ join [] qs = qs
 join (p ∷ []) [] = p ∷ []
 join (p ∷ []) (q ∷ qs) = (p ++ q) ∷ qs
 join (p ∷ next ∷ ps) qs = p ∷ join (next ∷ ps) qs
-
-parts_some : (bytes : List ℕ) → 0 < length (slice_split is_lf bytes)
-parts_some bytes = omega (arith, length-slice_split is_lf bytes)
 
 join_none : (qs : List (List ℕ)) → 0 < length qs → qs ≡ join ([] ∷ []) qs
 join_none [] h = absurd (omega (arith, h))

@@ -17,9 +17,9 @@ use Rattle.scenario.specs.Sentences.{line_says}
 use Rattle.scenario.specs.Frames.{place_after, epoch_of, regions_of, ticks_of, frame_of, header_of, room_for_item, refusal}
 use Rattle.scenario.specs.Texts.{Text, Line, Before, nothing, Given, Head, Whole, Reading, IsGoodFrame, AreGood, whole_lines, unless_refused, then_unless, is_too_long, reads, passed, given, read, read_bytes, reading}
 use Rattle.scenario.specs.Standing.{is_lf}
-use Rattle.scenario.proofs.LineLemmas.{read_good, read_bad}
-use Rattle.scenario.proofs.StandingLemmas.{HasPlace, place_on, not_started_region, not_started_start, started_tick}
-use Rattle.scenario.proofs.SaidLemmas.{IsSaid, line_said}
+use Rattle.scenario.specs.LineLaws.{read_good, read_bad}
+use Rattle.scenario.specs.PlaceLaws.{HasPlace, place_on, not_started_region, not_started_start, started_tick}
+use Rattle.scenario.specs.SaidLaws.{IsSaid, line_said}
 
 -- an upset lies in the regions
 abbrev IsIn : List MemRegion → UpsetByte → Type 0
