@@ -20,6 +20,7 @@ use Rattle.frame_exec.specs.declared.giving.OpenFault.TheVariants as faults
 use Rattle.frame_exec.specs.declared.loading.TablesFault.{TablesFault}
 use Rattle.packet_log.specs.Blocks.{empty_block}
 use Rattle.frame_exec.specs.Following.{Follows}
+use Rattle.frame_exec.specs.Standing.{waiting_in}
 use Rattle.frame_exec.specs.declared.bench.Bench.{Bench}
 
 -- a text of which nothing was read
@@ -87,7 +88,7 @@ nothing_reads = refl
 
 -- the bench that was opened begins to run the frames of the text
 pub opened : (files : List (List ℕ)) (bench : Bench) (item : Given) (epoch : ℕ) (regions : List Region) (rest : List Given) → Follows bench (record { epoch = epoch; regions = regions; files = files }) [] []
-    → bench.block ≡ empty_block → item ∷ [] ≡ Head epoch regions ∷ rest → region_fault regions files ≡ None → Begins bench files (item ∷ [])
+    → waiting_in bench ≡ empty_block → item ∷ [] ≡ Head epoch regions ∷ rest → region_fault regions files ≡ None → Begins bench files (item ∷ [])
 opened files bench item epoch regions rest follows waits head given = record {
   waits = waits;
   follows = subst (λ (setup : Setup). Follows bench setup [] []) (sym (header_setup files item epoch regions rest head)) follows;
