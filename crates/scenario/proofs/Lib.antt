@@ -5,3 +5,4 @@ pub mod NextLemmas
 pub mod SendLemmas
 pub mod BeginLemmas
 pub mod FirstLemmas
+pub mod DrillLemmas

@@ -13,3 +13,4 @@ pub mod SaidLaws
 pub mod GrowthLaws
 pub mod GoodLaws
 pub mod TextLaws
+pub mod Drill

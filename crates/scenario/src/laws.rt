@@ -4,6 +4,7 @@
 ghost use Rattle.std.specs.Prelude.{◌≡◌, ◌≤◌, ◌<◌, ◌+◌, ◌++◌, ◌∷◌, [], ℕ, Bool, List, false, true, codes, length, slice_index};
 ghost use Rattle.scenario.specs.Texts.{Text, Given, Head, Whole, Reading, Bad, Ended, Unended, Open, Grows, AreGood, reading};
 ghost use Rattle.scenario.specs.Standing.{Stands, is_finished};
+ghost use Rattle.scenario.specs.Drill.{drawn, upper, draws_of, frame_lines, drill_header};
 ghost use Rattle.scenario.specs.declared.reader.Reader.{Reader};
 ghost use Rattle.scenario.specs.declared.reason.Reason.{Reason};
 ghost use Rattle.scenario.specs.declared.reason.Reason.TheVariants as reasons;
@@ -69,4 +70,15 @@ pub fn worked_texts()
     ensures word { (reading (record { bytes = codes "epoch 5\nregion RAM 0 8\nstart\nend\ntick\n"; closed = true })).ending ≡ Bad 5 reasons.Word }
     ensures number { (reading (record { bytes = codes "epoch 4294000001\n"; closed = true })).ending ≡ Bad 1 reasons.Number }
     ensures unfinished { (reading (record { bytes = codes "epoch 5\nregion RAM 0 8\nstart\ntick"; closed = false })).ending ≡ Open }
+{}
+
+/// Parts of generated scenarios, computed from the definitions: the first two draws from 7, the header, and frames with each
+/// of the three commands, with an upset and without one.
+pub fn worked_drills()
+    ensures first { upper (drawn 7) ≡ 15648 }
+    ensures second { upper (drawn (drawn 7)) ≡ 59866 }
+    ensures header { drill_header ≡ codes "epoch 1000000\nregion RAM 0 65536\nregion EEPROM 65536 65536\nstart\n" }
+    ensures peek { frame_lines (draws_of 7) ≡ codes "app LOAD 0\nsend 1888C00000060200080000ED4E\ntick\n" }
+    ensures fill { frame_lines (draws_of 4) ≡ codes "app LOAD 0\nsend 1888C000000A080F000050E0000000F2E0\ntick\n" }
+    ensures upset { frame_lines (draws_of 1) ≡ codes "app LOAD 0\nupset 33046 136\nsend 1888C000000A03210800000CF000000073\ntick\n" }
 {}

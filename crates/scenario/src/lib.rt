@@ -1,6 +1,7 @@
 //! The text of a scenario: its lines, and the header and frames that they give.
 #![tactic(auto)]
 
+mod drill;
 mod frame;
 mod item;
 pub mod laws;
@@ -13,6 +14,7 @@ mod send_list;
 mod sentence;
 mod words;
 
+pub use drill::Drill;
 pub use frame::{App, FrameInput, Upset};
 pub use item::Item;
 pub use progress::Header;

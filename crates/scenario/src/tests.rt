@@ -1,7 +1,9 @@
+ghost use Rattle.std.specs.Prelude.{◌≤◌, ◌<◌};
 ghost use Rattle.scenario.specs.Standing.{Shows};
 
-use crate::{App, Item, Reader, Upset};
+use crate::{App, Drill, Item, Reader, Upset};
 use memory_window::{Kind, Region};
+use packet_forms::crc16;
 use std::alloc::Global;
 use std::process::Abort;
 use std::test::Fail;
@@ -295,4 +297,47 @@ fn frame_shows_the_text(rt: HostRuntime) -> Result<(), Fail> {
         }
     }
     Err("no frame".into())
+}
+
+/// The whole text of a drill, in pieces of at most `size` bytes.
+fn drill_text(alloc: Global, k: u32, size: usize) -> Result<Vec<u8>, Fail>
+    requires number { k ≤ 999999 }
+    requires some { 0 < size }
+    requires few { size ≤ 64 }
+{
+    let mut drill = Drill::start(k);
+    let mut text = Vec::new(alloc);
+    let mut buf = [0; 64];
+    for _ in 0..200_000 {
+        let count = drill.next(&mut buf[..size]);
+        if count == 0 {
+            return Ok(text);
+        }
+        text.extend_from_slice(&buf[..count])?;
+    }
+    Err("no end".into())
+}
+
+// Lengths and checks of the texts are those of another program, written from the rules alone.
+#[test]
+fn drills_have_2000_frames(rt: HostRuntime) -> Result<(), Fail> {
+    let text = drill_text(rt.alloc(), 7, 64)?;
+    assert_eq!(rt; text.len(), 114_972);
+    assert_eq!(rt; crc16(0, text.as_slice()), 0x0942);
+    assert_eq!(rt; drill_text(rt.alloc(), 7, 1)?.as_slice(), text.as_slice());
+    let seen = read_text(rt.alloc(), text.as_slice(), 4096)?;
+    let wanted = Seen {
+        headers: 1,
+        frames: 2000,
+        sends: 2000,
+        counters: 2000,
+        upsets: 511,
+        held: 0,
+        last: Item::End,
+    };
+    assert_eq!(rt; seen, wanted);
+    let last = drill_text(rt.alloc(), 999_999, 7)?;
+    assert_eq!(rt; last.len(), 114_434);
+    assert_eq!(rt; crc16(0, last.as_slice()), 0x0A47);
+    Ok(())
 }
