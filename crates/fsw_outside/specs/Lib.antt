@@ -11,3 +11,5 @@ pub mod FileShelf
 pub mod StdSink
 pub mod TellingLaws
 pub mod PieceLaws
+pub mod Tally
+pub mod TallyLaws

@@ -1,6 +1,7 @@
 -- What a sink over memory tells.
-use Rattle.std.specs.Prelude.{ℕ, List, Option, Some, None, if◌then◌else◌}
+use Rattle.std.specs.Prelude.{ℕ, List, Option, Some, None, option_map, if◌then◌else◌}
 use Rattle.fsw_outside.specs.Memory.{can_rise}
+use Rattle.fsw_outside.specs.Tally.{Tally, tally_of}
 use Rattle.fsw_outside.specs.declared.mem_sink.MemSink.{MemSink}
 
 -- The bytes that it holds.
@@ -10,6 +11,10 @@ held_bytes sink = sink.bytes.items
 -- What the sink tells: nothing once its count of faults has come to its end.
 abbrev pub told_bytes : MemSink → Option (List ℕ)
 told_bytes sink = if can_rise sink.faults then Some (held_bytes sink) else None
+
+-- The tally of what it tells.
+abbrev pub told_tally : MemSink → Option Tally
+told_tally sink = option_map tally_of (told_bytes sink)
 
 -- How many bytes it can hold.
 abbrev pub byte_room : MemSink → ℕ

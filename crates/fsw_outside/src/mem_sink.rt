@@ -77,16 +77,23 @@ impl Sink for MemSink {
     ghost use Rattle.fsw_outside.specs.Told.{WhereTold};
     ghost use Rattle.fsw_outside.specs.Causes.{HasCause};
     ghost use Rattle.fsw_outside.specs.Bytes.{Writes};
-    ghost use Rattle.fsw_outside.specs.MemSink.{held_bytes, told_bytes, byte_room, failing_calls, call_count, fault_count, most_bytes};
+    ghost use Rattle.fsw_outside.specs.Tally.{Adds};
+    ghost use Rattle.fsw_outside.specs.TallyLaws.{tallied_of};
+    ghost use Rattle.fsw_outside.specs.MemSink.{held_bytes, told_bytes, told_tally, byte_room, failing_calls, call_count, fault_count, most_bytes};
 
     ghost held = { λ sink. told_bytes sink };
 
+    ghost tally = { λ sink. told_tally sink };
+
     ghost faults = { λ sink. fault_count sink };
+
+    ghost tallied = { λ sink t tells. tallied_of (told_bytes sink) t tells };
 
     fn write(&mut self, piece: &[u8]) -> Result<usize, Failed>
         requires { 0 < length piece.now }
         ensures count { IfOk result (λ n. (0 < n) × (n ≤ length piece.now)) }
         ensures content { WhereTold (told_bytes self.old) (told_bytes self.new) (Writes result piece.now) }
+        ensures tally { WhereTold (told_tally self.old) (told_tally self.new) (Adds result piece.now) }
         ensures cause { HasCause (told_bytes self.new) (fault_count self.old) (fault_count self.new) result }
         // It fails exactly where nothing fits or the call is listed, and takes as much as may be.
         ensures exact { is_ok result ≡ (nat_lt (length (held_bytes self.old)) (byte_room self.old)

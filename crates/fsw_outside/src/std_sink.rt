@@ -5,6 +5,8 @@ ghost use Rattle.std.specs.Io.KnownBytes.{Appends};
 ghost use Rattle.fsw_outside.specs.Told.{WhereTold};
 ghost use Rattle.fsw_outside.specs.Causes.{HasCause};
 ghost use Rattle.fsw_outside.specs.Bytes.{Writes};
+ghost use Rattle.fsw_outside.specs.Tally.{Tally, Adds};
+ghost use Rattle.fsw_outside.specs.TallyLaws.{tallied_of};
 ghost use Rattle.fsw_outside.specs.StdSink.{writer_of, fault_count};
 
 use crate::traits::{Failed, Sink};
@@ -30,12 +32,17 @@ impl<W: Write + Drop> StdSink<W> {
 impl<W: Write + Drop> Sink for StdSink<W> {
     ghost held = { λ sink. None };
 
+    ghost tally = { λ sink. None };
+
     ghost faults = { λ sink. fault_count sink };
+
+    ghost tallied = { λ sink t tells. tallied_of None t tells };
 
     fn write(&mut self, piece: &[u8]) -> Result<usize, Failed>
         requires { 0 < length piece.now }
         ensures count { IfOk result (λ n. (0 < n) × (n ≤ length piece.now)) }
         ensures content { WhereTold {A = List ℕ} None None (Writes result piece.now) }
+        ensures tally { WhereTold {A = Tally} None None (Adds result piece.now) }
         ensures cause { HasCause {A = List ℕ} None (fault_count self.old) (fault_count self.new) result }
         ensures counted { fault_count self.new ≡ (if is_ok result then fault_count self.old else min (fault_count self.old + 1) (2 ^ 64 - 1)) }
         // What it took stands in the writer, where that one tells its bytes.

@@ -5,6 +5,7 @@ ghost use Rattle.fsw_outside.specs.Told.{WhereTold};
 ghost use Rattle.fsw_outside.specs.Causes.{HasCause};
 ghost use Rattle.fsw_outside.specs.Files.{Content, Opens, Reads};
 ghost use Rattle.fsw_outside.specs.Bytes.{Writes};
+ghost use Rattle.fsw_outside.specs.Tally.{Tally, tally_of, Adds};
 
 use std::alloc::{AllocError, AllocFailed};
 
@@ -68,6 +69,9 @@ pub trait Sink {
     /// The bytes that it holds, where they are told.
     ghost held: { Self → Option (List ℕ) };
 
+    /// The tally of all bytes that were written since the sink was made, where it is told.
+    ghost tally: { Self → Option Tally };
+
     /// How often the sink has failed.
     ghost faults: { Self → ℕ };
 
@@ -76,7 +80,11 @@ pub trait Sink {
         requires { 0 < length piece.now }
         ensures count { IfOk result (λ n. (0 < n) × (n ≤ length piece.now)) }
         ensures content { WhereTold (held self.old) (held self.new) (Writes result piece.now) }
+        ensures tally { WhereTold (tally self.old) (tally self.new) (Adds result piece.now) }
         ensures cause { HasCause (held self.new) (faults self.old) (faults self.new) result };
+
+    /// What is tallied is the tally of the bytes that are told. So each clause that tells bytes tells their tally too.
+    ghost tallied: { (sink : Self) → (t : Tally) → tally sink ≡ Some t → (bytes : List ℕ) × (held sink ≡ Some bytes) × (t ≡ tally_of bytes) };
 }
 
 /// Is told of each job, on the thread that does it.

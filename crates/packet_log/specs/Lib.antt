@@ -4,3 +4,5 @@ pub mod Standing
 pub mod Items
 pub mod Sent
 pub mod Blocks
+pub mod Summaries
+pub mod Logged

@@ -10,7 +10,9 @@ ghost use Rattle.packet_forms.specs.Built.{command_of, event_of};
 ghost use Rattle.bus_pipes.specs.declared.names.PipeName.{PipeName};
 ghost use Rattle.packet_log.specs.Blocks.{Waiting, Puts, tells, ends_from, joined, whole_in};
 ghost use Rattle.packet_log.specs.Counts.{count_of};
+ghost use Rattle.fsw_outside.specs.Tally.{tally_of};
 ghost use Rattle.packet_log.specs.Lines.{packet_line, drop_line};
+ghost use Rattle.packet_log.specs.Summaries.{summary_text};
 
 /// A packet more adds one to the count of its id, and leaves the counts of all others.
 pub fn counts_go_on()
@@ -47,4 +49,11 @@ pub fn worked_lines()
     ensures event { packet_line 1 (event_of (name_of (codes "MM")) 16 2 1001) ≡ codes "1 pkt 0808C0000025000003E900004D4D000000000000000000000000000000000000001000020000004200000001\n" }
     ensures limit { drop_line 0 (record { pipe = PipeName.Mm; full = false; packet = command_of 0x1888 0 [] }) ≡ codes "0 drop MM limit 1888C000000100AE\n" }
     ensures full { drop_line 0 (record { pipe = PipeName.Mm; full = true; packet = command_of 0x1889 0 [] }) ≡ codes "0 drop MM full 1889C000000100AF\n" }
+{}
+
+/// Two summaries, byte by byte: of numbers that are written out, and of nine bytes.
+pub fn worked_summaries()
+    ensures numbers { summary_text 2000 (record { lines = 2621; bytes = 226802; crc = 0x7FC4 }) ≡ codes "frames 2000\nlines 2621\nbytes 226802\ncrc 7FC4\n" }
+    ensures digits { summary_text 0 (tally_of (codes "123456789")) ≡ codes "frames 0\nlines 0\nbytes 9\ncrc BB3D\n" }
+    ensures line { summary_text 1 (tally_of (codes "0 reset\n")) ≡ codes "frames 1\nlines 1\nbytes 8\ncrc 90C9\n" }
 {}

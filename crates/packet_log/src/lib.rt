@@ -6,11 +6,14 @@ mod counts;
 pub mod laws;
 mod lines;
 mod pairs;
+mod summary;
 mod writing;
+mod written;
 
 pub use block::{BLOCK_BYTES, BLOCK_ENDS, Block};
 pub use counts::Log;
 pub use lines::{HEAD_BYTES, Head, Line, head_of, write_drop, write_item};
+pub use summary::{Summary, SummaryText};
 pub use writing::{put_bytes, put_text};
 
 #[cfg(test)]

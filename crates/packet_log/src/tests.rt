@@ -2,7 +2,7 @@ ghost use Rattle.std.specs.Prelude.{◌<◌};
 
 use super::*;
 use bus_pipes::{Dropped, Out, PipeName};
-use fsw_outside::{Failed, MemSink};
+use fsw_outside::{Failed, MemSink, Sink};
 use packet_forms::{Name, Packet, be16, command, event, telemetry};
 use std::alloc::Global;
 use std::process::Abort;
@@ -184,4 +184,24 @@ fn a_full_block_is_handed_on(rt: HostRuntime) -> Result<(), Fail> {
     assert_eq!(rt; sink.bytes().len(), 65537);
     assert_eq!(rt; block.late_frames(), 0);
     Ok(())
+}
+
+#[test]
+fn a_summary_tells_what_was_written(rt: HostRuntime) {
+    let mut summary = Summary::start();
+    assert_eq!(rt;
+        summary.text(0).as_str(),
+        "frames 0\nlines 0\nbytes 0\ncrc 0000\n"
+    );
+    assert_eq!(rt; summary.write(b"1234"), Ok(4));
+    assert_eq!(rt; summary.write(b"56789"), Ok(5));
+    assert_eq!(rt;
+        summary.text(3).as_str(),
+        "frames 3\nlines 0\nbytes 9\ncrc BB3D\n"
+    );
+    assert_eq!(rt; put_text(&mut summary, "\n\n"), Ok(()));
+    assert_eq!(rt;
+        summary.text(u32::MAX).as_str(),
+        "frames 4294967295\nlines 2\nbytes 11\ncrc 44D6\n"
+    );
 }
