@@ -3,7 +3,7 @@ pub mod Endings
 pub mod Pieces
 pub mod Outcomes
 pub mod Beginnings
-pub mod WordLists
+pub mod Matched
 pub mod Completeness
 pub mod Ahead
 pub mod Running

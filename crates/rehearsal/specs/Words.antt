@@ -1,7 +1,11 @@
 -- Which words the program accepts.
-use Rattle.std.specs.Prelude.{ℕ, List, [], ◌∷◌, ◌++◌, length, Bool, not, ◌&&◌, Option, Some, None, option_and_then, nat_le, nat_eq, if◌then◌else◌, is_some, codes, drop}
-use Rattle.std.specs.Str.{bytes_eq}
-use Rattle.std.specs.List.{starts_with, list_all}
+use Rattle.std.specs.Prelude.{ℕ, List, [], ◌∷◌, ◌++◌, length, Bool, true, ◌&&◌, Option, Some, None, option_and_then, unwrap_or, nat_le, nat_eq, if◌then◌else◌, is_some, codes, drop}
+use Rattle.std.specs.List.{starts_with}
+use Rattle.clap.specs.Walk.{Row, Rule, first_of, all_of}
+use Rattle.clap.specs.Simple.{App, new_app, new_rule, with_rule, matches_of}
+use Rattle.clap.specs.Faults.{fault_of}
+use Rattle.clap.specs.Kinds.{Kinds}
+use Rattle.clap.specs.declared.builder.action.ArgAction.TheVariants as actions
 use Rattle.scenario.specs.Words.{digits}
 
 -- what accepted words ask for: a number of workers, the name of the scenario's file, and the names of the FILEs
@@ -18,41 +22,65 @@ within_crew n = if nat_le 1 n && nat_le n 16 then Some n else None
 unfoldable pub workers_in : List ℕ → Option ℕ
 workers_in word = option_and_then within_crew (digits 10 2 word)
 
--- the word begins with `-`
-unfoldable pub is_dashed : List ℕ → Bool
-is_dashed word = starts_with nat_eq word (codes "-")
+-- the number of workers by the value of the option, 1 where it isn't given
+abbrev pub workers_said : Option (List ℕ) → Option ℕ
+workers_said None = Some 1
+workers_said (Some word) = workers_in word
 
 -- the word is `drill:` and one to six decimal digits
 unfoldable pub is_drill : List ℕ → Bool
 is_drill word = starts_with nat_eq word (codes "drill:") && is_some (digits 10 6 (drop 6 word))
 
--- a word that names a scenario's file
-unfoldable pub is_scenario : List ℕ → Bool
-is_scenario word = not (is_dashed word) && not (is_drill word)
+-- the option with a value
+abbrev pub workers_rule : Rule
+workers_rule = record (new_rule (codes "workers")) { long = Some (codes "workers"); action = Some actions.Set }
 
--- the word before a number of workers
-unfoldable pub is_workers : List ℕ → Bool
-is_workers word = bytes_eq word (codes "--workers")
+-- the first positional, which has to be there
+abbrev pub scenario_rule : Rule
+scenario_rule = record (new_rule (codes "scenario")) { required = true }
 
--- words that name FILEs: at most 100, none of which begins with `-`
-unfoldable pub are_file_names : List (List ℕ) → Bool
-are_file_names words = nat_le (length words) 100 && list_all (λ word. not (is_dashed word)) words
+-- the positionals behind it
+abbrev pub files_rule : Rule
+files_rule = record (new_rule (codes "files")) { action = Some actions.Append }
 
--- what SCENARIO and the FILEs behind it ask for, with a number of workers
-unfoldable pub asked_for : ℕ → List (List ℕ) → Option Asked
-asked_for workers [] = None
-asked_for workers (scenario ∷ files) =
-    if is_scenario scenario && are_file_names files then Some (record { workers = workers; scenario = scenario; files = files }) else None
+-- the simple command that reads the words
+abbrev pub vigil_command : App
+vigil_command = with_rule (with_rule (with_rule (new_app (codes "vigil")) workers_rule) scenario_rule) files_rule
 
--- what the words behind `--workers` ask for
-unfoldable pub asked_with_workers : List (List ℕ) → Option Asked
-asked_with_workers [] = None
-asked_with_workers (number ∷ words) = option_and_then (λ workers. asked_for workers words) (workers_in number)
+-- the values of the FILEs
+abbrev pub files_in : List Row → List (List ℕ)
+files_in rows = unwrap_or (all_of (codes "files") rows) []
 
--- what the words ask for, where they are accepted: `--workers` and N may stand first, and SCENARIO and at most 100 FILEs follow
+-- at most 100 FILEs
+abbrev pub few_files : List (List ℕ) → Option (List (List ℕ))
+few_files files = if nat_le (length files) 100 then Some files else None
+
+-- what a scenario that isn't generated, a number of workers and FILEs ask for
+abbrev pub asked_with : Option (List ℕ) → Option ℕ → Option (List (List ℕ)) → Option Asked
+asked_with None workers files = None
+asked_with (Some scenario) None files = None
+asked_with (Some scenario) (Some workers) None = None
+asked_with (Some scenario) (Some workers) (Some files) = if is_drill scenario then None else Some (record { workers = workers; scenario = scenario; files = files })
+
+-- what the matches of the three ask for
+unfoldable pub asked_by : List Row → Option Asked
+asked_by rows = asked_with (first_of (codes "scenario") rows) (workers_said (first_of (codes "workers") rows)) (few_files (files_in rows))
+
+-- what the command finds at the words, where it is handed the program's name before them: the kinds of error, and its matches
+unfoldable pub faults_at : List (List ℕ) → Kinds
+faults_at words = fault_of vigil_command (codes "vigil" ∷ words)
+
+unfoldable pub matches_at : List (List ℕ) → List Row
+matches_at words = matches_of vigil_command (codes "vigil" ∷ words)
+
+-- what matches ask for, where there is no error
+abbrev pub unless_faulty : Kinds → List Row → Option Asked
+unless_faulty [] rows = asked_by rows
+unless_faulty (kind ∷ more) rows = None
+
+-- what the words ask for, where they are accepted
 unfoldable pub accepted_words : List (List ℕ) → Option Asked
-accepted_words [] = None
-accepted_words (word ∷ words) = if is_workers word then asked_with_workers words else asked_for 1 (word ∷ words)
+accepted_words words = unless_faulty (faults_at words) (matches_at words)
 
 -- the words to open: the FILEs in order, and then SCENARIO
 unfoldable pub words_to_open : Asked → List (List ℕ)

@@ -1,11 +1,11 @@
 //! Laws of rehearsals: each function answers nothing, and its contract is the law.
 
-ghost use Rattle.std.specs.Prelude.{◌≡◌, ◌≢◌, ℕ, ◌+◌, ◌<◌, List, [], Option, Some, None, IsSome};
+ghost use Rattle.std.specs.Prelude.{◌≡◌, ◌≢◌, ℕ, ◌+◌, ◌<◌, List, [], ◌∷◌, Option, Some, None, IsSome, codes};
 ghost use Rattle.fsw_outside.specs.Files.{Content};
 ghost use Rattle.scenario.specs.Texts.{Text, Ended, Open, reading};
 ghost use Rattle.frame_exec.specs.Tables.{tables_fault};
 ghost use Rattle.frame_exec.specs.declared.loading.TablesFault.{TablesFault};
-ghost use Rattle.rehearsal.specs.Words.{Asked};
+ghost use Rattle.rehearsal.specs.Words.{Asked, accepted_words};
 ghost use Rattle.rehearsal.specs.Files.{Refusal, AreTaken};
 ghost use Rattle.rehearsal.specs.Lines.{Rehearsed, FailsOn, Refuses, ReadsText};
 ghost use Rattle.rehearsal.specs.Outcome.{refused_read, HasCauses, Seen, GivesReads, IsRefusedAt, Rehearses};
@@ -73,4 +73,32 @@ pub fn first_line_decides()
         → Rehearsed report asked seen wrote_before wrote_now before after → report.status ≢ statuses.NoMemory → ReadsText files text asked seen before after
         → seen.held_now ≡ Some new → GivesReads files (reading text) → wrote_now ≡ wrote_before → (reading text).ending ≡ Open
         → (report.status ≡ statuses.ReadFailed) × (report.file ≡ 0) }
+{}
+
+/// What some words ask for, computed from the definitions: the option anywhere before `--`, names behind it, the words that
+/// are refused.
+pub fn worked_words()
+    ensures plain { accepted_words (codes "s" ∷ []) ≡ Some (record { workers = 1; scenario = codes "s"; files = [] }) }
+    ensures by_hand { accepted_words (codes "--workers" ∷ codes "3" ∷ codes "s" ∷ codes "a" ∷ codes "b" ∷ []) ≡ Some (record { workers = 3; scenario = codes "s"; files = codes "a" ∷ codes "b" ∷ [] }) }
+    ensures equals { accepted_words (codes "--workers=3" ∷ codes "s" ∷ []) ≡ Some (record { workers = 3; scenario = codes "s"; files = [] }) }
+    ensures behind { accepted_words (codes "s" ∷ codes "--workers" ∷ codes "3" ∷ []) ≡ Some (record { workers = 3; scenario = codes "s"; files = [] }) }
+    ensures between { accepted_words (codes "s" ∷ codes "f1" ∷ codes "--workers" ∷ codes "3" ∷ codes "f2" ∷ []) ≡ Some (record { workers = 3; scenario = codes "s"; files = codes "f1" ∷ codes "f2" ∷ [] }) }
+    ensures dashes { accepted_words (codes "--" ∷ codes "--workers" ∷ codes "-x" ∷ []) ≡ Some (record { workers = 1; scenario = codes "--workers"; files = codes "-x" ∷ [] }) }
+    ensures dash { accepted_words (codes "-" ∷ [] ∷ []) ≡ Some (record { workers = 1; scenario = codes "-"; files = [] ∷ [] }) }
+    ensures one { accepted_words (codes "--workers" ∷ codes "01" ∷ codes "s" ∷ []) ≡ Some (record { workers = 1; scenario = codes "s"; files = [] }) }
+    ensures most { accepted_words (codes "--workers" ∷ codes "16" ∷ codes "s" ∷ []) ≡ Some (record { workers = 16; scenario = codes "s"; files = [] }) }
+    ensures drill_names { accepted_words (codes "drill:" ∷ codes "drill:1234567" ∷ []) ≡ Some (record { workers = 1; scenario = codes "drill:"; files = codes "drill:1234567" ∷ [] }) }
+    ensures none { accepted_words ([]) ≡ None }
+    ensures zero { accepted_words (codes "--workers" ∷ codes "0" ∷ codes "s" ∷ []) ≡ None }
+    ensures many { accepted_words (codes "--workers" ∷ codes "17" ∷ codes "s" ∷ []) ≡ None }
+    ensures long { accepted_words (codes "--workers" ∷ codes "016" ∷ codes "s" ∷ []) ≡ None }
+    ensures no_number { accepted_words (codes "--workers" ∷ codes "x" ∷ codes "s" ∷ []) ≡ None }
+    ensures no_value { accepted_words (codes "s" ∷ codes "--workers" ∷ []) ≡ None }
+    ensures twice { accepted_words (codes "--workers" ∷ codes "3" ∷ codes "--workers" ∷ codes "3" ∷ codes "s" ∷ []) ≡ None }
+    ensures abbreviated { accepted_words (codes "--work" ∷ codes "3" ∷ codes "s" ∷ []) ≡ None }
+    ensures unknown { accepted_words (codes "s" ∷ codes "-x" ∷ []) ≡ None }
+    ensures help { accepted_words (codes "--help" ∷ []) ≡ None }
+    ensures short_help { accepted_words (codes "s" ∷ codes "-h" ∷ []) ≡ None }
+    ensures version { accepted_words (codes "--version" ∷ []) ≡ None }
+    ensures drill { accepted_words (codes "drill:000007" ∷ []) ≡ None }
 {}

@@ -16,7 +16,7 @@ fn words_of(alloc: Global, text: &str) -> Result<Words, Fail> {
 
 /// Words, how many workers they ask for, the scenario's name, and the names of the FILEs, each behind a `/`; no workers where
 /// they are refused.
-const WORDS: [(&str, u32, &str, &str); 20] = [
+const WORDS: [(&str, u32, &str, &str); 28] = [
     ("v1.txt", 1, "v1.txt", ""),
     ("", 1, "", ""),
     ("drill:", 1, "drill:", ""),
@@ -29,12 +29,20 @@ const WORDS: [(&str, u32, &str, &str); 20] = [
     ("--workers/+1/v1.txt", 0, "", ""),
     ("--workers/1/--workers", 0, "", ""),
     ("drill:7", 0, "", ""),
-    ("-", 0, "", ""),
+    ("-", 1, "-", ""),
     ("v1.txt/a", 1, "v1.txt", "/a"),
     ("v1.txt/a/drill:7/", 1, "v1.txt", "/a/drill:7/"),
     ("--workers/3/v1.txt/a/b", 3, "v1.txt", "/a/b"),
     ("v1.txt/a/-b", 0, "", ""),
-    ("v1.txt/--workers/3", 0, "", ""),
+    ("v1.txt/--workers/3", 3, "v1.txt", ""),
+    ("--workers=3/v1.txt", 3, "v1.txt", ""),
+    ("v1.txt/a/--workers/3/b", 3, "v1.txt", "/a/b"),
+    ("--/--workers/-a", 1, "--workers", "/-a"),
+    ("--workers/1/--workers/1/v1.txt", 0, "", ""),
+    ("--work/1/v1.txt", 0, "", ""),
+    ("--help", 0, "", ""),
+    ("v1.txt/-h", 0, "", ""),
+    ("--version", 0, "", ""),
     ("--workers/3", 0, "", ""),
     ("--workers", 0, "", ""),
 ];

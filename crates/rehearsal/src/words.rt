@@ -1,12 +1,17 @@
 //! The words after the program's name, and what they ask for.
 
-ghost use Rattle.std.specs.Prelude.{◌≡◌, ℕ, ◌<◌, List, [], ◌∷◌, ◌++◌, length, IfOk, OnOk, OnErr, slice_index_or, ◌+◌, ◌≤◌, not, true, drop, IfSome};
-ghost use Rattle.std.specs.List.{list_all};
-ghost use Rattle.rehearsal.specs.Words.{workers_in, is_dashed, is_drill, is_scenario, is_workers, are_file_names, asked_for, accepted_words};
+ghost use Rattle.std.specs.Prelude.{◌≡◌, ◌≢◌, ℕ, ◌<◌, List, [], ◌∷◌, ◌++◌, length, map, IfOk, OnOk, OnErr, slice_index_or, ◌≤◌, codes, drop, IfSome, MatchResult, option_map};
+ghost use Rattle.clap.specs.Matches.{found_of};
+ghost use Rattle.clap.specs.Values.{kind_of};
+ghost use Rattle.clap.specs.Walk.{rows_of};
+ghost use Rattle.clap.specs.Simple.{app_of};
+ghost use Rattle.rehearsal.specs.Words.{workers_in, workers_said, is_drill, vigil_command, files_in, few_files, asked_by, accepted_words};
 
+use clap::error::ErrorKind;
+use clap::{Arg, ArgAction, ArgMatches, Command, Error};
 use fsw_outside::NoMemory;
 use scenario::digits;
-use std::alloc::Global;
+use std::alloc::{AllocError, Global};
 use std::marker::Model;
 
 /// The words after the program's name, in order. They are seen as the list of their texts.
@@ -109,46 +114,76 @@ impl Plan {
     }
 }
 
+/// The program's name, which is handed to the command before the words.
+const NAME: &str = "vigil";
+
 /// What the words ask for; None exactly where they are refused.
 pub fn accept(alloc: Global, words: &Words) -> Result<Option<Plan>, NoMemory>
     ensures { IfOk result (λ plan. accepted_words words.now ≡ plan) }
 {
-    if words.len() == 0 {
-        return Ok(None);
+    let texts = with_name(alloc, words)?;
+    let command = vigil_command(alloc)?;
+    match command.try_get_matches_from(texts.as_slice()) {
+        Ok(matches) => plan_of(alloc, &matches),
+        Err(error) => refused_by(&error),
     }
-    if !is_workers(words.word(0)) {
-        return plan_from(alloc, words, 0, 1);
-    }
-    if words.len() == 1 {
-        return Ok(None);
-    }
-    let Some(workers) = workers_in(words.word(1)) else {
-        return Ok(None);
-    };
-    plan_from(alloc, words, 2, workers)
 }
 
-/// The plan with SCENARIO at a place, and the FILEs behind it.
-fn plan_from(
-    alloc: Global,
-    words: &Words,
-    place: usize,
-    workers: u32,
-) -> Result<Option<Plan>, NoMemory>
-    requires { (1 ≤ workers) × (workers ≤ 16) }
-    ensures { IfOk result (λ plan. asked_for workers (drop place words.now) ≡ plan) }
+/// The simple command that reads the words: the option `workers`, SCENARIO and the FILEs.
+fn vigil_command<'a>(alloc: Global) -> Result<Command<'a>, AllocError>
+    ensures { IfOk result (λ command. app_of command ≡ vigil_command) }
 {
-    if place >= words.len() {
+    let workers = Arg::new(alloc, "workers")
+        .long("workers")
+        .action(ArgAction::Set);
+    let scenario = Arg::new(alloc, "scenario").required(true);
+    let files = Arg::new(alloc, "files").action(ArgAction::Append);
+    Command::new(alloc, NAME)
+        .arg(workers)?
+        .arg(scenario)?
+        .arg(files)
+}
+
+/// The program's name and the words behind it.
+fn with_name(alloc: Global, words: &Words) -> Result<Vec<&str>, NoMemory>
+    ensures { IfOk result (λ texts. map (λ text. text.now) texts.items ≡ codes "vigil" ∷ words.now) }
+{
+    let mut texts = Vec::new(alloc);
+    texts.push(NAME)?;
+    'places: for place in 0..words.len() {
+        texts.push(words.word(place))?;
+    }
+    Ok(texts)
+}
+
+/// A refusal, unless memory ran out.
+fn refused_by(error: &Error) -> Result<Option<Plan>, NoMemory>
+    ensures { MatchResult result (λ plan. (plan ≡ None) × (kind_of error.now ≢ ErrorKind.OutOfMemory)) (λ _. kind_of error.now ≡ ErrorKind.OutOfMemory) }
+{
+    match error.kind() {
+        ErrorKind::OutOfMemory => Err(NoMemory),
+        _ => Ok(None),
+    }
+}
+
+/// What the matches ask for.
+fn plan_of(alloc: Global, matches: &ArgMatches<'_>) -> Result<Option<Plan>, NoMemory>
+    ensures { IfOk result (λ plan. asked_by (rows_of (found_of matches.now)) ≡ plan) }
+{
+    let Some(scenario) = matches.get_str("scenario") else {
+        return Ok(None);
+    };
+    if is_drill(scenario) {
         return Ok(None);
     }
-    if !is_scenario(words.word(place)) {
+    let Some(workers) = workers_said(matches.get_str("workers")) else {
         return Ok(None);
-    }
-    if !are_file_names(words, place + 1) {
+    };
+    let files = files_of(alloc, matches)?;
+    let Some(files) = files else {
         return Ok(None);
-    }
-    let scenario = String::from_str(alloc, words.word(place))?;
-    let files = words_from(alloc, words, place + 1)?;
+    };
+    let scenario = String::from_str(alloc, scenario)?;
     Ok(Some(Plan {
         workers,
         scenario,
@@ -156,41 +191,42 @@ fn plan_from(
     }))
 }
 
-/// The words from a place on.
-fn words_from(alloc: Global, words: &Words, from: usize) -> Result<Words, NoMemory>
-    requires { from ≤ length words.now }
-    ensures { IfOk result (λ copy. copy ≡ drop from words.now) }
+/// The FILEs, unless there are more than 100.
+fn files_of(alloc: Global, matches: &ArgMatches<'_>) -> Result<Option<Words>, NoMemory>
+    ensures value { IfOk result (λ files. few_files (files_in (rows_of (found_of matches.now))) ≡ files) }
+    ensures few { IfOk result (λ files. IfSome files (λ words. length words ≤ 100)) }
 {
-    let mut copy = Words::open(alloc)?;
-    'places: for place in from..words.len() {
-        copy.add(words.word(place))?;
+    let Some(texts) = matches.get_raw("files") else {
+        let none = Words::open(alloc)?;
+        return Ok(Some(none));
+    };
+    if texts.len() > MOST_FILES {
+        return Ok(None);
     }
-    Ok(copy)
+    let files = words_of(alloc, texts)?;
+    Ok(Some(files))
 }
 
-/// Whether the words from a place on name FILEs.
-fn are_file_names(words: &Words, from: usize) -> bool
-    requires { from ≤ length words.now }
-    ensures names { result ≡ are_file_names (drop from words.now) }
-    ensures few { result ≡ true → length words.now ≤ from + 100 }
+/// The number of workers, by the value of the option, if it is given.
+fn workers_said(word: Option<&str>) -> Option<u32>
+    ensures value { result ≡ workers_said (option_map (λ w. w.now) word.entry) }
+    ensures range { IfSome result (λ n. (1 ≤ n) × (n ≤ 16)) }
 {
-    if words.len() - from > MOST_FILES {
-        return false;
+    match word {
+        None => Some(1),
+        Some(word) => workers_in(word),
     }
-    are_undashed(words, from)
 }
 
-/// Whether none of the words from a place on begins with `-`.
-fn are_undashed(words: &Words, from: usize) -> bool
-    requires { from ≤ length words.now }
-    ensures { result ≡ list_all (λ word. not (is_dashed word)) (drop from words.now) }
+/// The words that these texts are.
+fn words_of(alloc: Global, texts: &[&str]) -> Result<Words, NoMemory>
+    ensures { IfOk result (λ words. words ≡ map (λ text. text.now) texts.now) }
 {
-    for place in from..words.len() {
-        if is_dashed(words.word(place)) {
-            return false;
-        }
+    let mut words = Words::open(alloc)?;
+    'texts: for text in texts {
+        words.add(text)?;
     }
-    true
+    Ok(words)
 }
 
 /// The number of workers that a word says.
@@ -206,22 +242,6 @@ fn workers_in(word: &str) -> Option<u32>
         return None;
     }
     Some(number as u32)
-}
-
-/// Whether a word is `--workers`.
-#[tactic(auto, unfolding(crate::specs::Words::is_workers))]
-fn is_workers(word: &str) -> bool
-    ensures { result ≡ is_workers word.now }
-{
-    word.as_bytes() == b"--workers".as_slice()
-}
-
-/// Whether a word begins with `-`.
-#[tactic(auto, unfolding(crate::specs::Words::is_dashed))]
-fn is_dashed(word: &str) -> bool
-    ensures { result ≡ is_dashed word.now }
-{
-    word.as_bytes().starts_with(b"-".as_slice())
 }
 
 /// The bytes behind the first six.
@@ -242,12 +262,4 @@ fn is_drill(word: &str) -> bool
         return false;
     }
     digits(10, 6, behind_six(bytes)).is_some()
-}
-
-/// Whether a word names a scenario's file.
-#[tactic(auto, unfolding(crate::specs::Words::is_scenario))]
-fn is_scenario(word: &str) -> bool
-    ensures { result ≡ is_scenario word.now }
-{
-    !is_dashed(word) && !is_drill(word)
 }

@@ -150,7 +150,7 @@ fn maps_are_refused_at_start(rt: HostRuntime) -> Result<(), Fail> {
     Ok(())
 }
 
-const REFUSED_WORDS: [&[&str]; 17] = [
+const REFUSED_WORDS: [&[&str]; 18] = [
     &[],
     &["--workers", "0", "s"],
     &["--workers", "17", "s"],
@@ -160,28 +160,34 @@ const REFUSED_WORDS: [&[&str]; 17] = [
     &["--workers", "+1", "s"],
     &["--workers", "s"],
     &["--workers"],
-    &["--workers=1", "s"],
     &["--worker", "1", "s"],
-    &["s", "--workers", "1"],
-    &["-"],
+    &["--workers", "1", "s", "--workers", "1"],
+    &["--help"],
+    &["s", "-h"],
+    &["--version"],
+    &["s", "-x"],
     &["drill:7"],
     &["--workers", "1", "drill:000007"],
-    &["s", "-"],
     &["--workers", "1", "s", "file", "--workers"],
 ];
 
 // Words whose scenario isn't on the shelf.
-const STRANGE_NAMES: [&[&str]; 6] = [
+const STRANGE_NAMES: [&[&str]; 8] = [
     &["t"],
     &[""],
+    &["-"],
+    &["--", "--workers"],
     &["drill:"],
     &["drill:x"],
     &["drill:1234567"],
     &["--workers", "01", "drill:+7"],
 ];
 
-const ACCEPTED_WORDS: [&[&str]; 4] = [
+const ACCEPTED_WORDS: [&[&str]; 7] = [
     &["s"],
+    &["--", "s"],
+    &["--workers=3", "s"],
+    &["s", "--workers", "3"],
     &["--workers", "1", "s"],
     &["--workers", "01", "s"],
     &["--workers", "16", "s"],
