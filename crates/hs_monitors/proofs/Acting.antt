@@ -61,7 +61,7 @@ and_yes : (t : Bool) → (t && true) ≡ t
 and_yes true = refl
 and_yes false = refl
 
-and_no : (t : Bool) → (t && false) ≡ false
+pub and_no : (t : Bool) → (t && false) ≡ false
 and_no true = refl
 and_no false = refl
 

@@ -176,11 +176,12 @@ impl Monitors {
         !self.watch() && !self.actions.is_cooling()
     }
 
-    // Whether a used entry may be checked.
+    // Whether a used entry may be checked: without one, no more is asked.
+    #[tactic(auto, using(crate::proofs::Acting::and_no))]
     #[inline(always)]
     fn watch(&self) -> bool
         ensures { result ≡ (self.now.monitoring && nat_lt 0 self.now.places) }
     {
-        self.monitoring && self.places > 0
+        self.places > 0 && self.monitoring
     }
 }
