@@ -1,14 +1,14 @@
-use Rattle.std.proofs.Common.{◌∙◌, ap, length, refl, arith}
-use Rattle.packet_log.proofs.Digits.{front_none, front_more, length-front}
+use Rattle.std.proofs.Common.{ℕ, List, ◌+◌, ◌*◌, ◌/◌, ◌++◌, length, take, drop, ap, ◌∙◌, arith}
+use Rattle.std.proofs.lemmas.List.{take_rest}
+use Rattle.packet_log.specs.Lines.{hex}
+use Rattle.packet_log.proofs.Digits.{all_placed}
 use Rattle.packet_log.proofs.lines.place_hex.Goals as goal
 
-pub loop-i-init : goal.loop-i-init
-loop-i-init c = record { value = front_none c.args.places.now c.args.at c.args.bytes.now c.requires; size = refl }
-
-pub loop-i-preserved : goal.loop-i-preserved
-loop-i-preserved c =
-    let more = front_more c.args.places.now c.loop-i.places c.place.new.bytes c.digits_of.result c.args.bytes.now c.args.at c.loop-i.i c.requires c.loop-i-test.true c.loop-i.invariant.value c.digits_of.ensures c.place.ensures in
-    record {
-      value = more;
-      size = ap length more ∙ length-front c.args.places.now c.args.bytes.now c.args.at _ c.requires (omega (arith, c.loop-i-test.true));
-    }
+pub returns : goal.returns
+returns c =
+    let bytes = c.args.bytes.now in
+    let whole : ℕ = length bytes / 4 * 4 in
+    let at = c.args.at + 2 * whole in
+    let middle = c.place_fours.new.places in
+    all_placed c.args.places.now middle c.place_each.new.places bytes c.args.at whole c.requires (omega arith) c.place_fours.ensures.value
+    (c.place_each.ensures ∙ ap (λ (rest : List ℕ). take at middle ++ (hex rest ++ drop (at + 2 * length rest) middle)) (take_rest bytes whole))

@@ -1,6 +1,6 @@
 use Rattle.std.proofs.Common.{◌≡◌, ◌+◌, ◌*◌, ◌++◌, length, take, drop}
 use Rattle.packet_log.specs.Lines.{hex}
-use Rattle.packet_log.proofs.lines.place_hex.Given as goal
+use Rattle.packet_log.proofs.lines.place_each.Given as goal
 
 -- the digits of the bytes so far are written
 abbrev pub invariant-loop-i : goal.invariant-loop-i
