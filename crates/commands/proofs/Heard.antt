@@ -1,6 +1,6 @@
 -- The verdicts of a wakeup at one more packet, and what answers it.
 use Rattle.std.proofs.Common.{◌≡◌, ◌≤◌, ◌<◌, ℕ, ◌+◌, ◌*◌, true, List, [], ◌∷◌, ◌++◌, length, refl, sym, ap, subst, ◌∙◌, arith, append-nil}
-use Rattle.std.specs.Prelude.{Some, None, ◌==◌}
+use Rattle.std.specs.Prelude.{Option, Some, None, ◌==◌}
 use Rattle.std.specs.List.{All, AllPass, fold}
 use Rattle.std.proofs.Math.Nat.{mul-le-mul_left}
 use Rattle.std.proofs.lemmas.Bool.{eqb-true}
@@ -14,11 +14,12 @@ use Rattle.bus_pipes.specs.declared.names.Out.{Out}
 use Rattle.bus_pipes.specs.declared.names.Out.TheVariants.{Made}
 use Rattle.bus_pipes.proofs.Deliveries.{adding_none, adding_more, items-adding}
 use Rattle.packet_forms.specs.Built.{event_of}
-use Rattle.commands.specs.Verdicts.{Protocol, instruction_in, orders_in, verdict_at, verdicts_on}
+use Rattle.commands.specs.Verdicts.{Protocol, instruction_in, orders_in, judged_by, verdict_by_form, verdict_at, verdicts_on}
 use Rattle.commands.specs.Inputs.{heard_along}
 use Rattle.commands.specs.Counting.{counts_of}
 use Rattle.commands.specs.Answering.{Answers, items_for, packet_items, command_items}
 use Rattle.commands.specs.declared.verdicts.Verdict.{Verdict}
+use Rattle.commands.specs.declared.verdicts.Verdict.TheVariants.{Refused, Accepted}
 use Rattle.commands.proofs.Answering.{none_fail, one_passes, event_counted}
 
 module _ {I : Type 0} where
@@ -86,17 +87,30 @@ pub no_packets : {A : Type 0} (xs : List A) → (length xs == 0) ≡ true → xs
 no_packets [] none = refl
 no_packets (x ∷ xs) none = let zero : length (x ∷ xs) ≡ 0 = eqb-true (length (x ∷ xs)) 0 none in absurd (omega (arith, zero))
 
+-- the verdict on a command whose form is accepted, by its own refusal
+module _ {B I E : Type 0} (protocol : Protocol B I E) (basis : B) (orders : List I) (payload : List ℕ) (verdict : Verdict I) (form : Verdict (Unit {0})) (code : ℕ) (u : Unit {0}) (instruction : I) (own : Option E) where
+  by_own : verdict ≡ verdict_by_form protocol basis orders payload form → form ≡ Accepted code u → instruction ≡ protocol.language.decode code payload → own ≡ protocol.refuses basis orders instruction
+      → verdict ≡ judged_by protocol.number own code instruction
+  by_own judged formed decoded refused = judged ∙ rw (formed, refused, decoded) refl
+
+  pub own_refused : (reason : E) → verdict ≡ verdict_by_form protocol basis orders payload form → form ≡ Accepted code u → instruction ≡ protocol.language.decode code payload → own ≡ protocol.refuses basis orders instruction
+      → own ≡ Some reason → verdict ≡ Refused (protocol.number reason)
+  own_refused reason judged formed decoded refused some = by_own judged formed decoded refused ∙ rw some refl
+
+  pub own_passes : verdict ≡ verdict_by_form protocol basis orders payload form → form ≡ Accepted code u → instruction ≡ protocol.language.decode code payload → own ≡ protocol.refuses basis orders instruction
+      → own ≡ None → verdict ≡ Accepted code instruction
+  own_passes judged formed decoded refused none = by_own judged formed decoded refused ∙ rw none refl
+
 module _ {T I : Type 0} (answers : Answers T I) (name : List ℕ) (turn : T) where
-  -- the answer to a packet, by the counts and the verdict that were kept
-  pub packet_answered : (heard : List (Verdict I)) (judged verdict : Verdict I) (time : ℕ) (counts : Counts) (start end : Held Out)
-      → answers.time turn ≡ time → counts ≡ counts_of (answers.earlier turn ++ heard) → judged ≡ verdict
-      → end ≡ adding start (items_for answers turn name time counts (orders_in heard) judged) → end ≡ adding start (packet_items answers name turn heard verdict)
+  -- the answer to a packet, by the counts that were kept
+  pub packet_answered : (heard : List (Verdict I)) (verdict : Verdict I) (time : ℕ) (counts : Counts) (start end : Held Out)
+      → answers.time turn ≡ time → counts ≡ counts_of (answers.earlier turn ++ heard)
+      → end ≡ adding start (items_for answers turn name time counts (orders_in heard) verdict) → end ≡ adding start (packet_items answers name turn heard verdict)
   unfolding packet_items
-  packet_answered heard judged verdict time counts start end timed counted is behind =
+  packet_answered heard verdict time counts start end timed counted behind =
       behind
-      ∙ ap (λ (t : ℕ). adding start (items_for answers turn name t counts (orders_in heard) judged)) (sym timed)
-      ∙ ap (λ (c : Counts). adding start (items_for answers turn name (answers.time turn) c (orders_in heard) judged)) counted
-      ∙ ap (λ (v : Verdict I). adding start (items_for answers turn name (answers.time turn) (counts_of (answers.earlier turn ++ heard)) (orders_in heard) v)) is
+      ∙ ap (λ (t : ℕ). adding start (items_for answers turn name t counts (orders_in heard) verdict)) (sym timed)
+      ∙ ap (λ (c : Counts). adding start (items_for answers turn name (answers.time turn) c (orders_in heard) verdict)) counted
 
   -- the answers to none, and to a packet more
   pub items_none : (start : Held Out) → start ≡ adding start (command_items answers name turn [])
@@ -130,6 +144,13 @@ one_more_counted start end item behind here before = counted_more start end (ite
 -- and an event
 pub event_behind : (start end : Held Out) (name : List ℕ) (id kind time : ℕ) → end ≡ adding start (Made (event_of name id kind time) ∷ []) → AllPass is_item_counted start.items → AllPass is_item_counted end.items
 event_behind start end name id kind time behind before = one_more_counted start end (Made (event_of name id kind time)) behind (event_counted name id kind time) before
+
+-- an event whose name and number are these, alone or behind replies
+pub event_as : (start end : Held Out) (n name : List ℕ) (i id kind time : ℕ) → n ≡ name → i ≡ id → end ≡ adding start (Made (event_of n i kind time) ∷ []) → end ≡ adding start (Made (event_of name id kind time) ∷ [])
+event_as start end n name i id kind time named numbered behind = rw (sym named, sym numbered) behind
+
+pub replies_and_event : (start middle end : Held Out) (replies : List Out) (event : Out) → middle ≡ adding start replies → end ≡ adding middle (event ∷ []) → end ≡ adding start (replies ++ event ∷ [])
+replies_and_event start middle end replies event before behind = behind ∙ ap (λ (held : Held Out). adding held (event ∷ [])) before ∙ adding_more start replies (event ∷ [])
 
 -- there is room for a packet more of at most 16
 pub room_step : (most i n room : ℕ) → n ≤ (1 + most) * i → i < 16 → (1 + most) * 16 ≤ room → n + (1 + most) ≤ room

@@ -63,6 +63,13 @@ verdict_at protocol basis orders p =
     else Refused 1)
     else Other
 
+-- The same by what the packet is by its form: a command whose form is accepted is judged by what it asks for.
+abbrev pub verdict_by_form : {B I E : Type 0} → Protocol B I E → B → List I → List ℕ → Verdict (Unit {0}) → Verdict I
+verdict_by_form protocol basis orders payload Other = Other
+verdict_by_form protocol basis orders payload Request = Request
+verdict_by_form protocol basis orders payload (Refused reason) = Refused reason
+verdict_by_form protocol basis orders payload (Accepted code form) = judged_by protocol.number (protocol.refuses basis orders (protocol.language.decode code payload)) code (protocol.language.decode code payload)
+
 -- The verdicts on the packets of a wakeup.
 unfoldable pub verdicts_on : {B I E : Type 0} → Protocol B I E → B → List (List ℕ) → List (Verdict I)
 verdicts_on protocol basis packets = fold (λ heard p. heard ++ verdict_at protocol basis (orders_in heard) p ∷ []) [] packets

@@ -1,9 +1,9 @@
 //! The two counts.
-ghost use Rattle.std.specs.Prelude.{◌≡◌, List, [], ◌∷◌, ◌++◌};
+ghost use Rattle.std.specs.Prelude.{◌≡◌, ℕ, List, [], ◌∷◌, ◌++◌};
 ghost use Rattle.commands.specs.Counting.{counts_of};
 ghost use Rattle.commands.specs.declared.verdicts.Verdict.{Verdict};
+ghost use Rattle.commands.specs.declared.verdicts.Verdict.TheVariants.{Refused, Accepted};
 
-use crate::verdicts::Verdict;
 use bus_pipes::Counts;
 
 /// Both counts before the first packet.
@@ -16,20 +16,20 @@ pub fn start_counts() -> Counts
     }
 }
 
-/// Counts one more verdict: an accepted code 1 sets both counts to 0 and isn't counted.
-pub fn note<I: Copy>(counts: &mut Counts, verdict: &Verdict<I>)
-    ensures { (verdicts : List (Verdict I)) → counts.old ≡ counts_of verdicts → counts.new ≡ counts_of (verdicts ++ verdict.now ∷ []) }
+/// Counts one more accepted command: code 1 sets both counts to 0 and isn't counted.
+pub fn note_accepted<I>(counts: &mut Counts, code: u8)
+    ensures { (verdicts : List (Verdict I)) (instruction : I) → counts.old ≡ counts_of verdicts → counts.new ≡ counts_of (verdicts ++ Accepted code instruction ∷ []) }
 {
-    match verdict {
-        Verdict::Accepted(code, _) => {
-            if *code == 1 {
-                *counts = start_counts();
-            } else {
-                counts.accepted = counts.accepted.wrapping_add(1);
-            }
-        }
-        Verdict::Refused(_) => counts.errors = counts.errors.wrapping_add(1),
-        Verdict::Other => {}
-        Verdict::Request => {}
+    if code == 1 {
+        *counts = start_counts();
+        return;
     }
+    counts.accepted = counts.accepted.wrapping_add(1);
+}
+
+/// Counts one more refused command.
+pub fn note_refused<I>(counts: &mut Counts)
+    ensures { (verdicts : List (Verdict I)) (reason : ℕ) → counts.old ≡ counts_of verdicts → counts.new ≡ counts_of (verdicts ++ Refused reason ∷ []) }
+{
+    counts.errors = counts.errors.wrapping_add(1);
 }

@@ -9,7 +9,7 @@ mod step;
 mod verdicts;
 
 pub use commanded::{Command, Commanded, Reason, Terms};
-pub use counting::{note, start_counts};
+pub use counting::{note_accepted, note_refused, start_counts};
 pub use step::{handle_all, named};
 pub use verdicts::{CodeRow, Verdict};
 

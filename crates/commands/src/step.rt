@@ -4,13 +4,15 @@ ghost use Rattle.std.specs.List.{AllPass};
 ghost use Rattle.packet_forms.specs.Names.{is_name_text, name_of};
 ghost use Rattle.bus_pipes.specs.Held.{adding};
 ghost use Rattle.bus_pipes.specs.Counted.{is_item_counted};
-ghost use Rattle.commands.specs.Verdicts.{protocol_of, orders_in, verdict_at, verdicts_on};
+ghost use Rattle.packet_forms.specs.Packets.{payload_of};
+ghost use Rattle.commands.specs.Rows.{row_of, is_allowed};
+ghost use Rattle.commands.specs.Verdicts.{protocol_of, orders_in, verdict_by_form, verdict_at, verdicts_on};
 ghost use Rattle.commands.specs.Counting.{counts_of};
-ghost use Rattle.commands.specs.Answering.{items_for, packet_items, command_items};
+ghost use Rattle.commands.specs.Answering.{packet_items, command_items};
 ghost use Rattle.commands.specs.declared.verdicts.Verdict.{Verdict};
 
 use crate::commanded::{Command, Commanded, Reason};
-use crate::counting::note;
+use crate::counting::{note_accepted, note_refused};
 use crate::verdicts::{Verdict, is_length_allowed, row_of};
 use bus_pipes::{Counts, Out, Outbox, push_event};
 use packet_forms::{Name, Packet};
@@ -46,7 +48,8 @@ pub fn handle_all<R: Copy + Drop, S: Commanded<R>>(
     }
 }
 
-// Handles one packet.
+// Handles one packet. What a command asks for is decoded into one place and lent from there on, since it may carry many bytes.
+#[tactic(auto, using(bus_pipes::proofs::Deliveries::adding_none), unfolding(bus_pipes::specs::Held::adding))]
 fn handle<R: Copy + Drop, S: Commanded<R>>(
     counts: &mut Counts,
     state: &mut S,
@@ -69,22 +72,39 @@ fn handle<R: Copy + Drop, S: Commanded<R>>(
     ensures few { length out.new.items ≤ length out.old.items + (1 + S.most) }
     ensures room { out.new.room ≡ out.old.room }
 {
-    let verdict = decide(state, packet, reads, now);
-    act(*counts, state, &verdict, reads, now, left, out);
-    note(counts, &verdict);
+    match judge::<R, S>(packet) {
+        Verdict::Other => {}
+        Verdict::Request => out.push(Out::Made(state.housekeeping(*counts, reads, now))),
+        Verdict::Refused(reason) => {
+            push_event(out, S::Instruction::name(), u16::from(reason), 3, now);
+            note_refused::<S::Instruction>(counts);
+        }
+        Verdict::Accepted(code, _) => {
+            let instruction = S::Instruction::decode(code, packet.payload());
+            if let Some(reason) = state.refusal(&instruction, reads, now) {
+                push_event(
+                    out,
+                    S::Instruction::name(),
+                    u16::from(reason.number()),
+                    3,
+                    now,
+                );
+                note_refused::<S::Instruction>(counts);
+                return;
+            }
+            state.obey(&instruction, reads, now, left, out);
+            push_event(out, S::Instruction::name(), 16 + u16::from(code), 2, now);
+            note_accepted::<S::Instruction>(counts, code);
+        }
+    }
 }
 
-// What an application makes of a packet.
+// What a packet is by its form: a command that is accepted here is still to be judged by what it asks for.
 #[tactic(auto, unfolding(crate::specs::Verdicts::verdict_at))]
-fn decide<R: Copy + Drop, S: Commanded<R>>(
-    state: &S,
-    packet: &Packet,
-    reads: R,
-    now: u32,
-) -> Verdict<S::Instruction>
-    ensures verdict { (turn : S.Turn) (orders : List S.Instruction) (left : S.Left) → S.belongs turn reads now → S.stands turn orders state.now left
-        → result ≡ verdict_at (protocol_of S.Instruction.language S.Refusal.number S.refuses) (S.basis turn) orders packet.now }
-    ensures passes { (code : ℕ) (instruction : S.Instruction) → result ≡ Verdict.Accepted code instruction → S.can_obey reads state.now instruction }
+fn judge<R: Copy + Drop, S: Commanded<R>>(packet: &Packet) -> Verdict<()>
+    ensures verdict { (basis : S.Basis) (orders : List S.Instruction)
+        → verdict_at (protocol_of S.Instruction.language S.Refusal.number S.refuses) basis orders packet.now ≡ verdict_by_form (protocol_of S.Instruction.language S.Refusal.number S.refuses) basis orders (payload_of packet.now) result }
+    ensures allowed { (code : ℕ) (form : Unit {0}) → result ≡ Verdict.Accepted code form → is_allowed (row_of S.Instruction.language.codes code) (payload_of packet.now) ≡ true }
 {
     let terms = S::Instruction::terms();
     let id = packet.mid();
@@ -104,46 +124,7 @@ fn decide<R: Copy + Drop, S: Commanded<R>>(
     if !is_length_allowed(row, packet.payload()) {
         return Verdict::Refused(3);
     }
-    let instruction = S::Instruction::decode(code, packet.payload());
-    match state.refusal(&instruction, reads, now) {
-        None => Verdict::Accepted(code, instruction),
-        Some(reason) => Verdict::Refused(reason.number()),
-    }
-}
-
-// Answers a packet, and does what it asks for.
-#[tactic(auto, using(bus_pipes::proofs::Deliveries::adding_none), unfolding(bus_pipes::specs::Held::adding))]
-fn act<R: Copy + Drop, S: Commanded<R>>(
-    counts: Counts,
-    state: &mut S,
-    verdict: &Verdict<S::Instruction>,
-    reads: R,
-    now: u32,
-    left: &mut S::Left,
-    out: &mut Outbox,
-)
-    requires can { (code : ℕ) (instruction : S.Instruction) → verdict.now ≡ Verdict.Accepted code instruction → S.can_obey reads state.old instruction }
-    requires safe { (n : ℕ) × (n < 16) × S.is_safe reads n state.old left.old }
-    requires room { length out.old.items + (1 + S.most) ≤ out.old.room }
-    ensures stands { (turn : S.Turn) (heard : List (Verdict S.Instruction)) → S.belongs turn reads now → S.stands turn (orders_in heard) state.old left.old → S.stands turn (orders_in (heard ++ verdict.now ∷ [])) state.new left.new }
-    ensures items { (turn : S.Turn) (orders : List S.Instruction) → S.belongs turn reads now → S.stands turn orders state.old left.old
-        → out.new ≡ adding out.old (items_for S.answers turn S.Instruction.language.name now counts orders verdict.now) }
-    ensures safe { (n : ℕ) → n < 16 → S.is_safe reads n state.old left.old → S.is_safe reads (n + 1) state.new left.new }
-    ensures counted { AllPass is_item_counted out.old.items → AllPass is_item_counted out.new.items }
-    ensures few { length out.new.items ≤ length out.old.items + (1 + S.most) }
-    ensures room { out.new.room ≡ out.old.room }
-{
-    match verdict {
-        Verdict::Other => {}
-        Verdict::Request => out.push(Out::Made(state.housekeeping(counts, reads, now))),
-        Verdict::Refused(reason) => {
-            push_event(out, S::Instruction::name(), u16::from(*reason), 3, now);
-        }
-        Verdict::Accepted(code, instruction) => {
-            state.obey(instruction, reads, now, left, out);
-            push_event(out, S::Instruction::name(), 16 + u16::from(*code), 2, now);
-        }
-    }
+    Verdict::Accepted(code, ())
 }
 
 /// The name with this text.

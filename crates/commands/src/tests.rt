@@ -2,8 +2,8 @@
 ghost use Rattle.std.specs.Prelude.{◌≡◌, ◌≤◌, length};
 
 use crate::{
-    CodeRow, Command, Commanded, Reason, Terms, Verdict, handle_all, laws, named, note,
-    start_counts,
+    CodeRow, Command, Commanded, Reason, Terms, handle_all, laws, named, note_accepted,
+    note_refused, start_counts,
 };
 use bus_pipes::{Counts, Out, Outbox};
 use packet_forms::{Name, Packet, command, event, telemetry};
@@ -174,13 +174,11 @@ fn counts_go_up_and_are_reset(rt: HostRuntime) {
         accepted: 255,
         errors: 255,
     };
-    note(&mut counts, &Verdict::Accepted(0, 0u8));
-    note::<u8>(&mut counts, &Verdict::Refused(2));
-    note::<u8>(&mut counts, &Verdict::Request);
-    note::<u8>(&mut counts, &Verdict::Other);
+    note_accepted::<u8>(&mut counts, 0);
+    note_refused::<u8>(&mut counts);
     assert_eq!(rt; counts, start_counts());
-    note(&mut counts, &Verdict::Accepted(3, 3u8));
-    note::<u8>(&mut counts, &Verdict::Refused(2));
+    note_accepted::<u8>(&mut counts, 3);
+    note_refused::<u8>(&mut counts);
     assert_eq!(rt;
         counts,
         Counts {
@@ -188,7 +186,7 @@ fn counts_go_up_and_are_reset(rt: HostRuntime) {
             errors: 1
         }
     );
-    note(&mut counts, &Verdict::Accepted(1, 1u8));
+    note_accepted::<u8>(&mut counts, 1);
     assert_eq!(rt; counts, start_counts());
 }
 
