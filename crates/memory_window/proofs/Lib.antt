@@ -8,3 +8,4 @@ pub mod ReadLaws
 pub mod WriteLaws
 pub mod Landed
 pub mod WholeLaws
+pub mod BankLanding

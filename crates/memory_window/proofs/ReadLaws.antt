@@ -173,7 +173,7 @@ read-alone f size at None same = refl
 read-alone f size at (Some r) same = ap (λ (xs : List ℕ). if not (nat_eq (at % (size / 8)) 0) then Err AccessFault.Unaligned else if not (allows r.region.kind size) then Err AccessFault.WrongSize else Ok (number_of xs)) (same r refl)
 
 -- a byte that no operation covers
-uncovered : (loads : List (ℕ × List ℕ)) (ops : List MemOp) (a x : ℕ) → list_any (λ op. covers op a) ops ≡ false → landed loads ops a x ≡ x
+pub uncovered : (loads : List (ℕ × List ℕ)) (ops : List MemOp) (a x : ℕ) → list_any (λ op. covers op a) ops ≡ false → landed loads ops a x ≡ x
 uncovered loads [] a x none = refl
 uncovered loads (op ∷ ops) a x none =
     let here : covers op a ≡ false = grind (arith, common_steps) in

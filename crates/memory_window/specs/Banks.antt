@@ -1,7 +1,10 @@
 -- Banks: the parts of 65,536 bytes into which each region is split from its start, the last one shorter.
-use Rattle.std.specs.Prelude.{ℕ, ◌+◌, ◌-◌, ◌*◌, ◌/◌, Bool, ◌&&◌, nat_le, nat_lt, List, take, drop}
+use Rattle.std.specs.Prelude.{◌≡◌, ℕ, ◌+◌, ◌-◌, ◌*◌, ◌/◌, ◌<◌, ◌≤◌, Bool, false, ◌&&◌, nat_le, nat_lt, List, take, drop}
+use Rattle.std.specs.List.{list_any}
 use Rattle.memory_window.specs.declared.regions.Region.{Region}
+use Rattle.memory_window.specs.declared.operations.MemOp.{MemOp}
 use Rattle.memory_window.specs.Regions.{holds}
+use Rattle.memory_window.specs.Landing.{covers}
 
 -- how many bytes a bank has, but for the last one
 abbrev pub bank_size : ℕ
@@ -18,3 +21,8 @@ bank_holds n r at = holds at r && (nat_le (r.start + n * bank_size) at && nat_lt
 -- the bank in which an address of a region lies
 unfoldable pub bank_at : Region → ℕ → ℕ
 bank_at r at = (at - r.start) / bank_size
+
+-- operations write no byte before one address, and none from another one on
+pub record WriteWithin (first end : ℕ) (ops : List MemOp) : Type 0 where
+  pub before : (a : ℕ) → a < first → list_any (λ op. covers op a) ops ≡ false
+  pub behind : (a : ℕ) → end ≤ a → list_any (λ op. covers op a) ops ≡ false

@@ -11,12 +11,12 @@ use table_files::Files;
 
 /// Operations, and the files that they load from.
 #[derive(Clone, Copy)]
-pub(crate) struct Landing<'a> {
-    pub(crate) ops: &'a [MemOp],
-    pub(crate) files: &'a Files,
+pub(crate) struct Landing<'o, 'f> {
+    pub(crate) ops: &'o [MemOp],
+    pub(crate) files: &'f Files,
 }
 
-impl<'a> Change for Landing<'a> {
+impl<'o, 'f> Change for Landing<'o, 'f> {
     ghost use Rattle.std.specs.Prelude.{All};
     ghost use Rattle.table_files.specs.Files.{loads_of};
     ghost use Rattle.memory_window.specs.Operations.{IsSound, IsBacked};

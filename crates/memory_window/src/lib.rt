@@ -2,6 +2,7 @@
 #![tactic(auto)]
 
 mod access;
+mod banks;
 mod change;
 mod chunk;
 mod giving;

@@ -1,23 +1,28 @@
 //! Memory itself: one block of bytes, the map of its regions and their flags.
-ghost use Rattle.std.specs.Prelude.{◌≡◌, ◌≤◌, false, None, length, take, map, All, IfOk, IsTrue};
+ghost use Rattle.std.specs.Prelude.{◌≡◌, ◌<◌, ◌≤◌, false, None, length, take, map, All, IfOk, IsTrue};
 ghost use Rattle.std.specs.List.{list_any};
 ghost use Rattle.memory_window.specs.Regions.{is_eeprom, is_mapped, ends_late, total_of, map_fault_of};
 ghost use Rattle.table_files.specs.Files.{loads_of};
-ghost use Rattle.memory_window.specs.Operations.{IsBacked, protect, protected_by};
-ghost use Rattle.memory_window.specs.Landing.{land};
+ghost use Rattle.memory_window.specs.Operations.{IsBacked, IsSound, protect, protected_by};
+ghost use Rattle.memory_window.specs.Landing.{land, landed};
 ghost use Rattle.memory_window.specs.Memory.{cut, changed, regions_of, start_memory, upset_at};
 ghost use Rattle.memory_window.specs.Access.{Admitted};
 ghost use Rattle.memory_window.specs.Reading.{IsWhole};
 
+use crate::banks::land_regions;
 use crate::change::{Change, Upset, change_all};
 use crate::landing::Landing;
 use crate::regions::{MOST_REGIONS, Region};
 use crate::{Map, MemOp, Window};
-use fsw_outside::NoMemory;
+use fsw_outside::{Gate, NoMemory};
 use memory_block::Store;
 use std::alloc::Global;
 use std::marker::Model;
+use std::thread::Threads;
 use table_files::Files;
+
+// More than a region has banks.
+const MOST_BANKS: u32 = 72;
 
 /// The memory of the regions of a map.
 #[derive(Drop)]
@@ -77,7 +82,55 @@ impl Ram {
     {
         let regions = self.map.regions();
         change_store(&mut self.store, regions, &Landing { ops, files });
-        protect_all(&mut self.guarded[..regions.len()], ops);
+        protect_first(&mut self.guarded, regions.len(), ops);
+    }
+
+    /// Makes the operations as `land` does, bank by bank, each bank at the same time as the others where threads can be had. A
+    /// bank is a part of 65,536 bytes of a region, from its start on; before a bank is landed, the gate is entered on its thread
+    /// with 64 plus the bank's place in its region. Without operations no gate is entered.
+    pub fn land_banks<R: Threads + Sync, G: Gate>(
+        &mut self,
+        rt: &R,
+        ops: &[MemOp],
+        files: &Files,
+        gate: &G,
+    )
+        requires admitted { All (Admitted self.old) ops.now }
+        requires backed { All (IsBacked (loads_of files.now)) ops.now }
+        ensures land { self.new ≡ land (loads_of files.now) ops.now self.old }
+        ensures map { regions_of self.new.areas ≡ regions_of self.old.areas }
+    {
+        self.land_banks_on(rt, MOST_BANKS, ops, files, gate);
+    }
+
+    /// The same with at most so many workers, each of which lands banks that lie side by side. One worker starts no thread.
+    pub fn land_banks_on<R: Threads + Sync, G: Gate>(
+        &mut self,
+        rt: &R,
+        workers: u32,
+        ops: &[MemOp],
+        files: &Files,
+        gate: &G,
+    )
+        requires workers { 0 < workers }
+        requires admitted { All (Admitted self.old) ops.now }
+        requires backed { All (IsBacked (loads_of files.now)) ops.now }
+        ensures land { self.new ≡ land (loads_of files.now) ops.now self.old }
+        ensures map { regions_of self.new.areas ≡ regions_of self.old.areas }
+    {
+        if ops.is_empty() {
+            return;
+        }
+        let regions = self.map.regions();
+        protect_first(&mut self.guarded, regions.len(), ops);
+        land_store(
+            rt,
+            workers,
+            gate,
+            &Landing { ops, files },
+            regions,
+            &mut self.store,
+        );
     }
 
     /// Writes one byte, whatever protects it.
@@ -102,6 +155,27 @@ fn change_store<C: Change>(store: &mut Store, regions: &[Region], change: &C)
     change_all(store.part_mut(0, size), regions, change);
 }
 
+// Lands operations on each region, bank by bank.
+fn land_store<R: Threads + Sync, G: Gate>(
+    rt: &R,
+    workers: u32,
+    gate: &G,
+    landing: &Landing<'_, '_>,
+    regions: &[Region],
+    store: &mut Store,
+)
+    requires workers { 0 < workers }
+    requires whole { total_of regions.now ≡ length store.old }
+    requires within { list_any ends_late regions.now ≡ false }
+    requires sound { All IsSound landing.now.ops.now }
+    requires backed { All (IsBacked (loads_of landing.now.files.now)) landing.now.ops.now }
+    ensures areas { cut regions.now store.new ≡ changed (landed (loads_of landing.now.files.now) landing.now.ops.now) (cut regions.now store.old) }
+    ensures len { length store.new ≡ length store.old }
+{
+    let size = store.len();
+    land_regions(rt, workers, gate, landing, regions, store.part_mut(0, size));
+}
+
 // The flags at the start: EEPROM regions are protected.
 fn start_flags(regions: &[Region]) -> [bool; MOST_REGIONS]
     requires { length regions.now ≤ 8 }
@@ -113,6 +187,16 @@ fn start_flags(regions: &[Region]) -> [bool; MOST_REGIONS]
         flags[i] = region.kind.is_eeprom();
     }
     flags
+}
+
+// Sets and takes away those of the first flags that the operations name.
+fn protect_first(flags: &mut [bool; MOST_REGIONS], count: usize, ops: &[MemOp])
+    requires count { count ≤ 8 }
+    requires eight { length flags.old ≡ 8 }
+    ensures flags { take count flags.new ≡ protected_by ops.now (take count flags.old) }
+    ensures eight { length flags.new ≡ 8 }
+{
+    protect_all(&mut flags[..count], ops);
 }
 
 // Sets and takes away the flags that the operations name, in their order.

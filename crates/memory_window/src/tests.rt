@@ -8,11 +8,14 @@ use crate::{
     AccessFault, Chunk, Kind, Map, MapFault, MemOp, Ops, Ram, Region, Window, bank_land, is_mapped,
     is_size,
 };
+use fsw_outside::{Gate, OpenGate};
 use packet_forms::crc16;
 use std::alloc::Global;
 use std::process::Abort;
+use std::sync::atomic::{AtomicU64, Ordering};
 use std::test::Fail;
 use std::thread;
+use std::thread::Threads;
 use table_files::Files;
 
 fn region(kind: Kind, start: u32, len: u32) -> Region {
@@ -47,6 +50,24 @@ fn change(ram: &mut Ram, op: MemOp, files: &Files) -> Result<(), AccessFault>
 {
     ram.window().admits(&op)?;
     ram.land(&[op], files);
+    Ok(())
+}
+
+// Lands one operation bank by bank where it is admitted.
+fn change_banks<R: Threads + Sync, G: Gate>(
+    rt: &R,
+    workers: u32,
+    ram: &mut Ram,
+    op: MemOp,
+    files: &Files,
+    gate: &G,
+) -> Result<(), AccessFault>
+    requires workers { 0 < workers }
+    requires ask { CanAsk ram.old op }
+    requires backed { IsBacked (loads_of files.now) op }
+{
+    ram.window().admits(&op)?;
+    ram.land_banks_on(rt, workers, &[op], files, gate);
     Ok(())
 }
 
@@ -352,6 +373,135 @@ fn loads_cross_banks(rt: HostRuntime) -> Result<(), Fail> {
     assert!(rt; are_all(window, 0, 0xFFC0, 0) && are_all(window, 0xFFC0, 128, 0x5A));
     assert!(rt; are_all(window, 0x1_0040, 0xFFBF, 0) && window.read8(0x1_FFFF) == Ok(0x7C));
     Ok(())
+}
+
+/// Holds the first two banks until both have entered, or for very many turns.
+#[derive(Drop)]
+struct Meeting {
+    entered: AtomicU64,
+    met: AtomicU64,
+}
+
+impl Gate for Meeting {
+    fn enter(&self, job: u32) {
+        let bit = 1u64 << (job % 64);
+        self.entered.fetch_or(bit, Ordering::SeqCst);
+        for _ in 0..100_000_000 {
+            if self.entered.load(Ordering::SeqCst) == 3 {
+                self.met.fetch_or(bit, Ordering::SeqCst);
+                return;
+            }
+            thread::yield_now();
+        }
+    }
+}
+
+#[test]
+fn two_banks_at_once(rt: HostRuntime) {
+    let none = Files::open(rt.alloc()).expect(&rt, "it takes no memory");
+    let map = Map::new(&[region(Kind::Ram, 0, 131_072)]).expect(&rt, "a map");
+    let mut ram = Ram::new(rt.alloc(), map).expect(&rt, "memory for it");
+    let (at, len, byte) = (0xFFF0, 32, 0x5A);
+    let op = MemOp::Fill { at, len, byte };
+    let gate = Meeting {
+        entered: AtomicU64::new(0),
+        met: AtomicU64::new(0),
+    };
+    assert!(rt; ram.window().admits(&op).is_ok());
+    ram.land_banks(&rt, &[op], &none, &gate);
+    assert_eq!(rt; gate.met.load(Ordering::SeqCst), 3);
+    let window = ram.window();
+    assert!(rt; are_all(window, 0, 0xFFF0, 0) && are_all(window, 0xFFF0, 32, 0x5A));
+    assert!(rt; are_all(window, 0x1_0010, 0xFFF0, 0));
+}
+
+/// Counts how often each of the first eight banks enters, in a byte each.
+#[derive(Drop)]
+struct Counting {
+    entered: AtomicU64,
+}
+
+impl Gate for Counting {
+    fn enter(&self, job: u32) {
+        self.entered
+            .fetch_add(1u64 << (8 * (job % 8)), Ordering::SeqCst);
+    }
+}
+
+// A load across two banks of five, with so many workers.
+fn load_across<R: Threads + Abort + Sync>(
+    rt: &R,
+    alloc: Global,
+    workers: u32,
+    files: &Files,
+) -> Result<(), Fail>
+    requires { 0 < workers }
+{
+    let regions = [
+        region(Kind::Ram, 0, 200_000),
+        region(Kind::Eeprom, 0x4_0000, 8),
+    ];
+    let mut ram = Ram::new(alloc, Map::new(&regions)?)?;
+    let gate = Counting {
+        entered: AtomicU64::new(0),
+    };
+    ram.land_banks_on(rt, workers, &[], files, &gate);
+    assert_eq!(rt; gate.entered.load(Ordering::SeqCst), 0);
+    let Some((at, bytes)) = files.load(1) else {
+        panic!(rt; "there is a load file");
+    };
+    let (load, len) = (1, bytes.len() as u32);
+    let op = MemOp::FromFile { load, at, len };
+    assert!(rt; change_banks(rt, workers, &mut ram, op, files, &gate).is_ok());
+    assert_eq!(rt; gate.entered.load(Ordering::SeqCst), 0x01_01_01_02);
+    let window = ram.window();
+    assert!(rt; are_all(window, 0, 0xFFC0, 0) && are_all(window, 0xFFC0, 128, 0x5A));
+    assert!(rt; are_all(window, 0x1_0040, 0xFFC0, 0) && are_all(window, 0x2_0000, 0xFFFF, 0));
+    Ok(())
+}
+
+#[test]
+fn loads_cross_banks_on_workers(rt: HostRuntime) -> Result<(), Fail> {
+    let mut files = Files::open(rt.alloc())?;
+    assert!(rt; add_to(&mut files, load_file(rt.alloc(), 0xFFC0, 128, 0x5A)?));
+    load_across(&rt, rt.alloc(), 1, &files)?;
+    load_across(&rt, rt.alloc(), 2, &files)?;
+    load_across(&rt, rt.alloc(), 16, &files)
+}
+
+// Fills over the first banks of a region of 64, with so many workers.
+fn fill_many<R: Threads + Abort + Sync>(
+    rt: &R,
+    alloc: Global,
+    workers: u32,
+    files: &Files,
+) -> Result<(), Fail>
+    requires { 0 < workers }
+{
+    let mut ram = Ram::new(alloc, Map::new(&[region(Kind::Ram, 16, 4_194_304)])?)?;
+    for (at, byte) in [(16, 1), (0x1_0000, 2), (0x3_0010, 3), (0x40_0000, 4)] {
+        let len = 16;
+        let op = MemOp::Fill { at, len, byte };
+        assert!(rt; change_banks(rt, workers, &mut ram, op, files, &OpenGate).is_ok());
+        let window = ram.window();
+        assert!(rt; are_all(window, at, 16, byte) && window.read8(at + 16).unwrap_or(0) == 0);
+    }
+    let (at, len, byte) = (0x1_0001, 0x2_0000, 9);
+    let op = MemOp::Fill { at, len, byte };
+    assert!(rt; change_banks(rt, workers, &mut ram, op, files, &OpenGate).is_ok());
+    let window = ram.window();
+    assert!(rt; window.read32(0x1_0000) == Ok(0x0209_0909) && are_all(window, 0x1_0001, 0xFFFF, 9));
+    assert!(rt; are_all(window, 0x2_0000, 0xFFFF, 9) && window.read32(0x3_0000) == Ok(0x0900_0000));
+    assert!(rt; are_all(window, 0x3_0010, 16, 3) && are_all(window, 16, 16, 1));
+    Ok(())
+}
+
+#[test]
+fn fills_cross_banks_on_workers(rt: HostRuntime) -> Result<(), Fail> {
+    let files = Files::open(rt.alloc())?;
+    fill_many(&rt, rt.alloc(), 1, &files)?;
+    fill_many(&rt, rt.alloc(), 2, &files)?;
+    fill_many(&rt, rt.alloc(), 3, &files)
 }
 
 #[test]
