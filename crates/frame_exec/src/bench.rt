@@ -35,6 +35,8 @@ pub struct Bench<'f> {
     // one more than the last frame's number, which may be the largest of four bytes
     number: u64,
     failed: bool,
+    // how many threads may land operations at once
+    workers: u32,
     tables: Tables,
     files: &'f Files,
     hs: HsSlot,
@@ -91,14 +93,13 @@ impl<'f> Bench<'f> {
         ensures follows { IfOk result (λ bench. Follows bench (setup_in header.now files.now) [] []) }
         ensures refused { Opens (region_fault header.now.map files.now) result }
     {
-        let _ = workers;
         if let Some(place) = refused_place(&header.map, files) {
             return Err(OpenFault::Region {
                 file: place.file,
                 entry: place.entry,
             });
         }
-        match Bench::begin(alloc, &tables, files, header) {
+        match Bench::begin(alloc, &tables, files, header, workers) {
             Ok(bench) => Ok(bench),
             Err(NoMemory) => Err(OpenFault::NoMemory),
         }
@@ -110,6 +111,7 @@ impl<'f> Bench<'f> {
         tables: &Tables,
         files: &'f Files,
         header: &Header,
+        workers: u32,
     ) -> Result<Bench<'f>, NoMemory>
         requires given { SetGiven header.now.map tables.now }
         ensures { AreLoaded files.now tables.now → IfOk result (λ bench. Stands bench (setup_in header.now files.now) []) }
@@ -118,6 +120,7 @@ impl<'f> Bench<'f> {
             epoch: header.epoch,
             number: 0,
             failed: false,
+            workers,
             tables: *tables,
             files,
             hs: Slot::open(alloc, Hs::start(tables.hs(), 0, 3))?,
@@ -158,12 +161,10 @@ impl<'f> Bench<'f> {
         ensures cause { HasCause (O.held sink.new) (O.faults sink.old) (O.faults sink.new) result }
         ensures failed { has_failed self.new ≡ is_err result }
     {
-        let _ = rt;
-        let _ = gate;
         self.run(input);
         match self.write(sink) {
             Ok(()) => {
-                self.land();
+                self.land(rt, gate);
                 Ok(())
             }
             Err(failed) => {
@@ -193,12 +194,10 @@ impl<'f> Bench<'f> {
         ensures cause { HasCause (O.held sink.new) (O.faults sink.old) (O.faults sink.new) result }
         ensures failed { has_failed self.new ≡ is_err result }
     {
-        let _ = rt;
-        let _ = gate;
         self.run(input);
         match self.add_lines(sink) {
             Ok(()) => {
-                self.land();
+                self.land(rt, gate);
                 Ok(())
             }
             Err(_) => Err(self.cut()),
@@ -233,13 +232,15 @@ impl<'f> Bench<'f> {
         }
     }
 
-    // Lands the frame's operations, and goes on to the next frame.
-    fn land(&mut self)
+    // Lands the frame's operations bank by bank on the workers, and goes on to the next frame.
+    fn land<R: Threads + Sync, G: Gate>(&mut self, rt: &R, gate: &G)
         requires number { self.old.number < 4294967296 }
         requires can_land { CanLand (loads_in self.old) self.old.ram self.old.ops }
         ensures { Lands self.old self.new }
     {
-        self.ram.land(self.ops.items(), self.files);
+        let workers = self.workers.max(1);
+        self.ram
+            .land_banks_on(rt, workers, self.ops.items(), self.files, gate);
         self.number += 1;
     }
 

@@ -23,12 +23,15 @@ add_lines-requires g c =
     let same = c.run.ensures.run.number in
     omega (arith, fits, same)
 
-pub land-requires : goal.land-requires
-land-requires g c =
+pub land-requires-clause-number : goal.land-requires-clause-number
+land-requires-clause-number g c =
     let s = c.requires.started in
     let fits = time_fits c.args.self.now s.0 (s.1 ++ s.2) c.args.input.now s.3.epoch s.3.has s.4 in
     let number = c.in-Ok.ensures.same.number ∙ c.run.ensures.run.number in
-    record { number = omega (arith, fits, number); can_land = can_land_still c.run.new.self c.add_lines.new.self c.in-Ok.ensures.same c.run.ensures.can_land }
+    λ _ _. omega (arith, fits, number)
+
+pub land-requires-clause-can_land : goal.land-requires-clause-can_land
+land-requires-clause-can_land g c = λ _ _. can_land_still c.run.new.self c.add_lines.new.self c.in-Ok.ensures.same c.run.ensures.can_land
 
 pub returns-in-Ok-clause-follows : goal.returns-in-Ok-clause-follows
 returns-in-Ok-clause-follows g c = λ setup earlier later follows.

@@ -19,12 +19,15 @@ write-requires g c =
     let same = c.run.ensures.run.number in
     record { number = omega (arith, fits, same); none = c.run.ensures.run.waits ∙ s.2.waits }
 
-pub land-requires : goal.land-requires
-land-requires g c =
+pub land-requires-clause-number : goal.land-requires-clause-number
+land-requires-clause-number g c =
     let s = c.requires.started in
     let fits = time_fits c.args.self.now s.0 s.1 c.args.input.now s.2.epoch s.2.has s.3 in
     let number = c.in-Ok.ensures.same.number ∙ c.run.ensures.run.number in
-    record { number = omega (arith, fits, number); can_land = can_land_still c.run.new.self c.write.new.self c.in-Ok.ensures.same c.run.ensures.can_land }
+    λ _ _. omega (arith, fits, number)
+
+pub land-requires-clause-can_land : goal.land-requires-clause-can_land
+land-requires-clause-can_land g c = λ _ _. can_land_still c.run.new.self c.write.new.self c.in-Ok.ensures.same c.run.ensures.can_land
 
 pub returns-in-Ok-clause-lines : goal.returns-in-Ok-clause-lines
 returns-in-Ok-clause-lines g c = λ setup frames stands.

@@ -6,8 +6,8 @@ use Rattle.memory_window.specs.declared.operations.MemOp.{MemOp}
 use Rattle.frame_exec.specs.Stages.{loads_in}
 use Rattle.frame_exec.proofs.bench.Bench.land.Goals as goal
 
-pub land-requires-clause-admitted : goal.land-requires-clause-admitted
-land-requires-clause-admitted c = subst (λ (ops : List MemOp). All (Admitted c.args.self.now.ram) ops) (sym c.items.ensures.items) c.requires.can_land.admitted
+pub land_banks_on-requires-clause-admitted : goal.land_banks_on-requires-clause-admitted
+land_banks_on-requires-clause-admitted g c = λ _ _. subst (λ (ops : List MemOp). All (Admitted c.args.self.now.ram) ops) (sym c.items.ensures.items) c.requires.can_land.admitted
 
-pub land-requires-clause-backed : goal.land-requires-clause-backed
-land-requires-clause-backed c = subst (λ (ops : List MemOp). All (IsBacked (loads_in c.args.self.now)) ops) (sym c.items.ensures.items) c.requires.can_land.backed
+pub land_banks_on-requires-clause-backed : goal.land_banks_on-requires-clause-backed
+land_banks_on-requires-clause-backed g c = λ _ _. subst (λ (ops : List MemOp). All (IsBacked (loads_in c.args.self.now)) ops) (sym c.items.ensures.items) c.requires.can_land.backed
