@@ -1,14 +1,16 @@
 -- What follows for a file from its having no fault.
-use Rattle.std.proofs.Common.{◌↔◌, ◌⊎◌, inl, inr, IsTrue, ◌≡◌, ℕ, zero, suc, ◌+◌, ◌<◌, ◌≤◌, ◌-◌, Bool, true, false, List, [], ◌∷◌, ◌++◌, length, replicate, codes, drop, refl, sym, ap, ◌∙◌, arith, cond, subst, lit≤, Option, Some, None, length-drop}
+use Rattle.std.proofs.Common.{◌↔◌, ◌⊎◌, inl, inr, IsTrue, ◌≡◌, ℕ, zero, suc, ◌+◌, ◌<◌, ◌≤◌, ◌-◌, Bool, true, false, List, [], ◌∷◌, ◌++◌, length, replicate, codes, drop, map, get_or, refl, sym, ap, ◌∙◌, arith, cond, subst, lit≤, Option, Some, None, length-drop}
 use Rattle.std.specs.Prelude.{◌&&◌, ◌==◌, not, is_none, nat_lt, if◌then◌else◌}
 use Rattle.std.proofs.lemmas.Grind.{common_steps}
 use Rattle.std.proofs.lemmas.Bool.Decides.{nat_tests}
+use Rattle.std.specs.List.{range_with_len}
+use Rattle.std.proofs.lemmas.List.FromFn.{get_or-map-range_with_len}
 use Rattle.packet_forms.specs.Crc.{crc_of}
 use Rattle.table_files.specs.declared.fault.FileFault.{FileFault}
 use Rattle.table_files.specs.declared.fault.FileFault.TheVariants.{Short, ContentType, Subtype}
 use Rattle.table_files.specs.declared.kinds.TableKind.{TableKind}
 use Rattle.table_files.specs.declared.kinds.TableKind.TheVariants.{AppMon, EventMon, ExeCount, MsgActs, Ats, Rts, Dwell, Eeprom, Memory}
-use Rattle.table_files.specs.Kinds.{IsTable, IsKnown, fits_kind, is_padded, named_kind, kind_among, known_tables, KnownTable}
+use Rattle.table_files.specs.Kinds.{IsTable, IsKnown, fits_kind, is_padded, named_kind, kind_among, named_tables, rts_name, rts_table, rts_tables, KnownTable}
 use Rattle.table_files.specs.Headers.{content_type, subtype, table_offset, table_name, table_size, table_fault, load_size, load_crc, load_fault, fault_of_table, fault_of_load, file_fault_of, IsFile, is_load, kind_of_file, payload_of_file, address_of_file, IsTableFile, IsLoadFile, IsTableOf, IsLoadOf}
 
 -- the tests of the first header, and what they say where no fault was found
@@ -110,21 +112,48 @@ among P (table ∷ rest) field kind every is = by_name (is_padded table.name fie
     by_name true here later = let same : table.kind ≡ kind = cc in subst P same every.0
     by_name false behind later = later behind
 
+every_joined : (P : TableKind → Type 0) (tables others : List KnownTable) → Every P tables → Every P others → Every P (tables ++ others)
+every_joined P [] others every also = also
+every_joined P (table ∷ tables) others every also = (every.0, every_joined P tables others every.1 also)
+
+-- relative sequences are known
+rts_known : (a n : ℕ) → 1 ≤ a → a + n ≤ 65 → Every IsKnown (map rts_table (range_with_len a n))
+rts_known a zero least most = tt
+rts_known a (suc n) least most = ((least, omega arith), rts_known (a + 1) n (omega arith) (omega arith))
+
 -- a kind that a name says is known
 pub named_known : (field : List ℕ) (kind : TableKind) → named_kind field ≡ Some kind → IsKnown kind
-unfolding named_kind
+unfolding named_kind rts_tables
 named_known field kind named =
-    among IsKnown known_tables field kind
-    (tt, (tt, (tt, (tt, ((lit≤ tt, lit≤ tt), ((lit≤ tt, lit≤ tt), ((lit≤ tt, lit≤ tt), ((lit≤ tt, lit≤ tt), (tt, (tt, tt))))))))))
+    among IsKnown (named_tables ++ rts_tables) field kind
+    (every_joined IsKnown named_tables rts_tables
+    (tt, (tt, (tt, (tt, ((lit≤ tt, lit≤ tt), ((lit≤ tt, lit≤ tt), ((lit≤ tt, lit≤ tt), ((lit≤ tt, lit≤ tt), ((lit≤ tt, lit≤ tt), ((lit≤ tt, lit≤ tt), (tt, (tt, tt))))))))))))
+    (rts_known 1 64 (lit≤ tt) (lit≤ tt)))
     named
 
 -- the name field of a dwell table
 abbrev dwell_field : ℕ → List ℕ
 dwell_field n = codes "MD.DWELL_TABLE" ++ (48 + n) ∷ replicate 25 0
 
+-- the name field of a relative sequence, and which it names
+abbrev rts_field : ℕ → List ℕ
+rts_field n = rts_name n ++ replicate 27 0
+
+rts_fields : map (λ (n : ℕ). named_kind (rts_field n)) (range_with_len 1 64) ≡ map (λ (n : ℕ). Some (Rts n)) (range_with_len 1 64)
+unfolding named_kind rts_tables is_padded
+rts_fields = refl
+
+rts_named : (n : ℕ) → 1 ≤ n → n ≤ 64 → named_kind (rts_field n) ≡ Some (Rts n)
+rts_named n least most =
+    let below : n - 1 < 64 = omega arith in
+    let same : 1 + (n - 1) ≡ n = omega arith in
+    sym (get_or-map-range_with_len (λ (n : ℕ). named_kind (rts_field n)) 1 64 (n - 1) n None below same)
+    ∙ ap (λ (kinds : List (Option TableKind)). get_or kinds (n - 1) None) rts_fields
+    ∙ get_or-map-range_with_len (λ (n : ℕ). Some (Rts n)) 1 64 (n - 1) n None below same
+
 -- a known kind is said by a name
 known_named : (kind : TableKind) → IsKnown kind → (field : List ℕ) × (named_kind field ≡ Some kind)
-unfolding named_kind is_padded
+unfolding named_kind rts_tables is_padded
 known_named (Dwell zero) known = absurd (omega arith)
 known_named (Dwell (suc zero)) known = (dwell_field 1, refl)
 known_named (Dwell (suc (suc zero))) known = (dwell_field 2, refl)
@@ -137,8 +166,11 @@ known_named AppMon known = (codes "HS.AppMon_Tbl" ++ replicate 27 0, refl)
 known_named EventMon known = (codes "HS.EventMon_Tbl" ++ replicate 25 0, refl)
 known_named ExeCount known = (codes "HS.ExeCount_Tbl" ++ replicate 25 0, refl)
 known_named MsgActs known = (codes "HS.MsgActs_Tbl" ++ replicate 26 0, refl)
-known_named (Ats n) known = absurd known
-known_named (Rts n) known = absurd known
+known_named (Ats zero) known = absurd (omega arith)
+known_named (Ats (suc zero)) known = (codes "SC.ATS_TBL1" ++ replicate 29 0, refl)
+known_named (Ats (suc (suc zero))) known = (codes "SC.ATS_TBL2" ++ replicate 29 0, refl)
+known_named (Ats (suc (suc (suc n)))) known = absurd (omega arith)
+known_named (Rts n) known = (rts_field n, rts_named n known.0 known.1)
 
 pub known_is_named : (kind : TableKind) → ((field : List ℕ) × (named_kind field ≡ Some kind)) ↔ IsKnown kind
 known_is_named kind = (λ named. named_known named.0 kind named.1, known_named kind)
@@ -152,8 +184,8 @@ sized_table AppMon size known fits = grind (arith, nat_tests)
 sized_table EventMon size known fits = grind (arith, nat_tests)
 sized_table ExeCount size known fits = grind (arith, nat_tests)
 sized_table MsgActs size known fits = grind (arith, nat_tests)
-sized_table (Ats n) size known fits = absurd known
-sized_table (Rts n) size known fits = absurd known
+sized_table (Ats n) size known fits = (known.0, known.1, grind (arith, nat_tests))
+sized_table (Rts n) size known fits = (known.0, known.1, grind (arith, nat_tests))
 
 -- a kind that a name says is one of the known tables'
 known_range : (field : List ℕ) (kind : TableKind) (size : ℕ) → named_kind field ≡ Some kind → fits_kind kind size ≡ true → IsTable kind size

@@ -1,3 +1,4 @@
+pub mod Names
 pub mod Accepted
 pub mod Lists
 pub mod Entries

@@ -1,6 +1,6 @@
 -- Kinds of tables: their names, and how many bytes their payloads have.
-use Rattle.std.specs.Prelude.{◌≡◌, ℕ, ◌≤◌, ◌==◌, Bool, ◌&&◌, nat_le, nat_eq, List, [], ◌∷◌, length, drop, Option, None, Some, if◌then◌else◌, codes}
-use Rattle.std.specs.List.{list_all, starts_with}
+use Rattle.std.specs.Prelude.{◌≡◌, ℕ, ◌≤◌, ◌+◌, ◌/◌, ◌%◌, ◌==◌, Bool, ◌&&◌, nat_le, nat_eq, List, [], ◌∷◌, ◌++◌, length, drop, map, Option, None, Some, if◌then◌else◌, codes}
+use Rattle.std.specs.List.{list_all, starts_with, range_with_len}
 use Rattle.table_files.specs.declared.kinds.TableKind.{TableKind}
 use Rattle.table_files.specs.declared.kinds.TableRow.{TableRow}
 use Rattle.table_files.specs.declared.kinds.TableKind.TheVariants.{AppMon, EventMon, ExeCount, MsgActs, Ats, Rts, Dwell, Eeprom, Memory}
@@ -39,8 +39,8 @@ IsKnown AppMon = Unit {0}
 IsKnown EventMon = Unit {0}
 IsKnown ExeCount = Unit {0}
 IsKnown MsgActs = Unit {0}
-IsKnown (Ats n) = ⊥
-IsKnown (Rts n) = ⊥
+IsKnown (Ats n) = (1 ≤ n) × (n ≤ 2)
+IsKnown (Rts n) = (1 ≤ n) × (n ≤ 64)
 IsKnown (Dwell n) = (1 ≤ n) × (n ≤ 4)
 IsKnown Eeprom = Unit {0}
 IsKnown Memory = Unit {0}
@@ -51,8 +51,8 @@ IsTable AppMon size = size ≡ 768
 IsTable EventMon size = size ≡ 384
 IsTable ExeCount size = size ≡ 704
 IsTable MsgActs size = size ≡ 544
-IsTable (Ats n) size = ⊥
-IsTable (Rts n) size = ⊥
+IsTable (Ats n) size = (1 ≤ n) × (n ≤ 2) × (size ≤ 65536)
+IsTable (Rts n) size = (1 ≤ n) × (n ≤ 64) × (size ≤ 2048)
 IsTable (Dwell n) size = (1 ≤ n) × (n ≤ 4) × (size ≡ 204)
 IsTable Eeprom size = size ≡ 192
 IsTable Memory size = size ≡ 192
@@ -62,13 +62,15 @@ pub record KnownTable : Type 0 where
   pub name : List ℕ
   pub kind : TableKind
 
--- the tables whose names are known
-abbrev pub known_tables : List KnownTable
-known_tables =
+-- the tables whose names are known, without the relative sequences
+abbrev pub named_tables : List KnownTable
+named_tables =
     (record { name = codes "HS.AppMon_Tbl"; kind = AppMon })
     ∷ (record { name = codes "HS.EventMon_Tbl"; kind = EventMon })
     ∷ (record { name = codes "HS.ExeCount_Tbl"; kind = ExeCount })
     ∷ (record { name = codes "HS.MsgActs_Tbl"; kind = MsgActs })
+    ∷ (record { name = codes "SC.ATS_TBL1"; kind = Ats 1 })
+    ∷ (record { name = codes "SC.ATS_TBL2"; kind = Ats 2 })
     ∷ (record { name = codes "MD.DWELL_TABLE1"; kind = Dwell 1 })
     ∷ (record { name = codes "MD.DWELL_TABLE2"; kind = Dwell 2 })
     ∷ (record { name = codes "MD.DWELL_TABLE3"; kind = Dwell 3 })
@@ -76,6 +78,16 @@ known_tables =
     ∷ (record { name = codes "CS.DefEepromTbl"; kind = Eeprom })
     ∷ (record { name = codes "CS.DefMemoryTbl"; kind = Memory })
     ∷ []
+
+-- the name of relative sequence n, whose number has three digits, and the tables of all 64
+abbrev pub rts_name : ℕ → List ℕ
+rts_name n = codes "SC.RTS_TBL0" ++ (48 + n / 10) ∷ (48 + n % 10) ∷ []
+
+abbrev pub rts_table : ℕ → KnownTable
+rts_table n = record { name = rts_name n; kind = Rts n }
+
+unfoldable pub rts_tables : List KnownTable
+rts_tables = map rts_table (range_with_len 1 64)
 
 -- whether a field begins with a name and has only zero bytes behind it
 unfoldable pub is_padded : List ℕ → List ℕ → Bool
@@ -88,7 +100,7 @@ kind_among (table ∷ rest) field = if is_padded table.name field then Some tabl
 
 -- the kind that the bytes of a name field say: a known name, and zero bytes up to the field's end
 unfoldable pub named_kind : List ℕ → Option TableKind
-named_kind field = kind_among known_tables field
+named_kind field = kind_among (named_tables ++ rts_tables) field
 
 -- a row of the code's list of tables
 abbrev pub known_by : TableRow → KnownTable

@@ -1,6 +1,6 @@
 //! The kinds of tables: their names, and how many bytes their payloads have.
-ghost use Rattle.std.specs.Prelude.{◌≡◌, map};
-ghost use Rattle.table_files.specs.Kinds.{fits_kind, is_padded, known_by, kind_among, named_kind};
+ghost use Rattle.std.specs.Prelude.{◌≡◌, ◌≤◌, map};
+ghost use Rattle.table_files.specs.Kinds.{fits_kind, is_padded, known_by, kind_among, named_kind, rts_name, rts_tables};
 
 use packet_forms::are_zeros;
 
@@ -33,8 +33,8 @@ struct TableRow {
     kind: TableKind,
 }
 
-/// The tables whose names are known.
-const TABLE_ROWS: [TableRow; 10] = [
+/// The tables whose names are known, without the relative time sequences.
+const TABLE_ROWS: [TableRow; 12] = [
     TableRow {
         name: "HS.AppMon_Tbl",
         kind: TableKind::AppMon,
@@ -50,6 +50,14 @@ const TABLE_ROWS: [TableRow; 10] = [
     TableRow {
         name: "HS.MsgActs_Tbl",
         kind: TableKind::MsgActs,
+    },
+    TableRow {
+        name: "SC.ATS_TBL1",
+        kind: TableKind::Ats(1),
+    },
+    TableRow {
+        name: "SC.ATS_TBL2",
+        kind: TableKind::Ats(2),
     },
     TableRow {
         name: "MD.DWELL_TABLE1",
@@ -77,6 +85,9 @@ const TABLE_ROWS: [TableRow; 10] = [
     },
 ];
 
+/// How many relative time sequences there are.
+const RTS_COUNT: u8 = 64;
+
 impl TableKind {
     /// Whether its payload may have so many bytes.
     pub(crate) fn fits(self, size: usize) -> bool
@@ -100,7 +111,33 @@ impl TableKind {
 pub(crate) fn named_kind(field: &[u8]) -> Option<TableKind>
     ensures { result ≡ named_kind field.now }
 {
-    kind_among(&TABLE_ROWS, field)
+    match kind_among(&TABLE_ROWS, field) {
+        Some(kind) => Some(kind),
+        None => sequence_kind(field),
+    }
+}
+
+/// The kind of the relative time sequence whose name a field has.
+fn sequence_kind(field: &[u8]) -> Option<TableKind>
+    ensures { result ≡ kind_among rts_tables field.now }
+{
+    'numbers: for n in 1..RTS_COUNT + 1 {
+        if is_padded(&rts_name(n), field) {
+            return Some(TableKind::Rts(n));
+        }
+    }
+    None
+}
+
+/// The name of relative time sequence n, whose number has three digits.
+fn rts_name(n: u8) -> [u8; 13]
+    requires { n ≤ 64 }
+    ensures { result ≡ rts_name n }
+{
+    let mut name = *b"SC.RTS_TBL000";
+    name[11] = b'0' + n / 10;
+    name[12] = b'0' + n % 10;
+    name
 }
 
 /// The kind of the first of these tables whose name a field has.
@@ -109,7 +146,7 @@ fn kind_among(rows: &[TableRow], field: &[u8]) -> Option<TableKind>
 {
     let mut rest = rows;
     while let [row, others @ ..] = rest {
-        if is_padded(row.name, field) {
+        if is_padded(row.name.as_bytes(), field) {
             return Some(row.kind);
         }
         rest = others;
@@ -119,10 +156,9 @@ fn kind_among(rows: &[TableRow], field: &[u8]) -> Option<TableKind>
 
 /// Whether a field begins with a name and has only zero bytes behind it.
 #[tactic(auto, unfolding(crate::specs::Kinds::is_padded))]
-fn is_padded(name: &str, field: &[u8]) -> bool
+fn is_padded(name: &[u8], field: &[u8]) -> bool
     ensures { result ≡ is_padded name.now field.now }
 {
-    let name = name.as_bytes();
     if !field.starts_with(name) {
         return false;
     }

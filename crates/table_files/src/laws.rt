@@ -64,6 +64,9 @@ pub fn name_rows()
     ensures eeprom { named_kind eeprom_name ≡ Some Eeprom }
     ensures memory { named_kind memory_name ≡ Some Memory }
     ensures health { map named_kind (appmon_name ∷ eventmon_name ∷ execount_name ∷ msgacts_name ∷ []) ≡ Some AppMon ∷ Some EventMon ∷ Some ExeCount ∷ Some MsgActs ∷ [] }
+    ensures absolute { map (λ n. named_kind (0x53 ∷ 0x43 ∷ 0x2E ∷ 0x41 ∷ 0x54 ∷ 0x53 ∷ 0x5F ∷ 0x54 ∷ 0x42 ∷ 0x4C ∷ n ∷ replicate 29 0)) (0x30 ∷ 0x31 ∷ 0x32 ∷ 0x33 ∷ []) ≡ None ∷ Some (Ats 1) ∷ Some (Ats 2) ∷ None ∷ [] }
+    ensures relative { map (λ (digits : List ℕ). named_kind ((0x53 ∷ 0x43 ∷ 0x2E ∷ 0x52 ∷ 0x54 ∷ 0x53 ∷ 0x5F ∷ 0x54 ∷ 0x42 ∷ 0x4C ∷ digits) ++ replicate 27 0)) ((0x30 ∷ 0x30 ∷ 0x30 ∷ []) ∷ (0x30 ∷ 0x30 ∷ 0x31 ∷ []) ∷ (0x30 ∷ 0x30 ∷ 0x39 ∷ []) ∷ (0x30 ∷ 0x31 ∷ 0x30 ∷ []) ∷ (0x30 ∷ 0x36 ∷ 0x34 ∷ []) ∷ (0x30 ∷ 0x36 ∷ 0x35 ∷ []) ∷ (0x31 ∷ 0x30 ∷ 0x30 ∷ []) ∷ [])
+        ≡ None ∷ Some (Rts 1) ∷ Some (Rts 9) ∷ Some (Rts 10) ∷ Some (Rts 64) ∷ None ∷ None ∷ [] }
     ensures padded { named_kind (slice_set eeprom_name 39 1) ≡ None }
     ensures whole { named_kind (slice_set eeprom_name 14 0) ≡ None }
 {}

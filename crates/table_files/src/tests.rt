@@ -18,7 +18,7 @@ const TYPE: u32 = 0x6346_4531;
 const DWELL: Draft = (TYPE, 8, 0, 204, "MD.DWELL_TABLE1", 320);
 
 /// Files with faults, and the number of each fault.
-const FAULTY: [(Draft, FileFault, u8); 15] = [
+const FAULTY: [(Draft, FileFault, u8); 19] = [
     ((0, 8, 0, 204, "MD.DWELL_TABLE1", 63), FileFault::Short, 1),
     (
         (0, 9, 0, 204, "MD.DWELL_TABLE1", 320),
@@ -53,6 +53,18 @@ const FAULTY: [(Draft, FileFault, u8); 15] = [
         5,
     ),
     ((TYPE, 8, 0, 768, "HS.AppMon_TBL", 884), FileFault::Name, 5),
+    ((TYPE, 8, 0, 0, "SC.ATS_TBL3", 116), FileFault::Name, 5),
+    ((TYPE, 8, 0, 0, "SC.RTS_TBL065", 116), FileFault::Name, 5),
+    (
+        (TYPE, 8, 0, 65_537, "SC.ATS_TBL2", 65_653),
+        FileFault::Size,
+        6,
+    ),
+    (
+        (TYPE, 8, 0, 2_049, "SC.RTS_TBL064", 2_165),
+        FileFault::Size,
+        6,
+    ),
     (
         (TYPE, 8, 0, 204, "MD.DWELL_TABLE1", 319),
         FileFault::Size,
@@ -112,8 +124,8 @@ const LOADS: [(LoadDraft, Option<FileFault>); 11] = [
     ((0x1000, 65_537, 0, 65_536), Some(FileFault::Size)),
 ];
 
-/// The tables that are known, and the sizes of their payloads.
-const TABLES: [(&str, TableKind, u16); 10] = [
+/// Tables that are known, and sizes of their payloads.
+const TABLES: [(&str, TableKind, u32); 15] = [
     ("HS.AppMon_Tbl", TableKind::AppMon, 768),
     ("HS.EventMon_Tbl", TableKind::EventMon, 384),
     ("HS.ExeCount_Tbl", TableKind::ExeCount, 704),
@@ -124,6 +136,11 @@ const TABLES: [(&str, TableKind, u16); 10] = [
     ("MD.DWELL_TABLE4", TableKind::Dwell(4), 204),
     ("CS.DefEepromTbl", TableKind::Eeprom, 192),
     ("CS.DefMemoryTbl", TableKind::Memory, 192),
+    ("SC.ATS_TBL1", TableKind::Ats(1), 65_536),
+    ("SC.ATS_TBL2", TableKind::Ats(2), 0),
+    ("SC.RTS_TBL001", TableKind::Rts(1), 2_048),
+    ("SC.RTS_TBL010", TableKind::Rts(10), 0),
+    ("SC.RTS_TBL064", TableKind::Rts(64), 1),
 ];
 
 /// An entry of one byte, of a table of three; one over 9 is refused.
@@ -175,11 +192,8 @@ fn file_of(alloc: Global, draft: Draft) -> Result<Vec<u8>, Fail> {
     Ok(file)
 }
 
-fn table_of(alloc: Global, name: &'static str, size: u16) -> Result<Vec<u8>, Fail> {
-    file_of(
-        alloc,
-        (TYPE, 8, 0, u32::from(size), name, 116 + usize::from(size)),
-    )
+fn table_of(alloc: Global, name: &'static str, size: u32) -> Result<Vec<u8>, Fail> {
+    file_of(alloc, (TYPE, 8, 0, size, name, 116 + size as usize))
 }
 
 /// The file of a draft of bytes to be loaded.
@@ -271,12 +285,12 @@ fn files_are_held_once(rt: HostRuntime) -> Result<(), Fail> {
         assert_eq!(rt; add_to(&mut files, file), Some(Ok(())));
         let file = table_of(rt.alloc(), name, size)?;
         assert_eq!(rt; add_to(&mut files, file), Some(Err(AddFault::Twice)));
-        assert!(rt; shown(&files, files.len()) == Some((kind, usize::from(size))));
+        assert!(rt; shown(&files, files.len()) == Some((kind, size as usize)));
     }
     let file = file_of(rt.alloc(), (TYPE, 8, 0, 204, "MD.DWELL_TABLE1", 319))?;
     let fault = AddFault::File(FileFault::Size);
     assert_eq!(rt; add_to(&mut files, file), Some(Err(fault)));
-    assert_eq!(rt; files.len(), 10);
+    assert_eq!(rt; files.len(), 15);
     assert!(rt; shown(&files, 9) == Some((TableKind::Eeprom, 192)));
     assert_eq!(rt; last_bytes(&files), [7; 4]);
     assert!(rt; files.load(0).is_none());
