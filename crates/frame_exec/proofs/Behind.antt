@@ -23,14 +23,14 @@ pub has_beside : (b : Bench) (block : Waiting) (room : b.drops.room ≡ 1525) (s
 has_beside b block room s has = record {
   number = has.number;
   tables = has.tables;
-  apps = record { hs = has.apps.hs; cs = has.apps.cs; mm = has.apps.mm; md = has.apps.md };
+  apps = record { hs = has.apps.hs; cs = has.apps.cs; sc = has.apps.sc; mm = has.apps.mm; md = has.apps.md };
   pipes = has.pipes;
   made = has.made;
   memory = has.memory;
 }
 
 pub ready_beside : (b : Bench) (block : Waiting) (room : b.drops.room ≡ 1525) → IsReady b → IsReady (record b { block = block; drops_room = room })
-ready_beside b block room ready = record { cs = ready.cs; md = ready.md }
+ready_beside b block room ready = record { cs = ready.cs; sc = ready.sc; md = ready.md }
 
 -- a bench whose block is empty stands for all frames as earlier ones
 pub begins_behind : (b : Bench) (setup : Setup) (frames : List Frame) → b.epoch ≡ setup.epoch → b.files.now ≡ setup.files → has_failed b ≡ false → Has b (run_of setup frames) → IsReady b → b.block ≡ empty_block → Follows b setup frames []

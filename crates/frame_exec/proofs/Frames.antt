@@ -3,9 +3,6 @@ use Rattle.std.proofs.Common.{◌≡◌, ℕ, ◌+◌, ◌<◌, List, [], ◌∷
 use denote.Ref.{Bor}
 use Rattle.std.specs.List.{flat_map}
 use Rattle.std.proofs.lemmas.List.Sums.{fold_push}
-use Rattle.histories.specs.Words.{along}
-use Rattle.histories.proofs.Along.{along_more, along_none}
-use Rattle.histories.proofs.Fronts.{flat_map_more}
 use Rattle.bus_pipes.specs.Pipes.{empty_pipes}
 use Rattle.bus_pipes.specs.Delivery.{drops_from}
 use Rattle.bus_pipes.specs.declared.names.Out.{Out}
@@ -26,15 +23,18 @@ use Rattle.scenario.specs.FrameLists.{Frame}
 use Rattle.frame_exec.specs.declared.bench.Bench.{Bench}
 use Rattle.hs_monitors.specs.declared.state.Hs.{Hs}
 use Rattle.mm_core.specs.declared.state.Mm.{Mm}
+use Rattle.sc_sequences.specs.Histories.{begun_at}
+use Rattle.sc_sequences.specs.State.{IsReady as ScIsReady}
+use Rattle.sc_sequences.specs.declared.state.Sc.{Sc}
 use Rattle.cs_slices.specs.declared.state.Cs.{Cs}
 use Rattle.cs_slices.specs.declared.segments.Segment.{Segment}
 use Rattle.md_dwell.specs.declared.state.Md.{Md}
 use Rattle.md_dwell.specs.State.{AllGiven}
 use Rattle.frame_exec.specs.Tables.{TableSet, SetGiven, tables_of}
 use Rattle.frame_exec.specs.Ready.{CsIsReady}
-use Rattle.frame_exec.specs.Applications.{hs_stands, cs_stands, mm_stands, md_stands}
+use Rattle.frame_exec.specs.Applications.{hs_stands, cs_stands, sc_stands, mm_stands, md_stands}
 use Rattle.frame_exec.specs.Sending.{upset_by}
-use Rattle.frame_exec.specs.Runs.{Setup, State, beginning, image_at, left_by, sent_at, offers_at, after_frame, run_of, frame_lines, log_of, lines_at, operations_at}
+use Rattle.frame_exec.specs.Runs.{Setup, State, beginning, sc_begun, image_at, left_by, sent_at, offers_at, after_frame, run_of, frame_lines, lines_at, operations_at}
 use Rattle.frame_exec.specs.Standing.{AppsStand, Has, IsReady, Stands, CanRun}
 use Rattle.frame_exec.specs.Landable.{CanLand}
 use Rattle.frame_exec.specs.Stages.{KeepsApps, RunsIn, IsSameFrame, Lands, loads_in}
@@ -88,6 +88,7 @@ pub apps_kept : (before b : Bench) (s : State) → KeepsApps before b → AppsSt
 apps_kept before b s kept stand = record {
   hs = subst (λ (state : Box Hs Global). hs_stands s.tables s.hs state.value) (sym kept.hs) stand.hs;
   cs = subst (λ (state : Box Cs Global). cs_stands s.tables s.cs state.value) (sym kept.cs) stand.cs;
+  sc = subst (λ (state : Box Sc Global). sc_stands (sc_begun s) s.sc state.value) (sym kept.sc) stand.sc;
   mm = subst (λ (state : Box Mm Global). mm_stands s.tables s.mm state.value) (sym kept.mm) stand.mm;
   md = subst (λ (state : Box Md Global). md_stands s.tables s.md state.value) (sym kept.md) stand.md;
 }
@@ -104,6 +105,7 @@ pub ready_by : (before b : Bench) → regions_of b.ram.areas ≡ regions_of befo
 ready_by before b same tables kept ready = record {
   cs = subst (λ (state : Box Cs Global). CsIsReady (regions_of b.ram.areas) b.tables.eeprom b.tables.memory state.value) (sym kept.cs)
       (cs_ready_by _ _ _ _ _ _ before.cs.state.value same (ap (λ (t : TableSet). t.eeprom) tables) (ap (λ (t : TableSet). t.memory) tables) ready.cs);
+  sc = subst (λ (t : TableSet). ScIsReady t.sc b.sc.state.value) (sym tables) (subst (λ (state : Box Sc Global). ScIsReady before.tables.sc state.value) (sym kept.sc) ready.sc);
   md = subst (λ (regions : List Region). AllGiven regions b.md.state.value) (sym same) (subst (λ (state : Box Md Global). AllGiven (regions_of before.ram.areas) state.value) (sym kept.md) ready.md);
 }
 
@@ -128,7 +130,7 @@ has_after before b setup s frame kept pipes log memory number tables ran = recor
 
 -- the states of the applications were kept twice
 kept_twice : (a b c : Bench) → KeepsApps a b → KeepsApps b c → KeepsApps a c
-kept_twice a b c first second = record { hs = second.hs ∙ first.hs; cs = second.cs ∙ first.cs; mm = second.mm ∙ first.mm; md = second.md ∙ first.md }
+kept_twice a b c first second = record { hs = second.hs ∙ first.hs; cs = second.cs ∙ first.cs; sc = second.sc ∙ first.sc; mm = second.mm ∙ first.mm; md = second.md ∙ first.md }
 
 -- A frame was run after these frames, its lines were given away, and then its operations landed.
 module _ (before middle b : Bench) (setup : Setup) (frames : List Frame) (frame : Frame) (same : IsSameFrame before middle) (lands : Lands middle b) where
@@ -159,10 +161,10 @@ can_land_still before middle same can =
 
 -- a bench that was opened stands for no frames
 pub stands_opened : (b : Bench) (setup : Setup) → b.epoch ≡ setup.epoch → b.files.now ≡ setup.files → b.failed ≡ false → b.block ≡ empty_block → b.number ≡ 0 → b.tables ≡ tables_of setup.files
-    → hs_stands b.tables [] b.hs.state.value → cs_stands b.tables [] b.cs.state.value → mm_stands b.tables [] b.mm.state.value → md_stands b.tables [] b.md.state.value
-    → SetGiven setup.regions b.tables → AllGiven setup.regions b.md.state.value → b.bus ≡ empty_pipes → LogStands [] b.log → b.ram ≡ start_memory setup.regions → Stands b setup []
+    → hs_stands b.tables [] b.hs.state.value → cs_stands b.tables [] b.cs.state.value → sc_stands (begun_at setup.epoch b.tables.sc) [] b.sc.state.value → mm_stands b.tables [] b.mm.state.value → md_stands b.tables [] b.md.state.value
+    → SetGiven setup.regions b.tables → ScIsReady b.tables.sc b.sc.state.value → AllGiven setup.regions b.md.state.value → b.bus ≡ empty_pipes → LogStands [] b.log → b.ram ≡ start_memory setup.regions → Stands b setup []
 unfolding run_of beginning
-stands_opened b setup epoch files well waits number tables hs cs mm md given dwells pipes made memory =
+stands_opened b setup epoch files well waits number tables hs cs sc mm md given sequences dwells pipes made memory =
     let same : regions_of b.ram.areas ≡ setup.regions = ap (λ (m : Memory). regions_of m.areas) memory ∙ regions-cut setup.regions _ in
     record {
       epoch = epoch;
@@ -175,6 +177,7 @@ stands_opened b setup epoch files well waits number tables hs cs mm md given dwe
         apps = record {
           hs = subst (λ (t : TableSet). hs_stands t [] b.hs.state.value) tables hs;
           cs = subst (λ (t : TableSet). cs_stands t [] b.cs.state.value) tables cs;
+          sc = subst (λ (t : TableSet). sc_stands (begun_at setup.epoch t.sc) [] b.sc.state.value) tables sc;
           mm = mm;
           md = subst (λ (t : TableSet). md_stands t [] b.md.state.value) tables md;
         };
@@ -184,6 +187,7 @@ stands_opened b setup epoch files well waits number tables hs cs mm md given dwe
       };
       ready = record {
         cs = cs_ready_by setup.regions (regions_of b.ram.areas) b.tables.eeprom b.tables.memory b.tables.eeprom b.tables.memory b.cs.state.value same refl refl (record { started = ([], cs); first = given.eeprom; second = given.memory });
+        sc = sequences;
         md = subst (λ (regions : List Region). AllGiven regions b.md.state.value) (sym same) dwells;
       };
     }

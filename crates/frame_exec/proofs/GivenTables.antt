@@ -1,5 +1,5 @@
 -- Where no entry of the files is refused, memory gives what their tables read.
-use Rattle.std.proofs.Common.{◌≡◌, ℕ, ◌+◌, ◌-◌, true, List, [], ◌∷◌, replicate, Option, Some, None, refl}
+use Rattle.std.proofs.Common.{◌≡◌, ℕ, ◌+◌, ◌-◌, true, List, [], ◌∷◌, replicate, map, Option, Some, None, refl}
 use Rattle.std.specs.Prelude.{slice_set}
 use Rattle.std.specs.List.{AllPass}
 use Rattle.std.proofs.lemmas.List.Elements.{All-set, All-replicate}
@@ -10,6 +10,9 @@ use Rattle.md_dwell.specs.declared.tables.DwellEntry.{DwellEntry}
 use Rattle.md_dwell.specs.Given.{is_given, first_refused, TablesGiven}
 use Rattle.md_dwell.proofs.Gifts.{none_refused}
 use Rattle.cs_slices.specs.declared.segments.Segment.{Segment}
+use Rattle.sc_tables.specs.Commands.{TimedCommand, of_timed, of_relative}
+use Rattle.sc_tables.specs.Absolute.{ats_of, ats_fault_of}
+use Rattle.sc_tables.specs.Relative.{rts_of, rts_fault_of}
 use Rattle.hs_tables.specs.Apps as apps
 use Rattle.hs_tables.specs.Events as events
 use Rattle.hs_tables.specs.Counters as counters
@@ -49,6 +52,10 @@ module _ (regions : List Region) (tables : TableSet) (given : SetGiven regions t
   hs_given hs None = record { dwells = given.dwells; eeprom = given.eeprom; memory = given.memory }
   hs_given hs (Some fault) = given
 
+  sc_given : (sc : List (List TimedCommand)) (fault : Option EntryFault) → SetGiven regions (where_well (record tables { sc = sc }) tables fault)
+  sc_given sc None = record { dwells = given.dwells; eeprom = given.eeprom; memory = given.memory }
+  sc_given sc (Some fault) = given
+
   table_given : (kind : TableKind) (payload : List ℕ) → refused_entry regions kind payload ≡ None → SetGiven regions (with_table tables kind payload)
   table_given (Dwell n) payload none = dwell_given n payload (dwell_fault_of payload) none
   table_given Eeprom payload none = eeprom_given payload (segments_fault_of payload) none
@@ -57,8 +64,8 @@ module _ (regions : List Region) (tables : TableSet) (given : SetGiven regions t
   table_given EventMon payload none = hs_given (record tables.hs { events = events.rows_of payload }) (events.rows_fault_of payload)
   table_given ExeCount payload none = hs_given (record tables.hs { counts = counters.rows_of payload }) (counters.rows_fault_of payload)
   table_given MsgActs payload none = hs_given (record tables.hs { acts = actions.rows_of payload }) (actions.rows_fault_of payload)
-  table_given (Ats n) payload none = given
-  table_given (Rts n) payload none = given
+  table_given (Ats n) payload none = sc_given (slice_set tables.sc (n - 1) (map of_timed (ats_of payload))) (ats_fault_of payload)
+  table_given (Rts n) payload none = sc_given (slice_set tables.sc (n + 1) (map of_relative (rts_of payload))) (rts_fault_of payload)
 
   kind_given : (kind : Option TableKind) (payload : List ℕ) → by_kind None (refused_entry regions) kind payload ≡ None → SetGiven regions (by_kind tables (with_table tables) kind payload)
   kind_given None payload none = given

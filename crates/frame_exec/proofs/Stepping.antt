@@ -15,9 +15,9 @@ use Rattle.scenario.specs.declared.frame.App.TheVariants as names
 use Rattle.scenario.specs.FrameLists.{Frame}
 use Rattle.frame_exec.specs.declared.bench.Bench.{Bench}
 use Rattle.frame_exec.specs.Tables.{TableSet}
-use Rattle.frame_exec.specs.Applications.{hs_stands, cs_stands, mm_stands, md_stands, hs_gives, cs_gives, mm_gives, md_gives, hs_reads, cs_reads, mm_reads, md_reads}
+use Rattle.frame_exec.specs.Applications.{hs_stands, cs_stands, sc_stands, mm_stands, md_stands, hs_gives, cs_gives, sc_gives, mm_gives, md_gives, hs_reads, cs_reads, sc_reads, mm_reads, md_reads}
 use Rattle.frame_exec.specs.Wakes.{HasTaken, IsWoken, unless, joined}
-use Rattle.frame_exec.specs.Runs.{Setup, State, is_held, time_at, image_at, hs_input_at, cs_input_at, mm_input_at, md_input_at, items_at, operations_at, left_by, sent_at, offers_at, after_frame}
+use Rattle.frame_exec.specs.Runs.{Setup, State, is_held, sc_begun, time_at, image_at, hs_input_at, cs_input_at, sc_input_at, mm_input_at, md_input_at, items_at, operations_at, left_by, sent_at, offers_at, after_frame}
 use Rattle.frame_exec.specs.Standing.{AppsStand}
 use Rattle.frame_exec.specs.Stages.{Takes, Steps, Sends, RunsIn, loads_in, time_of, items_in}
 use Rattle.frame_exec.proofs.Frames.{apps_kept}
@@ -48,6 +48,9 @@ module _ (setup : Setup) (s : State) (frame : Frame) (start took stepped : Bench
   cs_took : HasTaken (is_held names.Cs frame) s.pipes.cs took.cs.held took.cs.commands took.cs.out.items
   cs_took = subst (λ (p : Pipes). HasTaken (is_held names.Cs frame) p.cs took.cs.held took.cs.commands took.cs.out.items) pipes takes.cs
 
+  sc_took : HasTaken (is_held names.Sc frame) s.pipes.sc took.sc.held took.sc.commands took.sc.out.items
+  sc_took = subst (λ (p : Pipes). HasTaken (is_held names.Sc frame) p.sc took.sc.held took.sc.commands took.sc.out.items) pipes takes.sc
+
   mm_took : HasTaken (is_held names.Mm frame) s.pipes.mm took.mm.held took.mm.commands took.mm.out.items
   mm_took = subst (λ (p : Pipes). HasTaken (is_held names.Mm frame) p.mm took.mm.held took.mm.commands took.mm.out.items) pipes takes.mm
 
@@ -65,6 +68,11 @@ module _ (setup : Setup) (s : State) (frame : Frame) (start took stepped : Bench
   cs_woken = moved (λ (t : TableSet) (n : ℕ) (m : Memory). IsWoken (cs_stands t) (cs_gives t) took.cs.held (cs_reads n took.cs.commands m) took.cs.state.value stepped.cs.state.value stepped.cs.out.items)
       took.tables s.tables (time_of took) (time_at setup s) took.ram (image_at s frame) same_tables same_time same_image steps.cs
 
+  sc_woken : IsWoken (sc_stands (sc_begun s)) (sc_gives (sc_begun s)) took.sc.held (sc_reads (time_at setup s) took.sc.commands) took.sc.state.value stepped.sc.state.value stepped.sc.out.items
+  sc_woken =
+      subst (λ (n : ℕ). IsWoken (sc_stands (sc_begun s)) (sc_gives (sc_begun s)) took.sc.held (sc_reads n took.sc.commands) took.sc.state.value stepped.sc.state.value stepped.sc.out.items) same_time
+      (steps.sc (sc_begun s) (ap (λ (t : TableSet). t.sc) (sym same_tables)))
+
   mm_woken : IsWoken (mm_stands s.tables) (mm_gives s.tables) took.mm.held (mm_reads (loads_of setup.files) (time_at setup s) took.mm.commands (image_at s frame)) took.mm.state.value stepped.mm.state.value stepped.mm.out.items
   mm_woken =
       subst (λ (loads : List (ℕ × List ℕ)). IsWoken (mm_stands s.tables) (mm_gives s.tables) took.mm.held (mm_reads loads (time_at setup s) took.mm.commands (image_at s frame)) took.mm.state.value stepped.mm.state.value stepped.mm.out.items) same_loads
@@ -76,12 +84,14 @@ module _ (setup : Setup) (s : State) (frame : Frame) (start took stepped : Bench
       took.tables s.tables (time_of took) (time_at setup s) took.ram (image_at s frame) same_tables same_time same_image (steps.md took.tables)
 
   pub apps_after : AppsStand stepped (after_frame setup s frame)
-  unfolding after_frame hs_input_at cs_input_at mm_input_at md_input_at
+  unfolding after_frame hs_input_at cs_input_at sc_input_at mm_input_at md_input_at
   apps_after = record {
     hs = woken_state (hs_stands s.tables) (hs_gives s.tables) (λ commands. hs_reads (time_at setup s) commands s.pipes.hs_ev frame.counters) _ took.hs.held s.pipes.hs took.hs.commands took.hs.out.items stepped.hs.out.items took.hs.state.value
         stepped.hs.state.value s.hs hs_took hs_woken stand.hs;
     cs = woken_state (cs_stands s.tables) (cs_gives s.tables) (λ commands. cs_reads (time_at setup s) commands (image_at s frame)) _ took.cs.held s.pipes.cs took.cs.commands took.cs.out.items stepped.cs.out.items took.cs.state.value
         stepped.cs.state.value s.cs cs_took cs_woken stand.cs;
+    sc = woken_state (sc_stands (sc_begun s)) (sc_gives (sc_begun s)) (λ commands. sc_reads (time_at setup s) commands) _ took.sc.held s.pipes.sc took.sc.commands took.sc.out.items stepped.sc.out.items took.sc.state.value
+        stepped.sc.state.value s.sc sc_took sc_woken stand.sc;
     mm = woken_state (mm_stands s.tables) (mm_gives s.tables) (λ commands. mm_reads (loads_of setup.files) (time_at setup s) commands (image_at s frame)) _ took.mm.held s.pipes.mm took.mm.commands took.mm.out.items stepped.mm.out.items took.mm.state.value
         stepped.mm.state.value s.mm mm_took mm_woken stand.mm;
     md = woken_state (md_stands s.tables) (md_gives s.tables) (λ commands. md_reads (time_at setup s) commands (image_at s frame)) _ took.md.held s.pipes.md took.md.commands took.md.out.items stepped.md.out.items took.md.state.value
@@ -89,17 +99,19 @@ module _ (setup : Setup) (s : State) (frame : Frame) (start took stepped : Bench
   }
 
   pub items_after : items_in stepped ≡ items_at setup s frame
-  unfolding items_at hs_input_at cs_input_at mm_input_at md_input_at
+  unfolding items_at hs_input_at cs_input_at sc_input_at mm_input_at md_input_at
   items_after =
       let hs = woken_items (hs_stands s.tables) (hs_gives s.tables) (λ commands. hs_reads (time_at setup s) commands s.pipes.hs_ev frame.counters) _ took.hs.held s.pipes.hs took.hs.commands took.hs.out.items stepped.hs.out.items
       took.hs.state.value stepped.hs.state.value s.hs hs_took hs_woken stand.hs in
       let cs = woken_items (cs_stands s.tables) (cs_gives s.tables) (λ commands. cs_reads (time_at setup s) commands (image_at s frame)) _ took.cs.held s.pipes.cs took.cs.commands took.cs.out.items stepped.cs.out.items
       took.cs.state.value stepped.cs.state.value s.cs cs_took cs_woken stand.cs in
+      let sc = woken_items (sc_stands (sc_begun s)) (sc_gives (sc_begun s)) (λ commands. sc_reads (time_at setup s) commands) _ took.sc.held s.pipes.sc took.sc.commands took.sc.out.items stepped.sc.out.items
+      took.sc.state.value stepped.sc.state.value s.sc sc_took sc_woken stand.sc in
       let mm = woken_items (mm_stands s.tables) (mm_gives s.tables) (λ commands. mm_reads (loads_of setup.files) (time_at setup s) commands (image_at s frame)) _ took.mm.held s.pipes.mm took.mm.commands took.mm.out.items stepped.mm.out.items
       took.mm.state.value stepped.mm.state.value s.mm mm_took mm_woken stand.mm in
       let md = woken_items (md_stands s.tables) (md_gives s.tables) (λ commands. md_reads (time_at setup s) commands (image_at s frame)) _ took.md.held s.pipes.md took.md.commands took.md.out.items stepped.md.out.items
       took.md.state.value stepped.md.state.value s.md md_took md_woken stand.md in
-      rw (hs, cs, mm, md) refl
+      rw (hs, cs, sc, mm, md) refl
 
   pub operations_after : stepped.ops ≡ operations_at setup s frame
   unfolding operations_at mm_input_at

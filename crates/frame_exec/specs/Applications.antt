@@ -12,6 +12,10 @@ use Rattle.cs_slices.specs.Wakeups.{Input as CsInput}
 use Rattle.cs_slices.specs.Step.{cs_items}
 use Rattle.cs_slices.specs.State.{Stands as CsStands}
 use Rattle.cs_slices.specs.declared.state.Cs.{Cs}
+use Rattle.sc_sequences.specs.Histories.{Input as ScInput, ScEntry, Beginning, input_of as sc_input_of}
+use Rattle.sc_sequences.specs.Step.{sc_items}
+use Rattle.sc_sequences.specs.State.{Stands as ScStands}
+use Rattle.sc_sequences.specs.declared.state.Sc.{Sc}
 use Rattle.mm_core.specs.Step.{Input as MmInput, mm_items}
 use Rattle.mm_core.specs.State.{Stands as MmStands}
 use Rattle.mm_core.specs.declared.state.Mm.{Mm}
@@ -29,12 +33,19 @@ hs_setup tables = setup_of tables.hs 0 3
 abbrev pub hs_entries : List HsInput → List HsEntry
 hs_entries history = map Woken history
 
--- when a state stands for a history
+-- the entries of a history of SC: all are wakeups
+abbrev pub sc_entries : List ScInput → List ScEntry
+sc_entries history = map Woken history
+
+-- when a state stands for a history: of SC, by its start and the sequences
 abbrev pub hs_stands : TableSet → List HsInput → Hs → Type 0
 hs_stands tables history hs = HsStands (hs_setup tables) (hs_entries history) hs
 
 abbrev pub cs_stands : TableSet → List CsInput → Cs → Type 0
 cs_stands tables history cs = CsStands tables.eeprom tables.memory history cs
+
+abbrev pub sc_stands : Beginning → List ScInput → Sc → Type 0
+sc_stands begin history sc = ScStands begin (sc_entries history) sc
 
 abbrev pub mm_stands : TableSet → List MmInput → Mm → Type 0
 mm_stands tables history mm = MmStands history mm
@@ -49,6 +60,9 @@ hs_gives tables history input = hs_items (hs_setup tables) (hs_entries history) 
 abbrev pub cs_gives : TableSet → List CsInput → CsInput → List Out
 cs_gives tables history input = cs_items tables.eeprom tables.memory history input
 
+abbrev pub sc_gives : Beginning → List ScInput → ScInput → List Out
+sc_gives begin history input = sc_items begin (sc_entries history) input
+
 abbrev pub mm_gives : TableSet → List MmInput → MmInput → List Out
 mm_gives tables history input = mm_items history input
 
@@ -58,6 +72,10 @@ md_gives tables history input = md_items tables.dwells history input
 -- what a wakeup of HS reads, by its time, the packets of both pipes, and the frame's execution counters
 abbrev pub hs_reads : ℕ → List (List ℕ) → List (List ℕ) → List Counter → HsInput
 hs_reads time commands events counters = record { time = time; commands = commands; seen = record { events = events; counters = counters } }
+
+-- what a wakeup of SC reads, by its time and the packets of the pipe
+abbrev pub sc_reads : ℕ → List (List ℕ) → ScInput
+sc_reads time commands = sc_input_of time commands
 
 -- what a wakeup of another application reads, by its time, the packets of the pipe, and memory; MM also by the load files
 abbrev pub cs_reads : ℕ → List (List ℕ) → Memory → CsInput

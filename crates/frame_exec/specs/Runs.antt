@@ -10,6 +10,7 @@ use Rattle.memory_window.specs.Memory.{Memory, start_memory}
 use Rattle.memory_window.specs.Landing.{land}
 use Rattle.memory_window.specs.declared.regions.Region.{Region}
 use Rattle.memory_window.specs.declared.operations.MemOp.{MemOp}
+use Rattle.sc_sequences.specs.Histories.{Input as ScInput, Beginning, begun_at}
 use Rattle.mm_core.specs.Step.{Input as MmInput, mm_operations}
 use Rattle.hs_monitors.specs.Histories.{Input as HsInput}
 use Rattle.cs_slices.specs.Wakeups.{Input as CsInput}
@@ -23,7 +24,7 @@ use Rattle.frame_exec.specs.Tables.{TableSet, tables_of}
 use Rattle.frame_exec.specs.Sending.{is_same, upset_by, left_in_pipe, sent_of, packet_in}
 use Rattle.packet_log.specs.Sent.{makes}
 use Rattle.frame_exec.specs.Wakes.{history_after, unless, joined}
-use Rattle.frame_exec.specs.Applications.{hs_gives, cs_gives, mm_gives, md_gives, hs_reads, cs_reads, mm_reads, md_reads}
+use Rattle.frame_exec.specs.Applications.{hs_gives, cs_gives, sc_gives, mm_gives, md_gives, hs_reads, cs_reads, sc_reads, mm_reads, md_reads}
 
 -- what a run begins with: the time of frame 0, the regions of memory, and the named files
 pub record Setup : Type 0 where
@@ -31,22 +32,24 @@ pub record Setup : Type 0 where
   pub regions : List Region
   pub files : List (List ℕ)
 
--- what a run has come to: how many frames there were, the tables in force, the history of each application, what the pipes hold, the
--- packets made so far, and memory
+-- what a run has come to: how many frames there were, the time at which SC began, the tables in force, the history of each application,
+-- what the pipes hold, the packets made so far, and memory
 pub record State : Type 0 where
   pub number : ℕ
+  pub began : ℕ
   pub tables : TableSet
   pub hs : List HsInput
   pub cs : List CsInput
+  pub sc : List ScInput
   pub mm : List MmInput
   pub md : List MdInput
   pub pipes : Pipes
   pub made : List (List ℕ)
   pub memory : Memory
 
--- before the first frame
+-- before the first frame: SC begins at its time
 unfoldable pub beginning : Setup → State
-beginning setup = record { number = 0; tables = tables_of setup.files; hs = []; cs = []; mm = []; md = []; pipes = empty_pipes; made = []; memory = start_memory setup.regions }
+beginning setup = record { number = 0; began = setup.epoch; tables = tables_of setup.files; hs = []; cs = []; sc = []; mm = []; md = []; pipes = empty_pipes; made = []; memory = start_memory setup.regions }
 
 -- whether an application is held in a frame
 abbrev pub is_held : App → Frame → Bool
@@ -60,12 +63,19 @@ image_at s frame = fold upset_by s.memory frame.upsets
 abbrev pub time_at : Setup → State → ℕ
 time_at setup s = setup.epoch + s.number
 
--- what HS, CS, MM and MD read in a frame
+-- what a history of SC begins with in a run
+abbrev pub sc_begun : State → Beginning
+sc_begun s = begun_at s.began s.tables.sc
+
+-- what HS, CS, SC, MM and MD read in a frame
 unfoldable pub hs_input_at : Setup → State → Frame → HsInput
 hs_input_at setup s frame = hs_reads (time_at setup s) s.pipes.hs s.pipes.hs_ev frame.counters
 
 unfoldable pub cs_input_at : Setup → State → Frame → CsInput
 cs_input_at setup s frame = cs_reads (time_at setup s) s.pipes.cs (image_at s frame)
+
+unfoldable pub sc_input_at : Setup → State → Frame → ScInput
+sc_input_at setup s frame = sc_reads (time_at setup s) s.pipes.sc
 
 unfoldable pub mm_input_at : Setup → State → Frame → MmInput
 mm_input_at setup s frame = mm_reads (loads_of setup.files) (time_at setup s) s.pipes.mm (image_at s frame)
@@ -78,6 +88,7 @@ unfoldable pub items_at : Setup → State → Frame → List (List Out)
 items_at setup s frame =
     unless (is_held apps.Hs frame) (hs_gives s.tables s.hs (hs_input_at setup s frame))
     ∷ unless (is_held apps.Cs frame) (cs_gives s.tables s.cs (cs_input_at setup s frame))
+    ∷ unless (is_held apps.Sc frame) (sc_gives (sc_begun s) s.sc (sc_input_at setup s frame))
     ∷ unless (is_held apps.Mm frame) (mm_gives s.tables s.mm (mm_input_at setup s frame))
     ∷ unless (is_held apps.Md frame) (md_gives s.tables s.md (md_input_at setup s frame))
     ∷ []
@@ -115,9 +126,11 @@ lines_at setup s frame =
 unfoldable pub after_frame : Setup → State → Frame → State
 after_frame setup s frame = record {
   number = s.number + 1;
+  began = s.began;
   tables = s.tables;
   hs = history_after (is_held apps.Hs frame) s.hs (hs_input_at setup s frame);
   cs = history_after (is_held apps.Cs frame) s.cs (cs_input_at setup s frame);
+  sc = history_after (is_held apps.Sc frame) s.sc (sc_input_at setup s frame);
   mm = history_after (is_held apps.Mm frame) s.mm (mm_input_at setup s frame);
   md = history_after (is_held apps.Md frame) s.md (md_input_at setup s frame);
   pipes = after_offers (left_by frame.held s.pipes) (offers_at setup s frame);

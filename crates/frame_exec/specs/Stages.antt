@@ -5,6 +5,7 @@ use Rattle.bus_pipes.specs.Delivery.{after_offers, drops_from}
 use Rattle.bus_pipes.specs.declared.names.Out.{Out}
 use Rattle.table_files.specs.Files.{loads_of}
 use Rattle.memory_window.specs.Landing.{land}
+use Rattle.sc_sequences.specs.Histories.{Beginning}
 use Rattle.mm_core.specs.Step.{mm_operations}
 use Rattle.packet_forms.specs.declared.name.Counter.{Counter}
 use Rattle.packet_log.specs.Items.{item_line}
@@ -19,7 +20,7 @@ use Rattle.frame_exec.specs.Tables.{TableSet}
 use Rattle.frame_exec.specs.Sending.{is_same, upset_by, sent_of, packet_in}
 use Rattle.packet_log.specs.Sent.{makes}
 use Rattle.frame_exec.specs.Wakes.{joined, unless, AreSendable, HasTaken, IsWoken}
-use Rattle.frame_exec.specs.Applications.{hs_stands, cs_stands, mm_stands, md_stands, hs_gives, cs_gives, mm_gives, md_gives, hs_reads, cs_reads, mm_reads, md_reads}
+use Rattle.frame_exec.specs.Applications.{hs_stands, cs_stands, sc_stands, mm_stands, md_stands, hs_gives, cs_gives, sc_gives, mm_gives, md_gives, hs_reads, cs_reads, sc_reads, mm_reads, md_reads}
 use Rattle.frame_exec.specs.Runs.{Setup, State, image_at, items_at, operations_at, left_by, sent_at, offers_at, after_frame}
 use Rattle.frame_exec.specs.Landable.{CanLand}
 use Rattle.frame_exec.specs.Standing.{AppsStand}
@@ -37,12 +38,13 @@ pub record IsSameRun (old new : Bench) : Type 0 where
 pub record KeepsApps (old new : Bench) : Type 0 where
   pub hs : new.hs.state ≡ old.hs.state
   pub cs : new.cs.state ≡ old.cs.state
+  pub sc : new.sc.state ≡ old.sc.state
   pub mm : new.mm.state ≡ old.mm.state
   pub md : new.md.state ≡ old.md.state
 
 -- what the applications gave, a list each, in their order
 abbrev pub items_in : Bench → List (List Out)
-items_in b = b.hs.out.items ∷ b.cs.out.items ∷ b.mm.out.items ∷ b.md.out.items ∷ []
+items_in b = b.hs.out.items ∷ b.cs.out.items ∷ b.sc.out.items ∷ b.mm.out.items ∷ b.md.out.items ∷ []
 
 -- the upsets of a frame were written
 pub record IsUpset (upsets : List Upset) (old new : Bench) : Type 0 where
@@ -59,6 +61,7 @@ pub record Takes (held : List App) (old new : Bench) : Type 0 where
   pub hs : HasTaken (list_any (is_same names.Hs) held) old.bus.hs new.hs.held new.hs.commands new.hs.out.items
   pub events : list_any (is_same names.Hs) held ≡ false → new.events ≡ old.bus.hs_ev
   pub cs : HasTaken (list_any (is_same names.Cs) held) old.bus.cs new.cs.held new.cs.commands new.cs.out.items
+  pub sc : HasTaken (list_any (is_same names.Sc) held) old.bus.sc new.sc.held new.sc.commands new.sc.out.items
   pub mm : HasTaken (list_any (is_same names.Mm) held) old.bus.mm new.mm.held new.mm.commands new.mm.out.items
   pub md : HasTaken (list_any (is_same names.Md) held) old.bus.md new.md.held new.md.commands new.md.out.items
   pub operations : new.ops ≡ []
@@ -70,6 +73,7 @@ pub record Takes (held : List App) (old new : Bench) : Type 0 where
 pub record IsClear (b : Bench) : Type 0 where
   pub hs : b.hs.out.items ≡ []
   pub cs : b.cs.out.items ≡ []
+  pub sc : b.sc.out.items ≡ []
   pub mm : b.mm.out.items ≡ []
   pub md : b.md.out.items ≡ []
   pub operations : b.ops ≡ []
@@ -87,6 +91,7 @@ pub record Steps (counters : List Counter) (old new : Bench) : Type 0 where
   pub run : IsSameRun old new
   pub hs : IsWoken (hs_stands old.tables) (hs_gives old.tables) old.hs.held (hs_reads (time_of old) old.hs.commands old.events counters) old.hs.state.value new.hs.state.value new.hs.out.items
   pub cs : IsWoken (cs_stands old.tables) (cs_gives old.tables) old.cs.held (cs_reads (time_of old) old.cs.commands old.ram) old.cs.state.value new.cs.state.value new.cs.out.items
+  pub sc : (begin : Beginning) → begin.tables ≡ old.tables.sc → IsWoken (sc_stands begin) (sc_gives begin) old.sc.held (sc_reads (time_of old) old.sc.commands) old.sc.state.value new.sc.state.value new.sc.out.items
   pub mm : (tables : TableSet) → IsWoken (mm_stands tables) (mm_gives tables) old.mm.held (mm_reads (loads_in old) (time_of old) old.mm.commands old.ram) old.mm.state.value new.mm.state.value new.mm.out.items
   pub md : (tables : TableSet) → IsWoken (md_stands tables) (md_gives tables) old.md.held (md_reads (time_of old) old.md.commands old.ram) old.md.state.value new.md.state.value new.md.out.items
   pub operations : new.ops ≡ unless old.mm.held (mm_operations (mm_reads (loads_in old) (time_of old) old.mm.commands old.ram))
@@ -98,6 +103,7 @@ pub record Steps (counters : List Counter) (old new : Bench) : Type 0 where
 pub record CanSend (b : Bench) : Type 0 where
   pub hs : AreSendable 1104 b.hs.out.items
   pub cs : AreSendable 33 b.cs.out.items
+  pub sc : AreSendable 32 b.sc.out.items
   pub mm : AreSendable 272 b.mm.out.items
   pub md : AreSendable 20 b.md.out.items
   pub operations : CanLand (loads_in b) b.ram b.ops

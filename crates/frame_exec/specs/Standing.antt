@@ -3,20 +3,22 @@ use Rattle.std.specs.Prelude.{◌≡◌, ℕ, Bool, ◌+◌, ◌<◌, true, fals
 use Rattle.memory_window.specs.Regions.{is_mapped}
 use Rattle.memory_window.specs.Memory.{regions_of}
 use Rattle.md_dwell.specs.State.{AllGiven}
+use Rattle.sc_sequences.specs.State.{IsReady as ScIsReady}
 use Rattle.packet_log.specs.Blocks.{Waiting, empty_block}
 use Rattle.packet_log.specs.Standing.{Stands as LogStands}
 use Rattle.scenario.specs.declared.progress.Header.{Header}
 use Rattle.scenario.specs.declared.frame.Upset.{Upset}
 use Rattle.scenario.specs.FrameLists.{Frame}
 use Rattle.frame_exec.specs.declared.bench.Bench.{Bench}
-use Rattle.frame_exec.specs.Applications.{hs_stands, cs_stands, mm_stands, md_stands}
+use Rattle.frame_exec.specs.Applications.{hs_stands, cs_stands, sc_stands, mm_stands, md_stands}
 use Rattle.frame_exec.specs.Ready.{CsIsReady}
-use Rattle.frame_exec.specs.Runs.{Setup, State, image_at, run_of}
+use Rattle.frame_exec.specs.Runs.{Setup, State, sc_begun, image_at, run_of}
 
 -- the state of each application stands for its history
 pub record AppsStand (b : Bench) (s : State) : Type 0 where
   pub hs : hs_stands s.tables s.hs b.hs.state.value
   pub cs : cs_stands s.tables s.cs b.cs.state.value
+  pub sc : sc_stands (sc_begun s) s.sc b.sc.state.value
   pub mm : mm_stands s.tables s.mm b.mm.state.value
   pub md : md_stands s.tables s.md b.md.state.value
 
@@ -32,6 +34,7 @@ pub record Has (b : Bench) (s : State) : Type 0 where
 -- each application can be woken
 pub record IsReady (b : Bench) : Type 0 where
   pub cs : CsIsReady (regions_of b.ram.areas) b.tables.eeprom b.tables.memory b.cs.state.value
+  pub sc : ScIsReady b.tables.sc b.sc.state.value
   pub md : AllGiven (regions_of b.ram.areas) b.md.state.value
 
 -- whether a frame of the bench failed

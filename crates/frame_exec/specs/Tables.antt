@@ -1,5 +1,5 @@
 -- The tables that files name, and what is refused of their entries.
-use Rattle.std.specs.Prelude.{◌≡◌, ℕ, ◌+◌, ◌-◌, Bool, true, false, List, [], ◌∷◌, replicate, slice_set, Option, Some, None, option_map, Result, Ok, Err}
+use Rattle.std.specs.Prelude.{◌≡◌, ℕ, ◌+◌, ◌-◌, Bool, true, List, [], ◌∷◌, map, replicate, slice_set, Option, Some, None, option_map, Result, Ok, Err}
 use Rattle.memory_window.specs.declared.regions.Region.{Region}
 use Rattle.table_files.specs.Headers.{kind_of_file, payload_of_file}
 use Rattle.table_files.specs.declared.fault.EntryFault.{EntryFault}
@@ -10,6 +10,9 @@ use Rattle.cs_slices.specs.Tables.{blank_segments, segments_of, segments_fault_o
 use Rattle.cs_slices.specs.Given.{SegmentsGiven, first_refused as first_refused_segment}
 use Rattle.md_dwell.specs.Tables.{DwellTable, blank_table, dwell_of, dwell_fault_of}
 use Rattle.md_dwell.specs.Given.{TablesGiven, first_refused}
+use Rattle.sc_tables.specs.Commands.{TimedCommand, of_timed, of_relative}
+use Rattle.sc_tables.specs.Absolute.{ats_of, ats_fault_of}
+use Rattle.sc_tables.specs.Relative.{rts_of, rts_fault_of}
 use Rattle.hs_tables.specs.Apps as apps
 use Rattle.hs_tables.specs.Events as events
 use Rattle.hs_tables.specs.Counters as counters
@@ -19,20 +22,25 @@ use Rattle.frame_exec.specs.declared.loading.TablesFault.{TablesFault}
 use Rattle.frame_exec.specs.declared.giving.OpenFault.{OpenFault}
 use Rattle.frame_exec.specs.declared.giving.OpenFault.TheVariants.{Region as AtRegion, NoMemory}
 
--- the tables of the applications: MD's four, CS's two, and those of HS
+-- the tables of the applications: MD's four, CS's two, those of HS, and the commands of SC's sequences, absolute ones first
 pub record TableSet : Type 0 where
   pub dwells : List DwellTable
   pub eeprom : List Segment
   pub memory : List Segment
   pub hs : HsTables
+  pub sc : List (List TimedCommand)
 
 -- the tables of HS where no file is named
 abbrev pub blank_hs : HsTables
 blank_hs = record { apps = apps.blank_rows; events = events.blank_rows; counts = counters.blank_rows; acts = actions.blank_rows }
 
+-- the sequences of SC where no file is named: none has a command
+abbrev pub blank_sc : List (List TimedCommand)
+blank_sc = replicate 66 []
+
 -- the tables where no file is named: all their bytes are 0
 unfoldable pub blank_tables : TableSet
-blank_tables = record { dwells = replicate 4 blank_table; eeprom = blank_segments; memory = blank_segments; hs = blank_hs }
+blank_tables = record { dwells = replicate 4 blank_table; eeprom = blank_segments; memory = blank_segments; hs = blank_hs; sc = blank_sc }
 
 -- what is said of a table of this kind and payload, or else of what is no table
 abbrev pub by_kind : {A : Type 0} → A → (TableKind → List ℕ → A) → Option TableKind → List ℕ → A
@@ -57,8 +65,8 @@ is_loaded AppMon = true
 is_loaded EventMon = true
 is_loaded ExeCount = true
 is_loaded MsgActs = true
-is_loaded (Ats n) = false
-is_loaded (Rts n) = false
+is_loaded (Ats n) = true
+is_loaded (Rts n) = true
 
 -- the fault of the entries of a table
 abbrev pub entry_fault : TableKind → List ℕ → Option EntryFault
@@ -69,8 +77,8 @@ entry_fault AppMon payload = apps.rows_fault_of payload
 entry_fault EventMon payload = events.rows_fault_of payload
 entry_fault ExeCount payload = counters.rows_fault_of payload
 entry_fault MsgActs payload = actions.rows_fault_of payload
-entry_fault (Ats n) payload = None
-entry_fault (Rts n) payload = None
+entry_fault (Ats n) payload = ats_fault_of payload
+entry_fault (Rts n) payload = rts_fault_of payload
 
 -- the tables with one more, where its entries have no fault
 abbrev pub with_table : TableSet → TableKind → List ℕ → TableSet
@@ -81,8 +89,8 @@ with_table tables AppMon payload = where_well (record tables { hs = record table
 with_table tables EventMon payload = where_well (record tables { hs = record tables.hs { events = events.rows_of payload } }) tables (events.rows_fault_of payload)
 with_table tables ExeCount payload = where_well (record tables { hs = record tables.hs { counts = counters.rows_of payload } }) tables (counters.rows_fault_of payload)
 with_table tables MsgActs payload = where_well (record tables { hs = record tables.hs { acts = actions.rows_of payload } }) tables (actions.rows_fault_of payload)
-with_table tables (Ats n) payload = tables
-with_table tables (Rts n) payload = tables
+with_table tables (Ats n) payload = where_well (record tables { sc = slice_set tables.sc (n - 1) (map of_timed (ats_of payload)) }) tables (ats_fault_of payload)
+with_table tables (Rts n) payload = where_well (record tables { sc = slice_set tables.sc (n + 1) (map of_relative (rts_of payload)) }) tables (rts_fault_of payload)
 
 -- the first entry of a table that memory of these regions refuses, where its entries have no fault
 abbrev pub refused_entry : List Region → TableKind → List ℕ → Option ℕ

@@ -8,6 +8,7 @@ use crate::giving::{OpenFault, refused_place};
 use crate::hs_slot::{HsReads, HsSlot};
 use crate::md_slot::{MdReads, MdSlot};
 use crate::mm_slot::{MmReads, MmSlot};
+use crate::sc_slot::{ScReads, ScSlot};
 use crate::slot::Slot;
 use crate::stages::{deliver_all, in_order, is_held, put_frame, stamp_all, take_unless, upset_all};
 use crate::tables::Tables;
@@ -20,6 +21,7 @@ use memory_window::{Ops, Ram};
 use mm_core::Mm;
 use packet_forms::Counter;
 use packet_log::{Block, Log};
+use sc_sequences::Sc;
 use scenario::{App, FrameInput, Header, Upset};
 use std::alloc::Global;
 use std::thread::Threads;
@@ -37,18 +39,17 @@ pub struct Bench<'f> {
     failed: bool,
     // how many threads may land operations at once
     workers: u32,
-    tables: Tables,
+    tables: Tables<'f>,
     files: &'f Files,
     hs: HsSlot,
     // the packets that HS took from its pipe of events
     events: Batch,
     cs: CsSlot,
+    sc: ScSlot,
     mm: MmSlot,
     md: MdSlot,
     ops: Ops,
     drops: Drops,
-    // what is taken for SC, which gives nothing yet
-    others: Batch,
     bus: Bus,
     log: Log,
     ram: Ram,
@@ -82,7 +83,7 @@ impl<'f> Bench<'f> {
     /// its first such entry; it is asked before memory is.
     pub fn open(
         alloc: Global,
-        tables: Tables,
+        tables: Tables<'f>,
         files: &'f Files,
         header: &Header,
         workers: u32,
@@ -99,7 +100,7 @@ impl<'f> Bench<'f> {
                 entry: place.entry,
             });
         }
-        match Bench::begin(alloc, &tables, files, header, workers) {
+        match Bench::begin(alloc, tables, files, header, workers) {
             Ok(bench) => Ok(bench),
             Err(NoMemory) => Err(OpenFault::NoMemory),
         }
@@ -108,29 +109,29 @@ impl<'f> Bench<'f> {
     // A bench that stands for no frames, on tables whose reads the header's map gives.
     fn begin(
         alloc: Global,
-        tables: &Tables,
+        tables: Tables<'f>,
         files: &'f Files,
         header: &Header,
         workers: u32,
     ) -> Result<Bench<'f>, NoMemory>
-        requires given { SetGiven header.now.map tables.now }
-        ensures { AreLoaded files.now tables.now → IfOk result (λ bench. Stands bench (setup_in header.now files.now) []) }
+        requires given { SetGiven header.now.map tables }
+        ensures { AreLoaded files.now tables.entry → IfOk result (λ bench. Stands bench (setup_in header.now files.now) []) }
     {
         Ok(Bench {
             epoch: header.epoch,
             number: 0,
             failed: false,
             workers,
-            tables: *tables,
-            files,
             hs: Slot::open(alloc, Hs::start(tables.hs(), 0, 3))?,
             events: Batch::new(),
             cs: Slot::open(alloc, Cs::start(tables.eeprom(), tables.memory()))?,
+            sc: Slot::open(alloc, Sc::start(tables.sc(), header.epoch))?,
             mm: Slot::open(alloc, Mm::start())?,
             md: Slot::open(alloc, Md::start(tables.dwells()))?,
+            tables,
+            files,
             ops: Ops::new(),
             drops: Drops::open(alloc, DROPS)?,
-            others: Batch::new(),
             bus: Bus::open(alloc)?,
             log: Log::start(),
             ram: Ram::new(alloc, header.map)?,
@@ -261,12 +262,8 @@ impl<'f> Bench<'f> {
         take_unless(&mut self.bus, PipeName::HsEv, hs_held, &mut self.events);
         self.cs
             .take(&mut self.bus, PipeName::Cs, is_held(App::Cs, held));
-        take_unless(
-            &mut self.bus,
-            PipeName::Sc,
-            is_held(App::Sc, held),
-            &mut self.others,
-        );
+        self.sc
+            .take(&mut self.bus, PipeName::Sc, is_held(App::Sc, held));
         self.mm
             .take(&mut self.bus, PipeName::Mm, is_held(App::Mm, held));
         self.md
@@ -297,8 +294,13 @@ impl<'f> Bench<'f> {
             window,
             time,
         };
+        let sc = ScReads {
+            tables: self.tables.sc(),
+            time,
+        };
         self.hs.step(hs, &mut ());
         self.cs.step(cs, &mut ());
+        self.sc.step(sc, &mut ());
         let files = self.files;
         let mm = MmReads {
             window,
@@ -329,6 +331,7 @@ impl<'f> Bench<'f> {
     {
         stamp_all(&mut self.log, &mut self.hs.out);
         stamp_all(&mut self.log, &mut self.cs.out);
+        stamp_all(&mut self.log, &mut self.sc.out);
         stamp_all(&mut self.log, &mut self.mm.out);
         stamp_all(&mut self.log, &mut self.md.out);
         self.bus.deliver(input.sends(), &mut self.drops);
@@ -336,6 +339,7 @@ impl<'f> Bench<'f> {
             &mut self.bus,
             &self.hs,
             &self.cs,
+            &self.sc,
             &self.mm,
             &self.md,
             &mut self.drops,
@@ -397,7 +401,7 @@ impl<'f> Bench<'f> {
         if self.is_silent() {
             return Ok(());
         }
-        let lists = in_order(&self.hs, &self.cs, &self.mm, &self.md);
+        let lists = in_order(&self.hs, &self.cs, &self.sc, &self.mm, &self.md);
         put_frame(
             &mut self.block,
             sink,
@@ -422,6 +426,7 @@ impl<'f> Bench<'f> {
     {
         self.hs.out.is_empty()
             && self.cs.out.is_empty()
+            && self.sc.out.is_empty()
             && self.mm.out.is_empty()
             && self.md.out.is_empty()
     }

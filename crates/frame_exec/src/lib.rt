@@ -11,6 +11,7 @@ pub mod laws;
 mod loading;
 mod md_slot;
 mod mm_slot;
+mod sc_slot;
 mod slot;
 mod stages;
 mod tables;

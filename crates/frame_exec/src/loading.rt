@@ -8,6 +8,7 @@ ghost use Rattle.frame_exec.specs.Tables.{entry_fault, entry_fault_in, tables_fa
 use cs_slices::load_segments;
 use hs_tables::{load_appmon, load_eventmon, load_execount, load_msgacts};
 use md_dwell::load_dwell;
+use sc_tables::{load_ats, load_rts};
 use table_files::{EntryFault, FileImage, Files, TableKind};
 
 /// Why the entries of the files are refused: the first faulty file, counted from 1, and in it the entry and the reason that
@@ -45,8 +46,8 @@ fn fault_of(kind: TableKind, payload: &[u8]) -> Option<EntryFault>
         TableKind::EventMon => load_eventmon(payload).err(),
         TableKind::ExeCount => load_execount(payload).err(),
         TableKind::MsgActs => load_msgacts(payload).err(),
-        TableKind::Ats(_) => None,
-        TableKind::Rts(_) => None,
+        TableKind::Ats(_) => load_ats(payload).err(),
+        TableKind::Rts(_) => load_rts(payload).err(),
     }
 }
 

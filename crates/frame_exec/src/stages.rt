@@ -21,6 +21,7 @@ use crate::cs_slot::CsSlot;
 use crate::hs_slot::HsSlot;
 use crate::md_slot::MdSlot;
 use crate::mm_slot::MmSlot;
+use crate::sc_slot::ScSlot;
 use bus_pipes::{Batch, Bus, Dropped, Drops, Out, Outbox, PipeName};
 use fsw_outside::{Failed, Sink};
 use memory_window::Ram;
@@ -115,15 +116,17 @@ fn deliver_items(bus: &mut Bus, items: &[Out], drops: &mut Drops)
 pub(crate) fn in_order<'a>(
     hs: &'a HsSlot,
     cs: &'a CsSlot,
+    sc: &'a ScSlot,
     mm: &'a MmSlot,
     md: &'a MdSlot,
-) -> [&'a [Out]; 4]
-    ensures shown { shown result ≡ joined (hs.now.out.items ∷ cs.now.out.items ∷ mm.now.out.items ∷ md.now.out.items ∷ []) }
-    ensures four { length result ≡ 4 }
+) -> [&'a [Out]; 5]
+    ensures shown { shown result ≡ joined (hs.now.out.items ∷ cs.now.out.items ∷ sc.now.out.items ∷ mm.now.out.items ∷ md.now.out.items ∷ []) }
+    ensures five { length result ≡ 5 }
 {
     [
         hs.out.items(),
         cs.out.items(),
+        sc.out.items(),
         mm.out.items(),
         md.out.items(),
     ]
@@ -134,16 +137,17 @@ pub(crate) fn deliver_all(
     bus: &mut Bus,
     hs: &HsSlot,
     cs: &CsSlot,
+    sc: &ScSlot,
     mm: &MmSlot,
     md: &MdSlot,
     drops: &mut Drops,
 )
-    requires { length drops.old.items + length (joined (hs.now.out.items ∷ cs.now.out.items ∷ mm.now.out.items ∷ md.now.out.items ∷ [])) ≤ drops.old.room }
-    ensures after { bus.new ≡ after_offers bus.old (flat_map packet_in (joined (hs.now.out.items ∷ cs.now.out.items ∷ mm.now.out.items ∷ md.now.out.items ∷ []))) }
-    ensures drops { drops.new ≡ adding drops.old (drops_from bus.old (flat_map packet_in (joined (hs.now.out.items ∷ cs.now.out.items ∷ mm.now.out.items ∷ md.now.out.items ∷ [])))) }
+    requires { length drops.old.items + length (joined (hs.now.out.items ∷ cs.now.out.items ∷ sc.now.out.items ∷ mm.now.out.items ∷ md.now.out.items ∷ [])) ≤ drops.old.room }
+    ensures after { bus.new ≡ after_offers bus.old (flat_map packet_in (joined (hs.now.out.items ∷ cs.now.out.items ∷ sc.now.out.items ∷ mm.now.out.items ∷ md.now.out.items ∷ []))) }
+    ensures drops { drops.new ≡ adding drops.old (drops_from bus.old (flat_map packet_in (joined (hs.now.out.items ∷ cs.now.out.items ∷ sc.now.out.items ∷ mm.now.out.items ∷ md.now.out.items ∷ [])))) }
     ensures room { drops.new.room ≡ drops.old.room }
 {
-    deliver_lists(bus, &in_order(hs, cs, mm, md), drops);
+    deliver_lists(bus, &in_order(hs, cs, sc, mm, md), drops);
 }
 
 /// Offers the packets of lists of items that were sent to their pipes, one list after another.

@@ -18,37 +18,39 @@ use hs_tables::{
     load_msgacts,
 };
 use md_dwell::{Dwell, load_dwell};
+use sc_tables::{RtsSet, ScTables, load_ats, load_rts};
 use std::marker::Model;
 use table_files::{FileImage, Files, TableKind};
 
-/// The tables of the applications.
-#[derive(Clone, Copy)]
-pub struct Tables {
+/// The tables of the applications. The sequences of SC borrow the files.
+#[derive(Drop)]
+pub struct Tables<'f> {
     dwells: [Dwell; 4],
     eeprom: Segments,
     memory: Segments,
     hs: HsTables,
+    sc: ScTables<'f>,
 }
 
-impl Model for Tables {
+impl<'f> Model for Tables<'f> {
     ghost use Rattle.std.specs.Prelude.{◌≡◌, length};
     ghost use Rattle.frame_exec.specs.Tables.{TableSet};
 
     ghost Value = { TableSet };
 
-    ghost view = { λ t. record { dwells = t.dwells; eeprom = t.eeprom; memory = t.memory; hs = t.hs } };
+    ghost view = { λ t. record { dwells = t.dwells; eeprom = t.eeprom; memory = t.memory; hs = t.hs; sc = t.sc } };
 
     ghost invariant = { λ t. length t.dwells ≡ 4 };
 
-    ghost inverse = { λ t. record { dwells = t.dwells; eeprom = t.eeprom; memory = t.memory; hs = t.hs } };
+    ghost inverse = { λ t. record { dwells = t.dwells; eeprom = t.eeprom; memory = t.memory; hs = t.hs; sc = t.sc } };
 }
 
-impl Tables {
+impl<'f> Tables<'f> {
     ghost use Rattle.frame_exec.specs.Tables.{blank_tables, tables_of};
 
     /// The tables where no file is named: all their bytes are 0.
     #[tactic(auto, unfolding(crate::specs::Tables::blank_tables))]
-    fn blank() -> Tables
+    fn blank() -> Tables<'f>
         ensures { result ≡ blank_tables }
     {
         Tables {
@@ -56,12 +58,13 @@ impl Tables {
             eeprom: Segments::blank(),
             memory: Segments::blank(),
             hs: HsTables::blank(),
+            sc: ScTables::new([None; 2], RtsSet::empty()),
         }
     }
 
     /// The tables that the files name, or the first fault that their entries have. A table that isn't named has all its bytes 0, and
     /// of files of one kind the first counts. It takes no memory.
-    pub fn load(files: &Files) -> Result<Tables, TablesFault>
+    pub fn load(files: &'f Files) -> Result<Tables<'f>, TablesFault>
         ensures tables { IfOk result (λ tables. tables ≡ tables_of files.now) }
         ensures well { IfOk result (λ tables. tables_fault files.now ≡ None) }
         ensures fault { IfErr result (λ fault. tables_fault files.now ≡ Some fault) }
@@ -74,7 +77,7 @@ impl Tables {
     }
 
     // The tables that the files name; the entries of none of them have a fault.
-    fn named(files: &Files) -> Tables
+    fn named(files: &'f Files) -> Tables<'f>
         ensures { result ≡ tables_of files.now }
     {
         let mut tables = Tables::blank();
@@ -115,8 +118,15 @@ impl Tables {
         &self.hs
     }
 
+    /// The sequences of SC.
+    pub(crate) fn sc(&self) -> &ScTables<'f>
+        ensures { result.now ≡ self.now.sc }
+    {
+        &self.sc
+    }
+
     // Puts the table of a file in its place, if it is one.
-    fn put_file(&mut self, image: FileImage<'_>)
+    fn put_file(&mut self, image: FileImage<'f>)
         requires { (file : List ℕ) × Shows file image }
         ensures { (file : List ℕ) → Shows file image.entry → self.new ≡ with_file self.old file }
     {
@@ -127,7 +137,7 @@ impl Tables {
     }
 
     // Puts a table in its place.
-    fn put(&mut self, kind: TableKind, payload: &[u8])
+    fn put(&mut self, kind: TableKind, payload: &'f [u8])
         requires { IsTable kind (length payload.now) }
         ensures { self.new ≡ with_table self.old kind payload.now }
     {
@@ -139,8 +149,8 @@ impl Tables {
             TableKind::EventMon => put_events(&mut self.hs.events, payload),
             TableKind::ExeCount => put_counts(&mut self.hs.counts, payload),
             TableKind::MsgActs => put_acts(&mut self.hs.acts, payload),
-            TableKind::Ats(_) => {}
-            TableKind::Rts(_) => {}
+            TableKind::Ats(n) => self.put_ats(n, payload),
+            TableKind::Rts(n) => self.put_rts(n, payload),
         }
     }
 
@@ -151,7 +161,33 @@ impl Tables {
         ensures { self.new ≡ with_table self.old (TableKind.Dwell n) payload.now }
     {
         match load_dwell(payload) {
-            Ok(table) => self.dwells[n as usize - 1] = table,
+            Ok(table) => {
+                let dwells = &mut self.dwells[..];
+                dwells[n as usize - 1] = table;
+            }
+            Err(_) => {}
+        }
+    }
+
+    // Puts absolute sequence n, 1 or 2, in its place.
+    fn put_ats(&mut self, n: u8, payload: &'f [u8])
+        requires { (1 ≤ n) × (n ≤ 2) }
+        ensures { self.new ≡ with_table self.old (TableKind.Ats n) payload.now }
+    {
+        match load_ats(payload) {
+            Ok(ats) => self.sc.put_ats(n, ats),
+            Err(_) => {}
+        }
+    }
+
+    // Puts relative sequence n, from 1 to 64, in its place.
+    fn put_rts(&mut self, n: u8, payload: &'f [u8])
+        requires number { (1 ≤ n) × (n ≤ 64) }
+        requires size { length payload.now ≤ 2048 }
+        ensures { self.new ≡ with_table self.old (TableKind.Rts n) payload.now }
+    {
+        match load_rts(payload) {
+            Ok(rts) => self.sc.put_rts(n, rts),
             Err(_) => {}
         }
     }

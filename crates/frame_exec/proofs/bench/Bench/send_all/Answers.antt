@@ -13,30 +13,35 @@ returns c =
     let old = c.args.self.now in
     let hs = old.hs.out.items in
     let cs = old.cs.out.items in
+    let sc = old.sc.out.items in
     let mm = old.mm.out.items in
     let md = old.md.out.items in
     let sends = c.sends.ensures.value in
     let offered = c.deliver.ensures.after ∙ ap (after_offers old.bus) sends in
     record {
       run = record { waits = refl; epoch = refl; number = refl; failed = refl; tables = refl; files = refl };
-      apps = record { hs = refl; cs = refl; mm = refl; md = refl };
+      apps = record { hs = refl; cs = refl; sc = refl; mm = refl; md = refl };
       operations = refl;
       sent = λ made stands.
           let one = c.stamp_all.ensures.stands made stands in
           let two = c.stamp_all-2.ensures.stands _ one in
           let three = c.stamp_all-3.ensures.stands _ two in
-          sent_then made hs _ (cs ++ (mm ++ (md ++ []))) _ (c.stamp_all.ensures.sent made stands)
-          (sent_then (made ++ flat_map makes hs) cs _ (mm ++ (md ++ [])) _ (c.stamp_all-2.ensures.sent _ one)
-          (sent_then ((made ++ flat_map makes hs) ++ flat_map makes cs) mm _ (md ++ []) _ (c.stamp_all-3.ensures.sent _ two)
-          (sent_then (((made ++ flat_map makes hs) ++ flat_map makes cs) ++ flat_map makes mm) md _ [] [] (c.stamp_all-4.ensures.sent _ three) (sym (sent_none _)))));
+          let four = c.stamp_all-4.ensures.stands _ three in
+          sent_then made hs _ (cs ++ (sc ++ (mm ++ (md ++ [])))) _ (c.stamp_all.ensures.sent made stands)
+          (sent_then (made ++ flat_map makes hs) cs _ (sc ++ (mm ++ (md ++ []))) _ (c.stamp_all-2.ensures.sent _ one)
+          (sent_then ((made ++ flat_map makes hs) ++ flat_map makes cs) sc _ (mm ++ (md ++ [])) _ (c.stamp_all-3.ensures.sent _ two)
+          (sent_then (((made ++ flat_map makes hs) ++ flat_map makes cs) ++ flat_map makes sc) mm _ (md ++ []) _ (c.stamp_all-4.ensures.sent _ three)
+          (sent_then ((((made ++ flat_map makes hs) ++ flat_map makes cs) ++ flat_map makes sc) ++ flat_map makes mm) md _ [] [] (c.stamp_all-5.ensures.sent _ four) (sym (sent_none _))))));
       made = λ made stands.
           let one = c.stamp_all.ensures.stands made stands in
           let two = c.stamp_all-2.ensures.stands _ one in
           let three = c.stamp_all-3.ensures.stands _ two in
           let four = c.stamp_all-4.ensures.stands _ three in
-          made_two made hs (cs ++ (mm ++ (md ++ []))) _ (made_two (made ++ flat_map makes hs) cs (mm ++ (md ++ [])) _
-          (made_two ((made ++ flat_map makes hs) ++ flat_map makes cs) mm (md ++ []) _
-          (made_two (((made ++ flat_map makes hs) ++ flat_map makes cs) ++ flat_map makes mm) md [] _ (subst (λ (packets : List (List ℕ)). LogStands packets c.stamp_all-4.new.log) (sym (append-nil _)) four))));
+          let five = c.stamp_all-5.ensures.stands _ four in
+          made_two made hs (cs ++ (sc ++ (mm ++ (md ++ [])))) _ (made_two (made ++ flat_map makes hs) cs (sc ++ (mm ++ (md ++ []))) _
+          (made_two ((made ++ flat_map makes hs) ++ flat_map makes cs) sc (mm ++ (md ++ [])) _
+          (made_two (((made ++ flat_map makes hs) ++ flat_map makes cs) ++ flat_map makes sc) mm (md ++ []) _
+          (made_two ((((made ++ flat_map makes hs) ++ flat_map makes cs) ++ flat_map makes sc) ++ flat_map makes mm) md [] _ (subst (λ (packets : List (List ℕ)). LogStands packets c.stamp_all-5.new.log) (sym (append-nil _)) five)))));
       pipes = offers_two old.bus c.deliver.new.self _ c.args.input.now.sends _ offered c.deliver_all.ensures.after;
       drops = drops_two old.bus c.deliver.new.self c.args.self.now.drops c.deliver.new.drops _ c.args.input.now.sends _ c.requires.none offered
           (c.deliver.ensures.drops ∙ ap (λ (packets : List (List ℕ)). adding c.args.self.now.drops (drops_from old.bus packets)) sends) c.deliver_all.ensures.drops;

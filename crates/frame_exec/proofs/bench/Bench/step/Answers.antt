@@ -1,4 +1,4 @@
-use Rattle.std.proofs.Common.{◌≡◌, ℕ, ◌+◌, List, refl, subst}
+use Rattle.std.proofs.Common.{◌≡◌, ℕ, ◌+◌, List, refl, sym, ◌∙◌, subst}
 use Rattle.memory_window.specs.Memory.{Memory}
 use Rattle.mm_core.specs.Step.{mm_operations}
 use Rattle.frame_exec.specs.Applications.{hs_stands, cs_stands, mm_stands, md_stands, hs_gives, cs_gives, mm_gives, md_gives, hs_reads, cs_reads, mm_reads, md_reads}
@@ -18,12 +18,13 @@ returns-clause-steps c =
           c.packets.ensures.value (c.step.ensures.wakes old.tables c.hs.ensures);
       cs = subst (λ (m : Memory). IsWoken (cs_stands old.tables) (cs_gives old.tables) old.cs.held (cs_reads time old.cs.commands m) old.cs.state.value c.step-2.new.self.state.value c.step-2.new.self.out.items) seen
           (c.step-2.ensures.wakes old.tables (c.eeprom.ensures, c.memory.ensures));
-      mm = λ tables. subst (λ (m : Memory). IsWoken (mm_stands tables) (mm_gives tables) old.mm.held (mm_reads (loads_in old) time old.mm.commands m) old.mm.state.value c.step-3.new.self.state.value c.step-3.new.self.out.items) seen
-          (c.step-3.ensures.wakes tables tt);
-      md = λ tables. subst (λ (m : Memory). IsWoken (md_stands tables) (md_gives tables) old.md.held (md_reads time old.md.commands m) old.md.state.value c.step-4.new.self.state.value c.step-4.new.self.out.items) seen
+      sc = λ begin same. c.step-3.ensures.wakes begin (c.sc.ensures ∙ sym same);
+      mm = λ tables. subst (λ (m : Memory). IsWoken (mm_stands tables) (mm_gives tables) old.mm.held (mm_reads (loads_in old) time old.mm.commands m) old.mm.state.value c.step-4.new.self.state.value c.step-4.new.self.out.items) seen
           (c.step-4.ensures.wakes tables tt);
-      operations = subst (λ (m : Memory). c.step-3.new.beside ≡ unless old.mm.held (mm_operations (mm_reads (loads_in old) time old.mm.commands m))) seen
-          (left_unless old.mm.held c.step-3.new.beside _ c.step-3.ensures.held (λ free. (c.step-3.ensures.fills free).0));
+      md = λ tables. subst (λ (m : Memory). IsWoken (md_stands tables) (md_gives tables) old.md.held (md_reads time old.md.commands m) old.md.state.value c.step-5.new.self.state.value c.step-5.new.self.out.items) seen
+          (c.step-5.ensures.wakes tables tt);
+      operations = subst (λ (m : Memory). c.step-4.new.beside ≡ unless old.mm.held (mm_operations (mm_reads (loads_in old) time old.mm.commands m))) seen
+          (left_unless old.mm.held c.step-4.new.beside _ c.step-4.ensures.held (λ free. (c.step-4.ensures.fills free).0));
       pipes = refl;
       log = refl;
       memory = refl;

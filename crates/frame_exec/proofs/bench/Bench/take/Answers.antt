@@ -7,21 +7,23 @@ pub returns : goal.returns
 returns c =
     let events = ap (λ (p : Pipes). p.hs_ev) c.take.ensures.pipes in
     let cs = ap (λ (p : Pipes). p.cs) c.take_unless.ensures.pipes ∙ ap (λ (p : Pipes). p.cs) c.take.ensures.pipes in
-    let mm = ap (λ (p : Pipes). p.mm) c.take_unless-2.ensures.pipes ∙ ap (λ (p : Pipes). p.mm) c.take-2.ensures.pipes ∙ ap (λ (p : Pipes). p.mm) c.take_unless.ensures.pipes ∙ ap (λ (p : Pipes). p.mm) c.take.ensures.pipes in
-    let md = ap (λ (p : Pipes). p.md) c.take-3.ensures.pipes ∙ ap (λ (p : Pipes). p.md) c.take_unless-2.ensures.pipes ∙ ap (λ (p : Pipes). p.md) c.take-2.ensures.pipes ∙ ap (λ (p : Pipes). p.md) c.take_unless.ensures.pipes
+    let sc = ap (λ (p : Pipes). p.sc) c.take-2.ensures.pipes ∙ ap (λ (p : Pipes). p.sc) c.take_unless.ensures.pipes ∙ ap (λ (p : Pipes). p.sc) c.take.ensures.pipes in
+    let mm = ap (λ (p : Pipes). p.mm) c.take-3.ensures.pipes ∙ ap (λ (p : Pipes). p.mm) c.take-2.ensures.pipes ∙ ap (λ (p : Pipes). p.mm) c.take_unless.ensures.pipes ∙ ap (λ (p : Pipes). p.mm) c.take.ensures.pipes in
+    let md = ap (λ (p : Pipes). p.md) c.take-4.ensures.pipes ∙ ap (λ (p : Pipes). p.md) c.take-3.ensures.pipes ∙ ap (λ (p : Pipes). p.md) c.take-2.ensures.pipes ∙ ap (λ (p : Pipes). p.md) c.take_unless.ensures.pipes
     ∙ ap (λ (p : Pipes). p.md) c.take.ensures.pipes in
     record {
       run = record { waits = refl; epoch = refl; number = refl; failed = refl; tables = refl; files = refl };
-      apps = record { hs = c.take.ensures.state; cs = c.take-2.ensures.state; mm = c.take-3.ensures.state; md = c.take-4.ensures.state };
+      apps = record { hs = c.take.ensures.state; cs = c.take-2.ensures.state; sc = c.take-3.ensures.state; mm = c.take-4.ensures.state; md = c.take-5.ensures.state };
       hs = taken_by _ _ _ _ _ _ _ c.is_held-hs_held.ensures refl c.take.ensures.takes;
       events = λ free. c.take_unless.ensures.taken (c.is_held-hs_held.ensures ∙ free) ∙ events;
       cs = taken_by _ _ _ _ _ _ _ c.is_held.ensures cs c.take-2.ensures.takes;
-      mm = taken_by _ _ _ _ _ _ _ c.is_held-3.ensures mm c.take-3.ensures.takes;
-      md = taken_by _ _ _ _ _ _ _ c.is_held-4.ensures md c.take-4.ensures.takes;
+      sc = taken_by _ _ _ _ _ _ _ c.is_held-2.ensures sc c.take-3.ensures.takes;
+      mm = taken_by _ _ _ _ _ _ _ c.is_held-3.ensures mm c.take-4.ensures.takes;
+      md = taken_by _ _ _ _ _ _ _ c.is_held-4.ensures md c.take-5.ensures.takes;
       operations = c.clear.ensures;
-      pipes = left_is c.args.held.now c.args.self.now.bus c.take.new.bus c.take_unless.new.bus c.take-2.new.bus c.take_unless-2.new.bus c.take-3.new.bus c.take-4.new.bus c.is_held-hs_held.result c.is_held.result c.is_held-2.result
+      pipes = left_is c.args.held.now c.args.self.now.bus c.take.new.bus c.take_unless.new.bus c.take-2.new.bus c.take-3.new.bus c.take-4.new.bus c.take-5.new.bus c.is_held-hs_held.result c.is_held.result c.is_held-2.result
           c.is_held-3.result c.is_held-4.result c.is_held-hs_held.ensures c.is_held.ensures c.is_held-2.ensures c.is_held-3.ensures c.is_held-4.ensures c.take.ensures.pipes c.take_unless.ensures.pipes c.take-2.ensures.pipes
-          c.take_unless-2.ensures.pipes c.take-3.ensures.pipes c.take-4.ensures.pipes;
+          c.take-3.ensures.pipes c.take-4.ensures.pipes c.take-5.ensures.pipes;
       log = refl;
       memory = refl;
     }

@@ -1,0 +1,62 @@
+//! SC as the bench wakes it.
+
+ghost use Rattle.std.specs.Prelude.{◌≡◌};
+ghost use Rattle.sc_sequences.specs.Histories.{Input, Beginning};
+ghost use Rattle.sc_sequences.specs.State.{IsReady};
+ghost use Rattle.frame_exec.specs.Applications.{sc_stands, sc_gives, sc_reads};
+
+use crate::application::Application;
+use crate::slot::Slot;
+use bus_pipes::Outbox;
+use packet_forms::Packet;
+use sc_sequences::Sc;
+use sc_tables::ScTables;
+
+/// How many items SC gives in a frame at most.
+pub(crate) const SC_ITEMS: u32 = 32;
+
+pub(crate) type ScSlot = Slot<Sc, SC_ITEMS>;
+
+/// What SC reads in a frame beside its packets: the sequences, and its time.
+#[derive(Clone, Copy, Drop)]
+pub(crate) struct ScReads<'a, 'f> {
+    pub(crate) tables: &'a ScTables<'f>,
+    pub(crate) time: u32,
+}
+
+impl<'a, 'f> Application<ScReads<'a, 'f>, ()> for Sc {
+    ghost Setup = { Beginning };
+
+    ghost Input = { Input };
+
+    ghost stands = { sc_stands };
+
+    ghost items = { sc_gives };
+
+    ghost most = { 32 };
+
+    ghost belongs = { λ setup reads. reads.tables.now ≡ setup.tables };
+
+    ghost input = { λ reads commands. sc_reads reads.time commands };
+
+    ghost can_step = { λ reads sc. IsReady reads.tables.now sc };
+
+    ghost is_clear = { λ beside. Unit {0} };
+
+    ghost fills = { λ reads commands beside. Unit {0} };
+
+    fn is_idle(&self, reads: ScReads<'a, 'f>, commands: &[Packet]) -> bool {
+        self.is_idle(commands, reads.time)
+    }
+
+    fn advance(
+        &mut self,
+        reads: ScReads<'a, 'f>,
+        commands: &[Packet],
+        out: &mut Outbox,
+        beside: &mut (),
+    ) {
+        let _ = beside;
+        self.advance(reads.tables, commands, reads.time, out);
+    }
+}
