@@ -8,6 +8,8 @@ use Rattle.scenario.specs.Texts.{Text, Given, Head, Open, reading, read_bytes, r
 use Rattle.scenario.specs.Standing.{Stands}
 use Rattle.rehearsal.specs.Fed.{Fed, nothing_read}
 use Rattle.rehearsal.specs.Text.{Holds, IsRead}
+use Rattle.rehearsal.specs.declared.text.Next.{Next}
+use Rattle.rehearsal.specs.declared.text.Next.TheVariants as nexts
 use Rattle.rehearsal.specs.declared.report.Status.TheVariants as statuses
 use Rattle.rehearsal.specs.declared.report.Report.{Report}
 use Rattle.rehearsal.specs.Run.{Begins}
@@ -132,3 +134,7 @@ not_opened files report whole faults.NoMemory refused held is opens all = out_of
 pub not_opened_ahead : (report : Report) (whole : Text) (fault : OpenFault) → report ≡ fault_report fault → length whole.bytes ≤ slice_index (reading whole).stops 0 + 4096 → ReadsAhead report whole
 not_opened_ahead report whole (faults.Region file entry) is few = rw is few
 not_opened_ahead report whole faults.NoMemory is few = rw is few
+
+-- a header is no want of bytes
+pub header_is_there : ◌≡◌ {A = Next} nexts.Header nexts.Dry → ⊥
+header_is_there is = cc

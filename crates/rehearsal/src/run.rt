@@ -99,12 +99,12 @@ fn report_of(fault: OpenFault) -> Report
 }
 
 /// Reads the header of the text, and runs the frames behind it.
-fn run_open<R: Threads + Sync, S: Source, O: Sink, G: Gate>(
+fn run_open<'f, R: Threads + Sync, S: Source, O: Sink, G: Gate>(
     rt: &R,
     alloc: Global,
     workers: u32,
-    tables: Tables,
-    files: &Files,
+    tables: Tables<'f>,
+    files: &'f Files,
     source: &mut S,
     out: &mut O,
     gate: &G,
@@ -141,12 +141,12 @@ fn run_open<R: Threads + Sync, S: Source, O: Sink, G: Gate>(
 }
 
 /// Opens the scenario of this name, and runs it.
-pub fn run_scenario<R: Threads + Sync, S: Shelf, O: Sink, G: Gate>(
+pub fn run_scenario<'f, R: Threads + Sync, S: Shelf, O: Sink, G: Gate>(
     rt: &R,
     alloc: Global,
     workers: u32,
-    tables: Tables,
-    files: &Files,
+    tables: Tables<'f>,
+    files: &'f Files,
     name: &str,
     shelf: &mut S,
     out: &mut O,

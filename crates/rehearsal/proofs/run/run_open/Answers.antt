@@ -7,7 +7,7 @@ use Rattle.rehearsal.specs.Outcome.{IsTextOf}
 use Rattle.rehearsal.proofs.TextFacts.{no_first_frame}
 use Rattle.rehearsal.proofs.Endings.{not_open_at_end, not_open_at_bad}
 use Rattle.rehearsal.proofs.Outcomes.{whole_of, is_closed, text_of, closed_same, open_after, tells_some, reading_same, reading_whole, items_whole, refused_none, read_failed, done, refused_at}
-use Rattle.rehearsal.proofs.Beginnings.{unread, begins, read_none, no_frames, no_log, header_refuses, header_refuses_whole, not_opened, not_opened_ahead, out_of_memory, opened}
+use Rattle.rehearsal.proofs.Beginnings.{unread, begins, read_none, no_frames, no_log, header_refuses, header_refuses_whole, not_opened, not_opened_ahead, out_of_memory, opened, header_is_there}
 use Rattle.rehearsal.proofs.Ahead.{ahead_by, bad_ahead, header_ahead, nothing_ahead}
 use Rattle.rehearsal.proofs.run.run_open.Goals as goal
 
@@ -88,7 +88,7 @@ returns-clause-outcome g c =
     let head = c.header.ensures a.0 (item ∷ []) a.1.0.stands some in
     let begun = opened c.args.files.now c.in-Ok-open.bench item c.header.result.now.epoch c.header.result.now.map head.0 c.in-Ok-open.ensures.follows c.in-Ok-open.ensures.stands.waits head.1 c.in-Ok-open.ensures.refused in
     let ran = c.run_frames.ensures.outcome c.args.files.now a.0 (item ∷ []) a.1.0 begun in
-    let well = c.in-Header.ensures.well (λ other. cc) in
+    let well = c.in-Header.ensures.well header_is_there in
     told_then a.2 ran (λ start middle after first second.
     let o = second start (first start (read_none c.new-feed.result start c.new-feed.ensures)) in
     (o.0, subst (λ (n : ℕ). IsTextOf n (g.S.Source.faults c.run_frames.new.source) start after o.0) well o.1, o.2, o.3))
@@ -104,7 +104,7 @@ returns-in-Err-clause-outcome g c =
     told_map a.2 (λ start after first.
     let read = first start (read_none c.new-feed.result start c.new-feed.ensures) in
     let end : Bool = is_closed after.rest (g.S.Source.faults c.args.source.now) (g.S.Source.faults c.read_on.new.source) in
-    let closed = closed_same c.read_on.new.reader c.read_on.new.feed a.0 (item ∷ []) start after (g.S.Source.faults c.args.source.now) (g.S.Source.faults c.read_on.new.source) a.1.0 read (c.in-Header.ensures.well (λ other. cc)) in
+    let closed = closed_same c.read_on.new.reader c.read_on.new.feed a.0 (item ∷ []) start after (g.S.Source.faults c.args.source.now) (g.S.Source.faults c.read_on.new.source) a.1.0 read (c.in-Header.ensures.well header_is_there) in
     let grown = items_whole a.0 c.read_on.new.feed.pending end closed in
     let all = header_refuses_whole c.args.files.now item first_of_now.0 grown.0 (reading a.0).items (reading (whole_of a.0 c.read_on.new.feed.pending end)).items first_of_now.1 grown.1 in (
       whole_of a.0 c.read_on.new.feed.pending end,
