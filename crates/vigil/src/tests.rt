@@ -12,5 +12,6 @@ mod loads;
 mod refusals;
 mod rows;
 mod runs;
+mod sequences;
 mod tables;
 mod workers;

@@ -5,7 +5,7 @@ use super::runs::{
 };
 use super::tables::{
     Action, Count, Dwelling, Monitor, Segment, actions_file, apps_file, counts_file, dwell_file,
-    events_file, headers, pad, segments_file,
+    events_file, headers, pad, segments_file, sequence_file,
 };
 use rehearsal::{Report, Status};
 use std::process::Abort;
@@ -369,6 +369,65 @@ fn long_file_is_not_read_on(rt: HostRuntime) -> Result<(), Fail> {
         };
         let ran = run_beside(&rt, &["s", "a"], SCENARIO, &[&long], &outside)?;
         assert_eq!(rt; ran.report, Report::file_unread(1));
+    }
+    Ok(())
+}
+
+/// Sequences that are refused: the table, its payload, and the entry and the reason that are told.
+const FAULTY_SEQUENCES: [(&str, &[u8], u32, u8); 8] = [
+    // Number 0, a number that is there already, a telemetry packet, and too few bytes.
+    (
+        "SC.ATS_TBL1",
+        b"\x00\x00\x00\x00\x03\xEA\x18\x88\xC0\x00\x00\x01\x00\xAE",
+        1,
+        11,
+    ),
+    (
+        "SC.ATS_TBL2",
+        b"\x00\x07\x00\x00\x03\xEA\x18\x88\xC0\x00\x00\x01\x00\xAE\x00\x07\x00\x00\x03\xEB\x18\x88\xC0\x00\x00\x01\x00\xAE",
+        2,
+        12,
+    ),
+    (
+        "SC.ATS_TBL1",
+        b"\x00\x07\x00\x00\x03\xEA\x18\x88\xC0\x00\x00\x01\x00\xAE\x00\x08\x00\x00\x03\xEB\x08\x88\xC0\x00\x00\x01\x00\xAE",
+        2,
+        13,
+    ),
+    (
+        "SC.ATS_TBL1",
+        b"\x00\x00\x00\x00\x03\xEA\x18\x88\xC0\x00\x00\x01\x00",
+        1,
+        14,
+    ),
+    // Another version, and a packet that is longer than what remains.
+    (
+        "SC.RTS_TBL001",
+        b"\x00\x00\x38\x88\xC0\x00\x00\x01\x00\xAE",
+        1,
+        13,
+    ),
+    (
+        "SC.RTS_TBL064",
+        b"\x00\x00\x18\x88\xC0\x00\x00\x01\x00\xAE\x00\x00\x18\x88\xC0\x00\x00\x02\x00\xAE",
+        2,
+        14,
+    ),
+    // Names that aren't known.
+    ("SC.RTS_TBL065", b"", 0, 5),
+    ("SC.ATS_TBL3", b"", 0, 5),
+];
+
+#[test]
+fn sequences_are_refused(rt: HostRuntime) -> Result<(), Fail> {
+    let first = sequence_file(
+        rt.alloc(),
+        "SC.RTS_TBL063",
+        b"\x00\x00\x18\x88\xC0\x00\x00\x01\x00\xAE\x00",
+    )?;
+    for (name, payload, line, reason) in FAULTY_SEQUENCES {
+        let file = sequence_file(rt.alloc(), name, payload)?;
+        assert_refused(&rt, &["s", "a", "b"], &[&first, &file], (2, line, reason))?;
     }
     Ok(())
 }

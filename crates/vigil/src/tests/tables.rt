@@ -165,3 +165,39 @@ pub fn actions_file(alloc: Global, entries: &[Action<'_>]) -> Result<Vec<u8>, Fa
     pad(&mut bytes, 660)?;
     Ok(bytes)
 }
+
+/// A command of an absolute sequence: its number, its time and its packet.
+pub type Timed<'a> = (u16, u32, &'a [u8]);
+
+/// A command of a relative sequence: its seconds and its packet.
+pub type Relative<'a> = (u16, &'a [u8]);
+
+/// A file of a sequence with this payload, of at most 65,536 bytes.
+pub fn sequence_file(alloc: Global, name: &str, payload: &[u8]) -> Result<Vec<u8>, Fail> {
+    let mut bytes = headers(alloc, name, 0, payload.len().min(65_536) as u32)?;
+    bytes.extend_from_slice(payload)?;
+    Ok(bytes)
+}
+
+/// A file of an absolute sequence with these commands, as they are stored.
+pub fn ats_file(alloc: Global, name: &str, commands: &[Timed<'_>]) -> Result<Vec<u8>, Fail> {
+    let mut payload = Vec::new(alloc);
+    for command in commands.iter() {
+        let (number, time, packet) = *command;
+        push_u16(&mut payload, number)?;
+        push_u32(&mut payload, time)?;
+        payload.extend_from_slice(packet)?;
+    }
+    sequence_file(alloc, name, &payload)
+}
+
+/// A file of a relative sequence with these commands.
+pub fn rts_file(alloc: Global, name: &str, commands: &[Relative<'_>]) -> Result<Vec<u8>, Fail> {
+    let mut payload = Vec::new(alloc);
+    for command in commands.iter() {
+        let (seconds, packet) = *command;
+        push_u16(&mut payload, seconds)?;
+        payload.extend_from_slice(packet)?;
+    }
+    sequence_file(alloc, name, &payload)
+}
