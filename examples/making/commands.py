@@ -29,7 +29,8 @@ HS, HS_HOUSEKEEPING = 0x18AE, 0x18AF
 MM, MM_HOUSEKEEPING = 0x1888, 0x1889
 MD, MD_HOUSEKEEPING = 0x1890, 0x1891
 CS, CS_HOUSEKEEPING = 0x189F, 0x18A0
-REQUESTS = {HS: HS_HOUSEKEEPING, MM: MM_HOUSEKEEPING, MD: MD_HOUSEKEEPING, CS: CS_HOUSEKEEPING}
+SC, SC_HOUSEKEEPING = 0x18A9, 0x18AA
+REQUESTS = {HS: HS_HOUSEKEEPING, MM: MM_HOUSEKEEPING, MD: MD_HOUSEKEEPING, CS: CS_HOUSEKEEPING, SC: SC_HOUSEKEEPING}
 
 
 def no_op(application):
@@ -174,3 +175,48 @@ def cs_entry_off(table, entry):
 def cs_report(table, entry):
     """Asks for an entry's baseline."""
     return command(CS, 8, struct.pack(">HH", table, entry))
+
+
+def sc_start_ats(number):
+    """Starts an absolute sequence, 1 or 2, without its commands before now."""
+    return command(SC, 2, struct.pack(">H", number))
+
+
+def sc_stop_ats():
+    """Stops the absolute sequence that runs."""
+    return command(SC, 3)
+
+
+def sc_start_rts(number):
+    """Starts a relative sequence, 1 to 64."""
+    return command(SC, 4, struct.pack(">H", number))
+
+
+def sc_stop_rts(number):
+    """Stops a relative sequence."""
+    return command(SC, 5, struct.pack(">H", number))
+
+
+def sc_disable_rts(number):
+    """Disables a relative sequence, which goes on where it runs."""
+    return command(SC, 6, struct.pack(">H", number))
+
+
+def sc_enable_rts(number):
+    """Enables a relative sequence."""
+    return command(SC, 7, struct.pack(">H", number))
+
+
+def sc_switch_ats():
+    """Stops the absolute sequence that runs, and starts the other."""
+    return command(SC, 8)
+
+
+def sc_jump_ats(time):
+    """Skips the commands of the absolute sequence that runs before a time."""
+    return command(SC, 9, struct.pack(">I", time))
+
+
+def damaged(sent):
+    """A command whose check byte is wrong by one bit."""
+    return sent[:7] + bytes([sent[7] ^ 1]) + sent[8:]

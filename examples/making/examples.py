@@ -2,7 +2,7 @@
 
 from making.commands import *
 from making.log import *
-from making.tables import MEMORY_TABLE, actions_table, apps_table, checksum_table, counters_table, dwell_table, events_table, load_file
+from making.tables import MEMORY_TABLE, actions_table, apps_table, ats_table, checksum_table, counters_table, dwell_table, events_table, load_file, rts_table
 
 RAM = "region RAM 0x1000 256"
 
@@ -331,6 +331,103 @@ def loads():
     )
 
 
+def sequences():
+    return Example(
+        "sequences",
+        "Stored Command sends commands by the clock. Absolute sequence 1, which frame 0 starts, enables and starts relative sequence 2 at 1002, and asks for a byte at 1005. "
+        "The sequence that it starts pokes that byte a second behind its start, and in the same second sends a no-op to Memory Dwell; then it ends with event 104, and the absolute one, a second later, with event 103. "
+        "Each command leaves as it is stored, in the frame of its second, and is read a frame later. "
+        "Housekeeping in frame 4 stands before what leaves in it: sequence 1 with one command left, and relative sequence 2 that runs.",
+        [
+            "# The time of frame f is 1000 + f. Sequence 1 has commands at 1002 and 1005, relative sequence 2 behind 1 and 0 seconds.",
+            f"epoch {EPOCH}",
+            RAM,
+            "start",
+            "",
+            "# Frame 0: the start.",
+            send(sc_start_ats(1)),
+            "tick",
+            "tick",
+            "",
+            "# Frame 2: relative sequence 2 is enabled and started. Frame 3 hears it, and asks for housekeeping.",
+            "tick",
+            send(housekeeping(SC_HOUSEKEEPING)),
+            "tick",
+            "",
+            "# Frame 4: a poke, and a no-op. Frame 5: a peek. Frame 6 shows the byte.",
+            "tick",
+            "tick",
+            "tick",
+            "end",
+        ],
+        [
+            event(1, "SC", 0, 18, 2),
+            stored(2, sc_enable_rts(2)),
+            stored(2, sc_start_rts(2)),
+            event(3, "SC", 1, 23, 2),
+            event(3, "SC", 2, 20, 2),
+            sc_housekeeping_packet(4, 0, 3, 0, 1, 1, 2, 0, {2}, {2}),
+            stored(4, mm_poke(8, 0x1010, 0xAB)),
+            stored(4, no_op(MD)),
+            event(4, "SC", 3, 104, 2),
+            stored(5, mm_peek(8, 0x1010)),
+            event(5, "SC", 4, 103, 2),
+            event(5, "MM", 5, 19, 2),
+            event(5, "MD", 6, 16, 2),
+            peek_packet(6, 0, 8, 0x1010, 0xAB),
+            event(6, "MM", 7, 18, 2),
+        ],
+        {
+            "ats1.table": ats_table(1, [(1, 1002, sc_enable_rts(2)), (2, 1002, sc_start_rts(2)), (3, 1005, mm_peek(8, 0x1010))]),
+            "rts2.table": rts_table(2, [(1, mm_poke(8, 0x1010, 0xAB)), (0, no_op(MD))]),
+        },
+    )
+
+
+def sequence_mistake():
+    return Example(
+        "sequence_mistake",
+        "A load that is rehearsed with two mistakes in it. At 1002 the start of relative sequence 2 has the lower number, so it leaves before what enables the sequence: "
+        "Stored Command refuses it with 9 (it is disabled), and the poke of that sequence never comes. "
+        "The last command of the load has a check that is wrong by one bit: it isn't sent, event 101 tells it, and the sequence ends behind it. "
+        "The byte that should have been poked is still 0.",
+        [
+            "# Commands 1 and 2 stand in the wrong order, and command 3 is damaged.",
+            f"epoch {EPOCH}",
+            RAM,
+            "start",
+            "",
+            "# Frame 0: the start. Frame 2: commands 1 and 2 leave. Frame 3 hears them.",
+            send(sc_start_ats(1)),
+            "tick",
+            "tick",
+            "tick",
+            "tick",
+            "",
+            "# Frame 4: command 3. Frame 5 shows the byte.",
+            send(mm_peek(8, 0x1010)),
+            "tick",
+            "tick",
+            "end",
+        ],
+        [
+            event(1, "SC", 0, 18, 2),
+            stored(2, sc_start_rts(2)),
+            stored(2, sc_enable_rts(2)),
+            event(3, "SC", 1, 9, 3),
+            event(3, "SC", 2, 23, 2),
+            event(4, "SC", 3, 101, 3),
+            event(4, "SC", 4, 103, 2),
+            peek_packet(5, 0, 8, 0x1010, 0),
+            event(5, "MM", 5, 18, 2),
+        ],
+        {
+            "ats1.table": ats_table(1, [(1, 1002, sc_start_rts(2)), (2, 1002, sc_enable_rts(2)), (3, 1004, damaged(no_op(MM)))]),
+            "rts2.table": rts_table(2, [(0, mm_poke(8, 0x1010, 0xAB))]),
+        },
+    )
+
+
 def held():
     line = send(no_op(MM))
     return Example(
@@ -403,7 +500,7 @@ def commands():
     baseline = crc16(b"\x5A" + bytes(15))
     return Example(
         "commands",
-        "Each code of Memory Manager, Memory Dwell, Checksum and Health and Safety once, and each request for housekeeping; all of them are accepted. "
+        "Each code of Memory Manager, Memory Dwell, Checksum, Health and Safety and Stored Command once, and each request for housekeeping; all of them are accepted. "
         "An accepted command of code c is answered by event 16 + c, behind the packets that it asks for. "
         "The `send` lines are those of docs/COMMANDS.md.",
         [
@@ -460,6 +557,20 @@ def commands():
             send(hs_max_resets(0)),
             send(housekeeping(HS_HOUSEKEEPING)),
             "tick",
+            "",
+            "# Stored Command: codes 0 to 9, and the request.",
+            send(no_op(SC)),
+            send(reset_counts(SC)),
+            send(sc_start_ats(1)),
+            send(sc_switch_ats()),
+            send(sc_jump_ats(1500)),
+            send(sc_stop_ats()),
+            send(sc_enable_rts(2)),
+            send(sc_start_rts(2)),
+            send(sc_stop_rts(2)),
+            send(sc_disable_rts(2)),
+            send(housekeeping(SC_HOUSEKEEPING)),
+            "tick",
             "tick",
             "end",
         ],
@@ -503,8 +614,22 @@ def commands():
             event(4, "HS", 30, 24, 2),
             event(4, "HS", 31, 25, 2),
             hs_housekeeping_packet(4, 0, 6, 0, (1, 1), (0, 0), 0, 0, {}),
+            event(5, "SC", 32, 16, 2),
+            event(5, "SC", 33, 17, 2),
+            event(5, "SC", 34, 18, 2),
+            event(5, "SC", 35, 24, 2),
+            event(5, "SC", 36, 25, 2),
+            event(5, "SC", 37, 19, 2),
+            event(5, "SC", 38, 23, 2),
+            event(5, "SC", 39, 20, 2),
+            event(5, "SC", 40, 21, 2),
+            event(5, "SC", 41, 22, 2),
+            sc_housekeeping_packet(5, 0, 8, 0, 0, 0, 0, 0, set(), set()),
         ],
         {
+            "ats1.table": ats_table(1, [(1, 1400, no_op(MM))]),
+            "ats2.table": ats_table(2, [(1, 1500, no_op(MM))]),
+            "rts2.table": rts_table(2, [(100, no_op(MM))]),
             "bytes.load": load_file(0x1040, b"\x01\x02\x03"),
             "dwell1.table": dwell_table(1, False, [(1, 1, 0x1080)]),
             "memory.table": checksum_table(MEMORY_TABLE, {1: (1, 0x1080, 16)}),
@@ -512,4 +637,4 @@ def commands():
     )
 
 
-EXAMPLES = [first(), health(), dwell(), checksum(), eeprom(), loads(), held(), refused_file(), refused_scenario(), commands()]
+EXAMPLES = [first(), health(), dwell(), checksum(), sequences(), sequence_mistake(), eeprom(), loads(), held(), refused_file(), refused_scenario(), commands()]

@@ -62,6 +62,12 @@ def cs_housekeeping_packet(frame, count, accepted, errors, flags, eeprom, memory
     return telemetry(frame, 0x08A4, count, struct.pack(">BBBBHHI", accepted, errors, flags, 0, eeprom, memory, passes))
 
 
+def sc_housekeeping_packet(frame, count, accepted, errors, ats, left, sent, wrong, running, enabled):
+    """`ats` is the absolute sequence that runs and `left` what is left of it; `running` and `enabled` are sets of relative ones."""
+    masks = [sum(1 << (number - 1) for number in numbers) for numbers in (running, enabled)]
+    return telemetry(frame, 0x08AA, count, struct.pack(">BBBBHHHHQQ", accepted, errors, ats, 0, left, sent, wrong, 0, *masks))
+
+
 def drop(frame, pipe, why, lost):
     return f"{frame} drop {pipe} {why} {lost.hex().upper()}"
 

@@ -39,7 +39,7 @@ fn file_of(alloc: Global, tables: &[Table<'_>], place: usize) -> Result<Vec<u8>,
     Ok(file)
 }
 
-// Asserts what an example of at most four tables gives.
+// Asserts what an example of at most six tables gives.
 fn assert_example<R: Threads + Sync + AllocGlobal + Abort>(
     rt: &R,
     example: &Example<'_>,
@@ -49,9 +49,11 @@ fn assert_example<R: Threads + Sync + AllocGlobal + Abort>(
     let second = file_of(alloc, example.tables, 1)?;
     let third = file_of(alloc, example.tables, 2)?;
     let fourth = file_of(alloc, example.tables, 3)?;
-    let files: [&[u8]; 4] = [&first, &second, &third, &fourth];
-    let words = ["s", "a", "b", "c", "d"];
-    let words = &words[..example.tables.len().min(4) + 1];
+    let fifth = file_of(alloc, example.tables, 4)?;
+    let sixth = file_of(alloc, example.tables, 5)?;
+    let files: [&[u8]; 6] = [&first, &second, &third, &fourth, &fifth, &sixth];
+    let words = ["s", "a", "b", "c", "d", "e", "f"];
+    let words = &words[..example.tables.len().min(6) + 1];
     let ran = run_beside(rt, words, example.text, &files, &HONEST)?;
     assert_text(rt, "out", ran.out.bytes(), example.log);
     assert_text(rt, "err", ran.err.bytes(), example.error);

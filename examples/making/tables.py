@@ -6,6 +6,7 @@ from making import Wrong
 from making.log import crc16
 
 DWELL_TABLES, DWELL_ENTRIES, CHECKSUM_ENTRIES = range(1, 5), range(1, 26), range(1, 17)
+ATS_TABLES, RTS_TABLES = range(1, 3), range(1, 65)
 APP_ENTRIES, EVENT_ENTRIES, COUNTER_ENTRIES, ACTION_ENTRIES = range(1, 33), range(1, 17), range(1, 33), range(1, 9)
 EEPROM_TABLE, MEMORY_TABLE = "CS.DefEepromTbl", "CS.DefMemoryTbl"
 
@@ -71,3 +72,17 @@ def actions_table(entries):
     """The file of the message actions. `entries` gives (state, cooldown, packet) by the entry's number, 1 to 8."""
     rows = {number: struct.pack(">HH", state, cooldown) + packet for number, (state, cooldown, packet) in entries.items()}
     return table_file("HS.MsgActs_Tbl", placed("the table of message actions", rows, ACTION_ENTRIES, 68))
+
+
+def ats_table(number, commands):
+    """The file of absolute sequence 1 or 2. Each command is (number, time, packet), as it is stored."""
+    if number not in ATS_TABLES:
+        raise Wrong(f"there are absolute sequences 1 and 2, and no sequence {number}")
+    return table_file(f"SC.ATS_TBL{number}", b"".join(struct.pack(">HI", place, time) + packet for place, time, packet in commands))
+
+
+def rts_table(number, commands):
+    """The file of relative sequence 1 to 64. Each command is (seconds, packet)."""
+    if number not in RTS_TABLES:
+        raise Wrong(f"there are relative sequences 1 to 64, and no sequence {number}")
+    return table_file(f"SC.RTS_TBL{number:03}", b"".join(struct.pack(">H", seconds) + packet for seconds, packet in commands))

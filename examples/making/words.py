@@ -11,12 +11,13 @@ NUMBER = re.compile("0x[0-9a-fA-F]{1,16}|[0-9]{1,20}")
 NAME = re.compile("[0-9A-Za-z_]{1,19}")
 HEX = re.compile("([0-9A-Fa-f]{2}){8,64}")
 BYTES = re.compile("([0-9A-Fa-f]{2}){1,200}")
+COMMAND = re.compile("([0-9A-Fa-f]{2}){8,256}")
 LOADED = re.compile("([0-9A-Fa-f]{2}){1,65536}")
 
-FORMS = {NAME: "1 to 19 letters, digits and _", HEX: "HEX of 8 to 64 bytes", BYTES: "HEX of 1 to 200 bytes", LOADED: "HEX of 1 to 65,536 bytes"}
+FORMS = {NAME: "1 to 19 letters, digits and _", HEX: "HEX of 8 to 64 bytes", BYTES: "HEX of 1 to 200 bytes", COMMAND: "HEX of 8 to 256 bytes", LOADED: "HEX of 1 to 65,536 bytes"}
 
-APPLICATIONS = {"HS": HS, "MM": MM, "MD": MD, "CS": CS}
-IDS = {**APPLICATIONS, "HS_HOUSEKEEPING": HS_HOUSEKEEPING, "MM_HOUSEKEEPING": MM_HOUSEKEEPING, "MD_HOUSEKEEPING": MD_HOUSEKEEPING, "CS_HOUSEKEEPING": CS_HOUSEKEEPING}
+APPLICATIONS = {"HS": HS, "MM": MM, "MD": MD, "CS": CS, "SC": SC}
+IDS = {**APPLICATIONS, "HS_HOUSEKEEPING": HS_HOUSEKEEPING, "MM_HOUSEKEEPING": MM_HOUSEKEEPING, "MD_HOUSEKEEPING": MD_HOUSEKEEPING, "CS_HOUSEKEEPING": CS_HOUSEKEEPING, "SC_HOUSEKEEPING": SC_HOUSEKEEPING}
 TABLE_NAMES = {"eeprom": EEPROM_TABLE, "memory": MEMORY_TABLE}
 
 # The functions of `send` and their words, in the order of docs/COMMANDS.md.
@@ -49,17 +50,27 @@ SENT = {
     cs_entry_on: "TABLE ENTRY",
     cs_entry_off: "TABLE ENTRY",
     cs_report: "TABLE ENTRY",
+    sc_start_ats: "NUMBER",
+    sc_stop_ats: "",
+    sc_start_rts: "NUMBER",
+    sc_stop_rts: "NUMBER",
+    sc_disable_rts: "NUMBER",
+    sc_enable_rts: "NUMBER",
+    sc_switch_ats: "",
+    sc_jump_ats: "TIME",
     command: "ID CODE",
 }
 
 # What fits the field of each word; TABLE.. are the bits of a mask.
 FIELDS = {
     **dict.fromkeys(["SIZE", "REGION", "CODE", "BYTE"], U8),
-    **dict.fromkeys(["TABLE", "ENTRY", "LENGTH", "DELAY", "ID", "MAXIMUM", "EVENT", "LOAD"], U16),
-    **dict.fromkeys(["ADDRESS", "VALUE", "COUNT"], U32),
+    **dict.fromkeys(["TABLE", "ENTRY", "LENGTH", "DELAY", "ID", "MAXIMUM", "EVENT", "LOAD", "NUMBER"], U16),
+    **dict.fromkeys(["ADDRESS", "VALUE", "COUNT", "TIME"], U32),
     "TABLE..": range(1, 17),
 }
 DWELL_ENTRY = {"LENGTH": U16, "DELAY": U16, "ADDRESS": U32}
+ATS_COMMAND = {"NUMBER": U16, "TIME": U32, "HEX": COMMAND}
+RTS_COMMAND = {"SECONDS": U16, "HEX": COMMAND}
 CHECKSUM_ENTRY = {"STATE": U16, "START": U32, "LENGTH": U32}
 
 # The tables of Health and Safety: which entries each has, the fields of one, and what makes its file.
