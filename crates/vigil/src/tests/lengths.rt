@@ -71,13 +71,11 @@ fn held_pipe_fills_and_drops(rt: HostRuntime) -> Result<(), Fail> {
     assert_log(&rt, text.as_str(), 4, log.as_str())
 }
 
-// Seventeen no-ops for an application in frame 0, one more in frame 1, where it is held, and one in frame 2. An
-// application that isn't built yet answers none of the 17 that it takes.
+// Seventeen no-ops for an application in frame 0, one more in frame 1, where it is held, and one in frame 2.
 fn assert_held<R: Threads + Sync + AllocGlobal + Abort>(
     rt: &R,
     name: &str,
     packet: &str,
-    built: bool,
 ) -> Result<(), Fail> {
     let alloc = rt.alloc();
     let send = format!(in alloc; "send {packet}\n")?;
@@ -88,20 +86,18 @@ fn assert_held<R: Threads + Sync + AllocGlobal + Abort>(
         log,
         "0 drop {name} limit {packet}\n1 drop {name} limit {packet}\n"
     )?;
-    if built {
-        push_noops(&mut log, name, 2, 0, 16)?;
-        push_noops(&mut log, name, 3, 16, 1)?;
-    }
+    push_noops(&mut log, name, 2, 0, 16)?;
+    push_noops(&mut log, name, 3, 16, 1)?;
     assert_log(rt, text.as_str(), 4, log.as_str())
 }
 
 #[test]
 fn each_held_application_keeps_its_pipe(rt: HostRuntime) -> Result<(), Fail> {
-    assert_held(&rt, "HS", "18AEC00000010088", true)?;
-    assert_held(&rt, "CS", "189FC000000100B9", true)?;
-    assert_held(&rt, "SC", "18A9C0000001008F", false)?;
-    assert_held(&rt, "MM", "1888C000000100AE", true)?;
-    assert_held(&rt, "MD", "1890C000000100B6", true)
+    assert_held(&rt, "HS", "18AEC00000010088")?;
+    assert_held(&rt, "CS", "189FC000000100B9")?;
+    assert_held(&rt, "SC", "18A9C0000001008F")?;
+    assert_held(&rt, "MM", "1888C000000100AE")?;
+    assert_held(&rt, "MD", "1890C000000100B6")
 }
 
 // While HS is held, 32 events stay in its event pipe, and the next one is dropped.
