@@ -6,3 +6,4 @@ pub mod Rows
 pub mod Seats
 pub mod Ways
 pub mod Seen
+pub mod Lending

@@ -1,6 +1,7 @@
 //! A crew of workers.
 
 ghost use Rattle.std.specs.Prelude.{◌≡◌, ℕ, ◌<◌, ◌≤◌, List, [], length, replicate, slice_index_or, IfOk, vec_len, All};
+ghost use Rattle.std.specs.Borrow.{sem};
 ghost use Rattle.crew_board.specs.Rows.{FitsJobs, draws_of};
 ghost use Rattle.crew_board.specs.Work.{IsRight};
 ghost use Rattle.crew_board.specs.Ways.{AreLeft};
@@ -50,6 +51,8 @@ fn open_rows<S: Scratch>(alloc: Global, workers: u32, jobs: u32) -> Result<Vec<R
 }
 
 impl<S: Scratch> Crew<S> {
+    ghost use Rattle.crew_board.specs.Lending.{lends_result};
+
     /// A crew of 1 to 16 workers for lists of 1 to 64 jobs.
     pub fn open(alloc: Global, workers: u32, jobs: u32) -> Result<Crew<S>, NoMemory>
         requires workers { (0 < workers) × (workers ≤ 16) }
@@ -102,5 +105,14 @@ impl<S: Scratch> Crew<S> {
         ensures { (d : S) → slice_index_or self.now.results job d ≡ result.now }
     {
         &self.rows[0].scratches[job as usize]
+    }
+
+    /// The result of a job in the last run, to be taken over.
+    pub fn result_mut(&mut self, job: u32) -> &mut S
+        requires { job < length self.old.results }
+        ensures* writes_back { sem 𝓛 (lends_result S.row self.entry job result) }
+        ensures value { slice_index_or self.old.results job result.now ≡ result.now }
+    {
+        &mut self.rows[0].scratches[job as usize]
     }
 }

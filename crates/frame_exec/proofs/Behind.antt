@@ -19,8 +19,8 @@ nothing_noted : (setup : Setup) (earlier : List Frame) → Notes (ends_from 0 (l
 nothing_noted setup earlier = rw (behind_none setup earlier, ends_none 0) notes_begin
 
 -- the lines that wait are no part of what a run has come to
-pub has_beside : (b : Bench) (block : Waiting) (room : b.drops.room ≡ 1525) (s : State) → Has b s → Has (record b { block = block; drops_room = room }) s
-has_beside b block room s has = record {
+pub has_beside : (b : Bench) (block : Waiting) (room : b.drops.room ≡ 1525) (jobs : b.crew.jobs ≡ 5) (s : State) → Has b s → Has (record b { block = block; drops_room = room; five = jobs }) s
+has_beside b block room jobs s has = record {
   number = has.number;
   tables = has.tables;
   apps = record { hs = has.apps.hs; cs = has.apps.cs; sc = has.apps.sc; mm = has.apps.mm; md = has.apps.md };
@@ -29,8 +29,8 @@ has_beside b block room s has = record {
   memory = has.memory;
 }
 
-pub ready_beside : (b : Bench) (block : Waiting) (room : b.drops.room ≡ 1525) → IsReady b → IsReady (record b { block = block; drops_room = room })
-ready_beside b block room ready = record { cs = ready.cs; sc = ready.sc; md = ready.md }
+pub ready_beside : (b : Bench) (block : Waiting) (room : b.drops.room ≡ 1525) (jobs : b.crew.jobs ≡ 5) → IsReady b → IsReady (record b { block = block; drops_room = room; five = jobs })
+ready_beside b block room jobs ready = record { cs = ready.cs; sc = ready.sc; md = ready.md }
 
 -- a bench whose block is empty stands for all frames as earlier ones
 pub begins_behind : (b : Bench) (setup : Setup) (frames : List Frame) → b.epoch ≡ setup.epoch → b.files.now ≡ setup.files → has_failed b ≡ false → Has b (run_of setup frames) → IsReady b → b.block ≡ empty_block → Follows b setup frames []

@@ -116,7 +116,7 @@ unfolding frame_lines lines_at
 lines_are setup frames frame number sent drops a b c = rw (a, b, c) refl
 
 -- the bench has what the run has come to after one more frame
-pub has_after : (before b : Bench) (setup : Setup) (s : State) (frame : Frame) → KeepsApps before b → b.bus ≡ before.bus → b.log ≡ before.log → b.ram ≡ land (loads_of setup.files) before.ops before.ram
+pub has_after : (before b : Bench) (setup : Setup) (s : State) (frame : Frame) → KeepsApps before b → b.bus ≡ before.bus → b.log ≡ before.log → b.ram ≡ land (loads_of setup.files) before.ops.value before.ram
     → b.number ≡ s.number + 1 → b.tables ≡ s.tables → RunsIn setup s frame before → Has b (after_frame setup s frame)
 unfolding after_frame
 has_after before b setup s frame kept pipes log memory number tables ran = record {
@@ -137,10 +137,10 @@ module _ (before middle b : Bench) (setup : Setup) (frames : List Frame) (frame 
   kept : KeepsApps before b
   kept = kept_twice before middle b same.apps lands.apps
 
-  landed : b.ram ≡ land (loads_in before) before.ops before.ram
+  landed : b.ram ≡ land (loads_in before) before.ops.value before.ram
   landed =
-      lands.memory ∙ ap (λ (fs : Bor (List (List ℕ))). land (loads_of fs.now) middle.ops middle.ram) same.files ∙ ap (λ (ops : List MemOp). land (loads_in before) ops middle.ram) same.operations
-      ∙ ap (λ (m : Memory). land (loads_in before) before.ops m) same.memory
+      lands.memory ∙ ap (λ (fs : Bor (List (List ℕ))). land (loads_of fs.now) middle.ops.value middle.ram) same.files ∙ ap (λ (ops : List MemOp). land (loads_in before) ops middle.ram) same.operations
+      ∙ ap (λ (m : Memory). land (loads_in before) before.ops.value m) same.memory
 
   tables_same : b.tables ≡ before.tables
   tables_same = lands.tables ∙ same.tables
@@ -148,16 +148,16 @@ module _ (before middle b : Bench) (setup : Setup) (frames : List Frame) (frame 
   pub has_next : before.files.now ≡ setup.files → before.number ≡ (run_of setup frames).number → before.tables ≡ (run_of setup frames).tables → RunsIn setup (run_of setup frames) frame before → Has b (run_of setup (frames ++ frame ∷ []))
   has_next files number tables ran =
       subst (Has b) (sym (run_more setup frames frame))
-      (has_after before b setup (run_of setup frames) frame kept (lands.pipes ∙ same.pipes) (lands.log ∙ same.log) (landed ∙ ap (λ (fs : List (List ℕ)). land (loads_of fs) before.ops before.ram) files) (lands.number ∙ ap (λ (n : ℕ). n + 1) (same.number ∙ number)) (tables_same ∙ tables) ran)
+      (has_after before b setup (run_of setup frames) frame kept (lands.pipes ∙ same.pipes) (lands.log ∙ same.log) (landed ∙ ap (λ (fs : List (List ℕ)). land (loads_of fs) before.ops.value before.ram) files) (lands.number ∙ ap (λ (n : ℕ). n + 1) (same.number ∙ number)) (tables_same ∙ tables) ran)
 
   pub ready_next : IsReady before → IsReady b
   ready_next ready = ready_by before b (ap (λ (m : Memory). regions_of m.areas) landed ∙ regions-changed _ before.ram.areas) tables_same kept ready
 
 -- what can be landed on the frame's image can be once its lines were given away
-pub can_land_still : (before middle : Bench) → IsSameFrame before middle → CanLand (loads_in before) before.ram before.ops → CanLand (loads_in middle) middle.ram middle.ops
+pub can_land_still : (before middle : Bench) → IsSameFrame before middle → CanLand (loads_in before) before.ram before.ops.value → CanLand (loads_in middle) middle.ram middle.ops.value
 can_land_still before middle same can =
-    subst (λ (fs : Bor (List (List ℕ))). CanLand (loads_of fs.now) middle.ram middle.ops) (sym same.files)
-    (subst (λ (m : Memory). CanLand (loads_in before) m middle.ops) (sym same.memory) (subst (λ (ops : List MemOp). CanLand (loads_in before) before.ram ops) (sym same.operations) can))
+    subst (λ (fs : Bor (List (List ℕ))). CanLand (loads_of fs.now) middle.ram middle.ops.value) (sym same.files)
+    (subst (λ (m : Memory). CanLand (loads_in before) m middle.ops.value) (sym same.memory) (subst (λ (ops : List MemOp). CanLand (loads_in before) before.ram ops) (sym same.operations) can))
 
 -- a bench that was opened stands for no frames
 pub stands_opened : (b : Bench) (setup : Setup) → b.epoch ≡ setup.epoch → b.files.now ≡ setup.files → b.failed ≡ false → b.block ≡ empty_block → b.number ≡ 0 → b.tables ≡ tables_of setup.files

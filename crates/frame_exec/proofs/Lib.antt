@@ -12,3 +12,4 @@ pub mod Waking
 pub mod Frames
 pub mod Stepping
 pub mod Behind
+pub mod Taking

@@ -113,12 +113,12 @@ module _ (setup : Setup) (s : State) (frame : Frame) (start took stepped : Bench
       took.md.state.value stepped.md.state.value s.md md_took md_woken stand.md in
       rw (hs, cs, sc, mm, md) refl
 
-  pub operations_after : stepped.ops ≡ operations_at setup s frame
+  pub operations_after : stepped.ops.value ≡ operations_at setup s frame
   unfolding operations_at mm_input_at
   operations_after =
-      woken_beside (λ commands. mm_operations (mm_reads (loads_of setup.files) (time_at setup s) commands (image_at s frame))) _ took.mm.held s.pipes.mm took.mm.commands took.mm.out.items stepped.ops mm_took
-      (subst (λ (loads : List (ℕ × List ℕ)). stepped.ops ≡ unless took.mm.held (mm_operations (mm_reads loads (time_at setup s) took.mm.commands (image_at s frame)))) same_loads
-      (moved (λ (t : TableSet) (n : ℕ) (m : Memory). stepped.ops ≡ unless took.mm.held (mm_operations (mm_reads (loads_in took) n took.mm.commands m))) took.tables s.tables (time_of took) (time_at setup s) took.ram (image_at s frame) same_tables
+      woken_beside (λ commands. mm_operations (mm_reads (loads_of setup.files) (time_at setup s) commands (image_at s frame))) _ took.mm.held s.pipes.mm took.mm.commands took.mm.out.items stepped.ops.value mm_took
+      (subst (λ (loads : List (ℕ × List ℕ)). stepped.ops.value ≡ unless took.mm.held (mm_operations (mm_reads loads (time_at setup s) took.mm.commands (image_at s frame)))) same_loads
+      (moved (λ (t : TableSet) (n : ℕ) (m : Memory). stepped.ops.value ≡ unless took.mm.held (mm_operations (mm_reads (loads_in took) n took.mm.commands m))) took.tables s.tables (time_of took) (time_at setup s) took.ram (image_at s frame) same_tables
       same_time same_image steps.operations))
 
   -- what the pipes hold then

@@ -8,5 +8,7 @@ pub mod Applications
 pub mod Ready
 pub mod Landable
 pub mod Stages
+pub mod Turns
+pub mod Jobs
 pub mod Rows
 pub mod RunLaws

@@ -1,11 +1,14 @@
 -- What the stages of a frame change in the bench.
-use Rattle.std.specs.Prelude.{◌≡◌, ℕ, ◌+◌, false, List, [], ◌∷◌, ◌++◌}
+use Rattle.std.specs.Prelude.{◌≡◌, ℕ, ◌+◌, false, List, [], ◌∷◌, ◌++◌, length, slice_index_or}
 use Rattle.std.specs.List.{flat_map, fold, list_any}
 use Rattle.bus_pipes.specs.Delivery.{after_offers, drops_from}
 use Rattle.bus_pipes.specs.declared.names.Out.{Out}
 use Rattle.table_files.specs.Files.{loads_of}
 use Rattle.memory_window.specs.Landing.{land}
 use Rattle.sc_sequences.specs.Histories.{Beginning}
+use Rattle.sc_sequences.specs.State.{IsReady as ScIsReady}
+use Rattle.memory_window.specs.Memory.{regions_of}
+use Rattle.md_dwell.specs.State.{AllGiven}
 use Rattle.mm_core.specs.Step.{mm_operations}
 use Rattle.packet_forms.specs.declared.name.Counter.{Counter}
 use Rattle.packet_log.specs.Items.{item_line}
@@ -19,10 +22,13 @@ use Rattle.frame_exec.specs.declared.bench.Bench.{Bench}
 use Rattle.frame_exec.specs.Tables.{TableSet}
 use Rattle.frame_exec.specs.Sending.{is_same, upset_by, sent_of, packet_in}
 use Rattle.packet_log.specs.Sent.{makes}
-use Rattle.frame_exec.specs.Wakes.{joined, unless, AreSendable, HasTaken, IsWoken}
+use Rattle.frame_exec.specs.Wakes.{joined, unless, AreSendable, HasTaken, IsWoken, next_of}
 use Rattle.frame_exec.specs.Applications.{hs_stands, cs_stands, sc_stands, mm_stands, md_stands, hs_gives, cs_gives, sc_gives, mm_gives, md_gives, hs_reads, cs_reads, sc_reads, mm_reads, md_reads}
 use Rattle.frame_exec.specs.Runs.{Setup, State, image_at, items_at, operations_at, left_by, sent_at, offers_at, after_frame}
 use Rattle.frame_exec.specs.Landable.{CanLand}
+use Rattle.frame_exec.specs.Ready.{CsIsReady}
+use Rattle.frame_exec.specs.declared.left.Left.{Left}
+use Rattle.frame_exec.specs.Jobs.{Gives, Operates}
 use Rattle.frame_exec.specs.Standing.{AppsStand}
 
 -- number, epoch, the mark of failure, the tables, the files and the lines that wait stay
@@ -64,7 +70,7 @@ pub record Takes (held : List App) (old new : Bench) : Type 0 where
   pub sc : HasTaken (list_any (is_same names.Sc) held) old.bus.sc new.sc.held new.sc.commands new.sc.out.items
   pub mm : HasTaken (list_any (is_same names.Mm) held) old.bus.mm new.mm.held new.mm.commands new.mm.out.items
   pub md : HasTaken (list_any (is_same names.Md) held) old.bus.md new.md.held new.md.commands new.md.out.items
-  pub operations : new.ops ≡ []
+  pub operations : new.ops.value ≡ []
   pub pipes : new.bus ≡ left_by held old.bus
   pub log : new.log ≡ old.log
   pub memory : new.ram ≡ old.ram
@@ -76,7 +82,7 @@ pub record IsClear (b : Bench) : Type 0 where
   pub sc : b.sc.out.items ≡ []
   pub mm : b.mm.out.items ≡ []
   pub md : b.md.out.items ≡ []
-  pub operations : b.ops ≡ []
+  pub operations : b.ops.value ≡ []
 
 -- the load files that MM reads
 abbrev pub loads_in : Bench → List (ℕ × List ℕ)
@@ -94,7 +100,54 @@ pub record Steps (counters : List Counter) (old new : Bench) : Type 0 where
   pub sc : (begin : Beginning) → begin.tables ≡ old.tables.sc → IsWoken (sc_stands begin) (sc_gives begin) old.sc.held (sc_reads (time_of old) old.sc.commands) old.sc.state.value new.sc.state.value new.sc.out.items
   pub mm : (tables : TableSet) → IsWoken (mm_stands tables) (mm_gives tables) old.mm.held (mm_reads (loads_in old) (time_of old) old.mm.commands old.ram) old.mm.state.value new.mm.state.value new.mm.out.items
   pub md : (tables : TableSet) → IsWoken (md_stands tables) (md_gives tables) old.md.held (md_reads (time_of old) old.md.commands old.ram) old.md.state.value new.md.state.value new.md.out.items
-  pub operations : new.ops ≡ unless old.mm.held (mm_operations (mm_reads (loads_in old) (time_of old) old.mm.commands old.ram))
+  pub operations : new.ops.value ≡ unless old.mm.held (mm_operations (mm_reads (loads_in old) (time_of old) old.mm.commands old.ram))
+  pub pipes : new.bus ≡ old.bus
+  pub log : new.log ≡ old.log
+  pub memory : new.ram ≡ old.ram
+
+-- the slots of the applications stay, and the operations, pipes, counts and memory
+pub record KeepsSlots (old new : Bench) : Type 0 where
+  pub hs : new.hs ≡ old.hs
+  pub cs : new.cs ≡ old.cs
+  pub sc : new.sc ≡ old.sc
+  pub mm : new.mm ≡ old.mm
+  pub md : new.md ≡ old.md
+  pub operations : new.ops ≡ old.ops
+  pub pipes : new.bus ≡ old.bus
+  pub log : new.log ≡ old.log
+  pub memory : new.ram ≡ old.ram
+
+-- the result of a job is one of which this holds
+abbrev pub HasLeft : Bench → ℕ → (Left → Type 0) → Type 0
+HasLeft b job P = (left : Left) → slice_index_or b.crew.results job left ≡ left → P left
+
+-- what was taken over is the result of a job
+abbrev pub IsTaken : Bench → ℕ → (Left → Type 0) → Type 0
+IsTaken b job P = (left : Left) × (slice_index_or b.crew.results job left ≡ left) × P left
+
+-- the applications were woken, each by a job that left what it gave
+pub record AreWoken (counters : List Counter) (old new : Bench) : Type 0 where
+  pub run : IsSameRun old new
+  pub slots : KeepsSlots old new
+  pub five : length new.crew.results ≡ 5
+  pub hs : HasLeft new 0 (λ left. Gives (λ t. old.tables.hs ≡ t.hs) hs_stands hs_gives 1104 old.hs.held (hs_reads (time_of old) old.hs.commands old.events counters) old.hs.state.value left.hs left.out.items)
+  pub cs : HasLeft new 1 (λ left. Gives (λ t. (old.tables.eeprom ≡ t.eeprom) × (old.tables.memory ≡ t.memory)) cs_stands cs_gives 33 old.cs.held (cs_reads (time_of old) old.cs.commands old.ram) old.cs.state.value left.cs left.out.items
+      × CsIsReady (regions_of old.ram.areas) old.tables.eeprom old.tables.memory (next_of left.cs old.cs.state.value))
+  pub sc : HasLeft new 2 (λ left. Gives (λ begin. old.tables.sc ≡ begin.tables) sc_stands sc_gives 32 old.sc.held (sc_reads (time_of old) old.sc.commands) old.sc.state.value left.sc left.out.items
+      × ScIsReady old.tables.sc (next_of left.sc old.sc.state.value))
+  pub mm : HasLeft new 3 (λ left. Gives {Setup = TableSet} (λ t. Unit {0}) mm_stands mm_gives 272 old.mm.held (mm_reads (loads_in old) (time_of old) old.mm.commands old.ram) old.mm.state.value left.mm left.out.items
+      × Operates (loads_in old) old.mm.held (time_of old) old.mm.commands old.ram left.ops.value)
+  pub md : HasLeft new 4 (λ left. Gives {Setup = TableSet} (λ t. Unit {0}) md_stands md_gives 20 old.md.held (md_reads (time_of old) old.md.commands old.ram) old.md.state.value left.md left.out.items
+      × AllGiven (regions_of old.ram.areas) (next_of left.md old.md.state.value))
+
+-- what the jobs left was taken over: the next states, the items and the operations
+pub record TakesOver (old new : Bench) : Type 0 where
+  pub run : IsSameRun old new
+  pub hs : IsTaken old 0 (λ left. (new.hs.state.value ≡ next_of left.hs old.hs.state.value) × (new.hs.out.items ≡ left.out.items))
+  pub cs : IsTaken old 1 (λ left. (new.cs.state.value ≡ next_of left.cs old.cs.state.value) × (new.cs.out.items ≡ left.out.items))
+  pub sc : IsTaken old 2 (λ left. (new.sc.state.value ≡ next_of left.sc old.sc.state.value) × (new.sc.out.items ≡ left.out.items))
+  pub mm : IsTaken old 3 (λ left. (new.mm.state.value ≡ next_of left.mm old.mm.state.value) × (new.mm.out.items ≡ left.out.items) × (new.ops.value ≡ left.ops.value))
+  pub md : IsTaken old 4 (λ left. (new.md.state.value ≡ next_of left.md old.md.state.value) × (new.md.out.items ≡ left.out.items))
   pub pipes : new.bus ≡ old.bus
   pub log : new.log ≡ old.log
   pub memory : new.ram ≡ old.ram
@@ -106,13 +159,13 @@ pub record CanSend (b : Bench) : Type 0 where
   pub sc : AreSendable 32 b.sc.out.items
   pub mm : AreSendable 272 b.mm.out.items
   pub md : AreSendable 20 b.md.out.items
-  pub operations : CanLand (loads_in b) b.ram b.ops
+  pub operations : CanLand (loads_in b) b.ram b.ops.value
 
 -- the items were sent behind these packets
 pub record Sends (sends : List (List ℕ)) (old new : Bench) : Type 0 where
   pub run : IsSameRun old new
   pub apps : KeepsApps old new
-  pub operations : new.ops ≡ old.ops
+  pub operations : new.ops.value ≡ old.ops.value
   pub sent : (made : List (List ℕ)) → LogStands made old.log → joined (items_in new) ≡ sent_of made (joined (items_in old))
   pub made : (made : List (List ℕ)) → LogStands made old.log → LogStands (made ++ flat_map makes (joined (items_in old))) new.log
   pub pipes : new.bus ≡ after_offers old.bus (sends ++ flat_map packet_in (joined (items_in new)))
@@ -126,7 +179,7 @@ pub record RunsIn (setup : Setup) (s : State) (frame : Frame) (b : Bench) : Type
   pub drops : b.drops.items ≡ drops_from (left_by frame.held s.pipes) (offers_at setup s frame)
   pub pipes : b.bus ≡ after_offers (left_by frame.held s.pipes) (offers_at setup s frame)
   pub made : LogStands (s.made ++ flat_map makes (joined (items_at setup s frame))) b.log
-  pub operations : b.ops ≡ operations_at setup s frame
+  pub operations : b.ops.value ≡ operations_at setup s frame
   pub memory : b.ram ≡ image_at s frame
 
 -- all that a frame makes of the bench stays, but for the lines that wait
@@ -139,7 +192,7 @@ pub record IsSameFrame (old new : Bench) : Type 0 where
   pub apps : KeepsApps old new
   pub pipes : new.bus ≡ old.bus
   pub log : new.log ≡ old.log
-  pub operations : new.ops ≡ old.ops
+  pub operations : new.ops.value ≡ old.ops.value
   pub memory : new.ram ≡ old.ram
 
 -- the frame's operations have landed, and the next frame comes
@@ -153,7 +206,7 @@ pub record Lands (old new : Bench) : Type 0 where
   pub pipes : new.bus ≡ old.bus
   pub log : new.log ≡ old.log
   pub waits : new.block ≡ old.block
-  pub memory : new.ram ≡ land (loads_in old) old.ops old.ram
+  pub memory : new.ram ≡ land (loads_in old) old.ops.value old.ram
 
 -- the lines of what was sent and dropped
 abbrev pub lines_in : Bench → List ℕ

@@ -2,17 +2,20 @@
 
 ghost use Rattle.std.specs.Prelude.{◌≡◌};
 
-use crate::cs_slot::{CsReads, CsSlot};
+use crate::cs_slot::CsSlot;
 use crate::cut::Cut;
 use crate::giving::{OpenFault, refused_place};
-use crate::hs_slot::{HsReads, HsSlot};
-use crate::md_slot::{MdReads, MdSlot};
-use crate::mm_slot::{MmReads, MmSlot};
-use crate::sc_slot::{ScReads, ScSlot};
+use crate::hs_slot::HsSlot;
+use crate::left::Left;
+use crate::md_slot::MdSlot;
+use crate::mm_slot::MmSlot;
+use crate::sc_slot::ScSlot;
 use crate::slot::Slot;
 use crate::stages::{deliver_all, in_order, is_held, put_frame, stamp_all, take_unless, upset_all};
 use crate::tables::Tables;
+use crate::wakeups::{Scene, Wakeup};
 use bus_pipes::{Batch, Bus, Drops, PipeName};
+use crew_board::Crew;
 use cs_slices::Cs;
 use fsw_outside::{Failed, Gate, NoMemory, Sink};
 use hs_monitors::Hs;
@@ -29,6 +32,9 @@ use table_files::Files;
 
 /// How many packets are dropped in a frame at most: all that are sent and all that the applications give.
 const DROPS: u32 = 1525;
+
+/// How many applications are woken in a frame.
+const JOBS: u32 = 5;
 
 /// The bench, after some frames. It takes all its memory as it is opened, and borrows the files, from which MM loads.
 #[derive(Drop)]
@@ -48,7 +54,9 @@ pub struct Bench<'f> {
     sc: ScSlot,
     mm: MmSlot,
     md: MdSlot,
-    ops: Ops,
+    // who wakes the applications, with what each left
+    crew: Crew<Left>,
+    ops: Box<Ops>,
     drops: Drops,
     bus: Bus,
     log: Log,
@@ -56,6 +64,7 @@ pub struct Bench<'f> {
     // lines, until they are handed on
     block: Block,
     ghost drops_room: { drops.room ≡ 1525 },
+    ghost five: { crew.jobs ≡ 5 },
 }
 
 impl<'f> Bench<'f> {
@@ -74,7 +83,7 @@ impl<'f> Bench<'f> {
     ghost use Rattle.frame_exec.specs.Following.{Follows, IsCutAt, Adds};
     ghost use Rattle.frame_exec.specs.Tables.{SetGiven, AreLoaded, Opens, region_fault};
     ghost use Rattle.frame_exec.specs.Landable.{CanLand};
-    ghost use Rattle.frame_exec.specs.Stages.{IsSameRun, IsUpset, Takes, IsClear, Steps, CanSend, Sends, RunsIn, IsSameFrame, Lands, items_in, loads_in, lines_in};
+    ghost use Rattle.frame_exec.specs.Stages.{IsSameRun, IsUpset, Takes, IsClear, Steps, CanSend, AreWoken, TakesOver, Sends, RunsIn, IsSameFrame, Lands, items_in, loads_in, lines_in};
     ghost use Rattle.frame_exec.specs.Wakes.{joined};
 
     /// A bench with the tables that were loaded from these files and the memory of the header's map, which stands for no
@@ -114,6 +123,7 @@ impl<'f> Bench<'f> {
         header: &Header,
         workers: u32,
     ) -> Result<Bench<'f>, NoMemory>
+        requires workers { (1 ≤ workers) × (workers ≤ 16) }
         requires given { SetGiven header.now.map tables }
         ensures { AreLoaded files.now tables.entry → IfOk result (λ bench. Stands bench (setup_in header.now files.now) []) }
     {
@@ -130,7 +140,8 @@ impl<'f> Bench<'f> {
             md: Slot::open(alloc, Md::start(tables.dwells()))?,
             tables,
             files,
-            ops: Ops::new(),
+            crew: Crew::open(alloc, workers, JOBS)?,
+            ops: Box::new(alloc, Ops::new())?,
             drops: Drops::open(alloc, DROPS)?,
             bus: Bus::open(alloc)?,
             log: Log::start(),
@@ -162,7 +173,7 @@ impl<'f> Bench<'f> {
         ensures cause { HasCause (O.held sink.new) (O.faults sink.old) (O.faults sink.new) result }
         ensures failed { has_failed self.new ≡ is_err result }
     {
-        self.run(input);
+        self.run(rt, gate, input);
         match self.write(sink) {
             Ok(()) => {
                 self.land(rt, gate);
@@ -195,7 +206,7 @@ impl<'f> Bench<'f> {
         ensures cause { HasCause (O.held sink.new) (O.faults sink.old) (O.faults sink.new) result }
         ensures failed { has_failed self.new ≡ is_err result }
     {
-        self.run(input);
+        self.run(rt, gate, input);
         match self.add_lines(sink) {
             Ok(()) => {
                 self.land(rt, gate);
@@ -236,7 +247,7 @@ impl<'f> Bench<'f> {
     // Lands the frame's operations bank by bank on the workers, and goes on to the next frame.
     fn land<R: Threads + Sync, G: Gate>(&mut self, rt: &R, gate: &G)
         requires number { self.old.number < 4294967296 }
-        requires can_land { CanLand (loads_in self.old) self.old.ram self.old.ops }
+        requires can_land { CanLand (loads_in self.old) self.old.ram self.old.ops.value }
         ensures { Lands self.old self.new }
     {
         let workers = self.workers.max(1);
@@ -271,8 +282,8 @@ impl<'f> Bench<'f> {
         self.ops.clear();
     }
 
-    // Wakes the applications on what they took, on the frame's execution counters, and on its image.
-    fn step(&mut self, counters: &[Counter])
+    // Wakes the applications on what they took, on the frame's execution counters, and on its image, and takes over what they left.
+    fn step<R: Threads + Sync, G: Gate>(&mut self, rt: &R, gate: &G, counters: &[Counter])
         requires time { self.old.epoch + self.old.number < 4294967296 }
         requires clear { IsClear self.old }
         requires ready { IsReady self.old }
@@ -280,35 +291,69 @@ impl<'f> Bench<'f> {
         ensures can_send { CanSend self.new }
         ensures ready { IsReady self.new }
     {
+        self.wake(rt, gate, counters);
+        self.take_over();
+    }
+
+    // Wakes the applications, each as a job of the crew.
+    fn wake<R: Threads + Sync, G: Gate>(&mut self, rt: &R, gate: &G, counters: &[Counter])
+        requires time { self.old.epoch + self.old.number < 4294967296 }
+        requires ready { IsReady self.old }
+        ensures { AreWoken counters.now self.old self.new }
+    {
         let time = self.epoch + self.number as u32;
         let window = self.ram.window();
-        let hs = HsReads {
-            tables: self.tables.hs(),
-            events: self.events.packets(),
+        let scene = Scene {
+            hs: &self.hs,
+            events: &self.events,
+            cs: &self.cs,
+            sc: &self.sc,
+            mm: &self.mm,
+            md: &self.md,
+            tables: &self.tables,
+            files: self.files,
+            window,
             counters,
             time,
         };
-        let cs = CsReads {
-            eeprom: self.tables.eeprom(),
-            memory: self.tables.memory(),
-            window,
-            time,
-        };
-        let sc = ScReads {
-            tables: self.tables.sc(),
-            time,
-        };
-        self.hs.step(hs, &mut ());
-        self.cs.step(cs, &mut ());
-        self.sc.step(sc, &mut ());
-        let files = self.files;
-        let mm = MmReads {
-            window,
-            files,
-            time,
-        };
-        self.mm.step(mm, &mut self.ops);
-        self.md.step(MdReads { window, time }, &mut ());
+        let jobs = [
+            Wakeup {
+                scene: &scene,
+                app: App::Hs,
+            },
+            Wakeup {
+                scene: &scene,
+                app: App::Cs,
+            },
+            Wakeup {
+                scene: &scene,
+                app: App::Sc,
+            },
+            Wakeup {
+                scene: &scene,
+                app: App::Mm,
+            },
+            Wakeup {
+                scene: &scene,
+                app: App::Md,
+            },
+        ];
+        self.crew.run(rt, &jobs, gate);
+    }
+
+    // Takes over what the jobs left, in the order of the applications.
+    fn take_over(&mut self)
+        requires five { length self.old.crew.results ≡ 5 }
+        requires clear { IsClear self.old }
+        ensures { TakesOver self.old self.new }
+    {
+        self.hs.take_over(&mut self.crew, 0);
+        self.cs.take_over(&mut self.crew, 1);
+        self.sc.take_over(&mut self.crew, 2);
+        let left = self.crew.result_mut(3);
+        left.give_operations(&mut self.ops);
+        self.mm.take_over(&mut self.crew, 3);
+        self.md.take_over(&mut self.crew, 4);
     }
 
     // Gives the items their counts, and offers the frame's packets and theirs to the pipes.
@@ -347,18 +392,18 @@ impl<'f> Bench<'f> {
     }
 
     // Runs a frame up to its lines: writes its upsets, wakes the applications on its image, and sends what they gave.
-    fn run(&mut self, input: &FrameInput)
+    fn run<R: Threads + Sync, G: Gate>(&mut self, rt: &R, gate: &G, input: &FrameInput)
         requires time { self.old.epoch + self.old.number < 4294967296 }
         requires upsets { All (λ (u : Upset). is_mapped (regions_of self.old.ram.areas) u.at ≡ true) input.now.upsets }
         requires ready { IsReady self.old }
         ensures runs { (setup : Setup) (s : State) → self.old.epoch ≡ setup.epoch → self.old.files.now ≡ setup.files → Has self.old s → RunsIn setup s input.now self.new }
         ensures run { IsSameRun self.old self.new }
-        ensures can_land { CanLand (loads_in self.new) self.new.ram self.new.ops }
+        ensures can_land { CanLand (loads_in self.new) self.new.ram self.new.ops.value }
         ensures ready { IsReady self.new }
     {
         self.upset(input.upsets());
         self.take(input.held());
-        self.step(input.counters());
+        self.step(rt, gate, input.counters());
         self.send(input);
     }
 

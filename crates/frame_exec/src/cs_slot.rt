@@ -15,10 +15,7 @@ use cs_slices::{Cs, Segments};
 use memory_window::Window;
 use packet_forms::Packet;
 
-/// How many items CS gives in a frame at most.
-pub(crate) const CS_ITEMS: u32 = 33;
-
-pub(crate) type CsSlot = Slot<Cs, CS_ITEMS>;
+pub(crate) type CsSlot = Slot<Cs>;
 
 /// What CS reads in a frame beside its packets: the tables on which it was started, the frame's image, and its time.
 #[derive(Clone, Copy, Drop)]

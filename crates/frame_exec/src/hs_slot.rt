@@ -12,10 +12,7 @@ use hs_monitors::{Hs, HsInput};
 use hs_tables::HsTables;
 use packet_forms::{Counter, Packet};
 
-/// How many items HS gives in a frame at most.
-pub(crate) const HS_ITEMS: u32 = 1104;
-
-pub(crate) type HsSlot = Slot<Hs, HS_ITEMS>;
+pub(crate) type HsSlot = Slot<Hs>;
 
 /// What HS reads in a frame beside its commands: its tables, the packets of the event pipe, the frame's execution counters, and its time.
 #[derive(Clone, Copy, Drop)]

@@ -8,6 +8,7 @@ mod cut;
 mod giving;
 mod hs_slot;
 pub mod laws;
+mod left;
 mod loading;
 mod md_slot;
 mod mm_slot;
@@ -15,6 +16,7 @@ mod sc_slot;
 mod slot;
 mod stages;
 mod tables;
+mod wakeups;
 
 pub use bench::Bench;
 pub use cut::Cut;

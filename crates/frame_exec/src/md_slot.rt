@@ -15,10 +15,7 @@ use md_dwell::Md;
 use memory_window::Window;
 use packet_forms::Packet;
 
-/// How many items MD gives in a frame at most.
-pub(crate) const MD_ITEMS: u32 = 20;
-
-pub(crate) type MdSlot = Slot<Md, MD_ITEMS>;
+pub(crate) type MdSlot = Slot<Md>;
 
 /// What MD reads in a frame beside its packets: the frame's image, and its time.
 #[derive(Clone, Copy, Drop)]

@@ -16,10 +16,7 @@ use mm_core::Mm;
 use packet_forms::Packet;
 use table_files::Files;
 
-/// How many items MM gives in a frame at most.
-pub(crate) const MM_ITEMS: u32 = 272;
-
-pub(crate) type MmSlot = Slot<Mm, MM_ITEMS>;
+pub(crate) type MmSlot = Slot<Mm>;
 
 /// What MM reads in a frame beside its packets: the frame's image, the files, and its time.
 #[derive(Clone, Copy, Drop)]

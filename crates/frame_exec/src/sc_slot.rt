@@ -12,10 +12,7 @@ use packet_forms::Packet;
 use sc_sequences::Sc;
 use sc_tables::ScTables;
 
-/// How many items SC gives in a frame at most.
-pub(crate) const SC_ITEMS: u32 = 32;
-
-pub(crate) type ScSlot = Slot<Sc, SC_ITEMS>;
+pub(crate) type ScSlot = Slot<Sc>;
 
 /// What SC reads in a frame beside its packets: the sequences, and its time.
 #[derive(Clone, Copy, Drop)]

@@ -1,6 +1,6 @@
 //! Rehearsals over memory, and the log that one must write.
 
-use fsw_outside::{MemShelf, MemSink, NoMemory, OpenGate};
+use fsw_outside::{Gate, MemShelf, MemSink, NoMemory, OpenGate};
 use rehearsal::{Report, Status, Words, vigil};
 use std::alloc::{AllocError, Global};
 use std::process::Abort;
@@ -64,6 +64,18 @@ pub fn run_beside<R: Threads + Sync + AllocGlobal>(
     files: &[&[u8]],
     outside: &Outside<'_>,
 ) -> Result<Ran, NoMemory> {
+    run_through(rt, words, text, files, outside, &OpenGate)
+}
+
+/// The same, where each job and each bank goes through this gate.
+pub fn run_through<R: Threads + Sync + AllocGlobal, G: Gate>(
+    rt: &R,
+    words: &[&str],
+    text: &str,
+    files: &[&[u8]],
+    outside: &Outside<'_>,
+    gate: &G,
+) -> Result<Ran, NoMemory> {
     let alloc = rt.alloc();
     let most = outside.most.max(1);
     let mut given = Words::open(alloc)?;
@@ -82,7 +94,7 @@ pub fn run_beside<R: Threads + Sync + AllocGlobal>(
     shelf.put("h", nth(files, 7))?;
     let mut out = MemSink::short(alloc, outside.out, ROOM, most)?;
     let mut err = MemSink::short(alloc, outside.err, 256, most)?;
-    let report = vigil(rt, alloc, &given, &mut shelf, &mut out, &mut err, &OpenGate);
+    let report = vigil(rt, alloc, &given, &mut shelf, &mut out, &mut err, gate);
     Ok(Ran { report, out, err })
 }
 

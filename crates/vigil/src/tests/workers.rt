@@ -1,11 +1,14 @@
 //! A rehearsal of many frames, on any number of workers.
 
-use super::runs::{HONEST, Outside, assert_text, run_beside};
+use super::runs::{HONEST, Line, Outside, Ran, assert_text, log_of, run_beside, run_through};
 use super::tables::{apps_file, dwell_file, load_file, segments_file};
+use fsw_outside::{Gate, NoMemory};
 use rehearsal::{Report, Status};
 use std::alloc::{AllocError, Global};
 use std::process::Abort;
+use std::sync::atomic::{AtomicU64, Ordering};
 use std::test::Fail;
+use std::thread;
 use std::thread::Threads;
 
 const HEADER: &str = "epoch 1000\nregion RAM 0 131072\nregion EEPROM 0x20000 4096\nstart\n";
@@ -49,35 +52,8 @@ fn scenario(alloc: Global) -> Result<String, AllocError> {
     Ok(text)
 }
 
+// The words of a rehearsal beside eight files, behind which stands a number of workers.
 const WORDS: [&str; 9] = ["s", "a", "b", "c", "d", "e", "f", "g", "h"];
-
-const ON_ONE: [&str; 11] = [
-    "--workers",
-    "1",
-    "s",
-    "a",
-    "b",
-    "c",
-    "d",
-    "e",
-    "f",
-    "g",
-    "h",
-];
-
-const ON_SIXTEEN: [&str; 11] = [
-    "--workers",
-    "16",
-    "s",
-    "a",
-    "b",
-    "c",
-    "d",
-    "e",
-    "f",
-    "g",
-    "h",
-];
 
 // With five application monitors, four dwell tables, two checksum tables and a load file.
 #[test]
@@ -119,7 +95,31 @@ fn rehearsal_is_the_same_on_workers(rt: HostRuntime) -> Result<(), Fail> {
     compare_runs(&rt, text.as_str(), &files)
 }
 
-// The log by the words as they are, on one worker and on sixteen, and a first part of it where the output fails.
+// A rehearsal beside these files on so many workers, through a gate that holds nothing.
+fn run_on<R: Threads + Sync + AllocGlobal>(
+    rt: &R,
+    workers: &str,
+    text: &str,
+    files: &[&[u8]],
+    outside: &Outside<'_>,
+) -> Result<Ran, NoMemory> {
+    let words = [
+        "--workers",
+        workers,
+        "s",
+        "a",
+        "b",
+        "c",
+        "d",
+        "e",
+        "f",
+        "g",
+        "h",
+    ];
+    run_beside(rt, &words[..files.len().min(8) + 3], text, files, outside)
+}
+
+// The log by the words as they are, on several numbers of workers, and a first part of it where the output fails.
 fn compare_runs<R: Threads + Sync + AllocGlobal + Abort>(
     rt: &R,
     text: &str,
@@ -128,18 +128,121 @@ fn compare_runs<R: Threads + Sync + AllocGlobal + Abort>(
     let ran = run_beside(rt, &WORDS, text, files, &HONEST)?;
     assert_eq!(rt; ran.report, Report::at(Status::Done, 300));
     let log = std::str::from_utf8(ran.out.bytes()).unwrap_or("no text");
-    let one = run_beside(rt, &ON_ONE, text, files, &HONEST)?;
-    assert_text(rt, "out on one worker", one.out.bytes(), log);
-    let sixteen = run_beside(rt, &ON_SIXTEEN, text, files, &HONEST)?;
-    assert_text(rt, "out on sixteen workers", sixteen.out.bytes(), log);
+    for workers in ["1", "2", "5", "16"] {
+        let on_workers = run_on(rt, workers, text, files, &HONEST)?;
+        assert_text(rt, workers, on_workers.out.bytes(), log);
+    }
     let failing = Outside {
         out: &[1],
         ..HONEST
     };
-    let cut = run_beside(rt, &WORDS, text, files, &failing)?;
+    let cut = run_on(rt, "16", text, files, &failing)?;
     assert!(rt; cut.report.status == Status::WriteFailed);
     let written = cut.out.bytes();
     assert!(rt; !written.is_empty() && written.len() < ran.out.bytes().len());
     assert!(rt; ran.out.bytes().starts_with(written));
+    Ok(())
+}
+
+// Fills of two whole banks and a load file over their edge; then a dump over the edge, and peeks of both banks.
+const LOADS: &str = "epoch 1000\n\
+    region RAM 0 131072\n\
+    start\n\
+    send 1888C000000A08AD000000000001000001\n\
+    send 1888C000000A08AF000100000001000002\n\
+    send 1888C000000305A80001\n\
+    tick\n\
+    send 1888C00000090D140000FFC000000080\n\
+    send 1888C000000602A30800000000\n\
+    send 1888C000000602A2080001FFFF\n\
+    tick\n\
+    tick\n\
+    end\n";
+
+#[test]
+fn loads_over_banks_are_the_same_on_workers(rt: HostRuntime) -> Result<(), Fail> {
+    let load = load_file(rt.alloc(), 0xFFC0, 128, 7)?;
+    let files: [&[u8]; 1] = [&load];
+    let one = run_on(&rt, "1", LOADS, &files, &HONEST)?;
+    assert_eq!(rt; one.report, Report::at(Status::Done, 3));
+    let log = std::str::from_utf8(one.out.bytes()).unwrap_or("no text");
+    assert!(rt; log.contains("0000FFC0008007070707"));
+    for workers in ["2", "16"] {
+        let more = run_on(&rt, workers, LOADS, &files, &HONEST)?;
+        assert_text(&rt, workers, more.out.bytes(), log);
+    }
+    Ok(())
+}
+
+const TURNS: u64 = 100_000_000;
+
+/// Holds some jobs until those awaited have entered, or for very many turns. Jobs are bits.
+#[derive(Drop)]
+struct Meeting {
+    entered: AtomicU64,
+    met: AtomicU64,
+    held: u64,
+    awaited: u64,
+}
+
+impl Gate for Meeting {
+    fn enter(&self, job: u32) {
+        let bit = 1u64 << (job % 64);
+        self.entered.fetch_or(bit, Ordering::SeqCst);
+        if self.held & bit == 0 {
+            return;
+        }
+        let others = self.awaited & (u64::MAX ^ bit);
+        for _ in 0..TURNS {
+            if self.entered.load(Ordering::SeqCst) & others == others {
+                self.met.fetch_or(bit, Ordering::SeqCst);
+                return;
+            }
+            thread::yield_now();
+        }
+    }
+}
+
+// One no-op, which is answered in the second frame.
+const NOOP: &str = "epoch 1000\n\
+    region RAM 0x1000 256\n\
+    start\n\
+    send 1888C000000100AE\n\
+    tick\n\
+    tick\n\
+    end\n";
+
+// Runs the no-op on two workers, where some jobs are held until others have entered, and says which were met.
+fn met<R: Threads + Sync + AllocGlobal + Abort>(
+    rt: &R,
+    held: u64,
+    awaited: u64,
+) -> Result<u64, Fail> {
+    let gate = Meeting {
+        entered: AtomicU64::new(0),
+        met: AtomicU64::new(0),
+        held,
+        awaited,
+    };
+    let words = ["--workers", "2", "s"];
+    let ran = run_through(rt, &words, NOOP, &[], &HONEST, &gate)?;
+    let log = log_of(rt.alloc(), &[Line::Event("MM", 1, 0, 16, 2)])?;
+    assert_text(rt, "out on two workers", ran.out.bytes(), log.as_str());
+    Ok(gate.met.load(Ordering::SeqCst))
+}
+
+#[test]
+fn two_jobs_at_once(rt: HostRuntime) -> Result<(), Fail> {
+    assert_eq!(rt; met(&rt, 3, 3)?, 3);
+    Ok(())
+}
+
+// With shares that are fixed beforehand a job that is held would keep another of the same worker from entering.
+#[test]
+fn jobs_are_drawn(rt: HostRuntime) -> Result<(), Fail> {
+    for job in 0..5u32 {
+        let held = 1u64 << job;
+        assert_eq!(rt; met(&rt, held, 31)?, held);
+    }
     Ok(())
 }

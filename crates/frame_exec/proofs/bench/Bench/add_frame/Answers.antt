@@ -11,10 +11,10 @@ use Rattle.frame_exec.proofs.Behind.{follows_next, cut_added, told_added}
 use Rattle.frame_exec.proofs.bench.Bench.add_frame.Goals as goal
 
 pub run-requires-clause-time : goal.run-requires-clause-time
-run-requires-clause-time g c = let s = c.requires.started in time_fits c.args.self.now s.0 (s.1 ++ s.2) c.args.input.now s.3.epoch s.3.has s.4
+run-requires-clause-time g c = λ _ _. let s = c.requires.started in time_fits c.args.self.now s.0 (s.1 ++ s.2) c.args.input.now s.3.epoch s.3.has s.4
 
 pub run-requires-clause-upsets : goal.run-requires-clause-upsets
-run-requires-clause-upsets g c = let s = c.requires.started in upsets_mapped c.args.self.now s.0 (s.1 ++ s.2) c.args.input.now s.3.has s.4
+run-requires-clause-upsets g c = λ _ _. let s = c.requires.started in upsets_mapped c.args.self.now s.0 (s.1 ++ s.2) c.args.input.now s.3.has s.4
 
 pub add_lines-requires : goal.add_lines-requires
 add_lines-requires g c =

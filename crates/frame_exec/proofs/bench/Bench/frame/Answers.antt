@@ -7,10 +7,10 @@ use Rattle.frame_exec.proofs.Frames.{lines_are, has_next, ready_next, can_land_s
 use Rattle.frame_exec.proofs.bench.Bench.frame.Goals as goal
 
 pub run-requires-clause-time : goal.run-requires-clause-time
-run-requires-clause-time g c = let s = c.requires.started in time_fits c.args.self.now s.0 s.1 c.args.input.now s.2.epoch s.2.has s.3
+run-requires-clause-time g c = λ _ _. let s = c.requires.started in time_fits c.args.self.now s.0 s.1 c.args.input.now s.2.epoch s.2.has s.3
 
 pub run-requires-clause-upsets : goal.run-requires-clause-upsets
-run-requires-clause-upsets g c = let s = c.requires.started in upsets_mapped c.args.self.now s.0 s.1 c.args.input.now s.2.has s.3
+run-requires-clause-upsets g c = λ _ _. let s = c.requires.started in upsets_mapped c.args.self.now s.0 s.1 c.args.input.now s.2.has s.3
 
 pub write-requires : goal.write-requires
 write-requires g c =

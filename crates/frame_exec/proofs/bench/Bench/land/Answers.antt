@@ -1,4 +1,4 @@
-use Rattle.std.proofs.Common.{List, sym, subst}
+use Rattle.std.proofs.Common.{List, sym, subst, ◌∙◌}
 use Rattle.std.specs.List.{All}
 use Rattle.memory_window.specs.Access.{Admitted}
 use Rattle.memory_window.specs.Operations.{IsBacked}
@@ -7,7 +7,7 @@ use Rattle.frame_exec.specs.Stages.{loads_in}
 use Rattle.frame_exec.proofs.bench.Bench.land.Goals as goal
 
 pub land_banks_on-requires-clause-admitted : goal.land_banks_on-requires-clause-admitted
-land_banks_on-requires-clause-admitted g c = λ _ _. subst (λ (ops : List MemOp). All (Admitted c.args.self.now.ram) ops) (sym c.items.ensures.items) c.requires.can_land.admitted
+land_banks_on-requires-clause-admitted g c = λ _ _. subst (λ (ops : List MemOp). All (Admitted c.args.self.now.ram) ops) (sym (c.items.ensures.items ∙ c.deref.ensures)) c.requires.can_land.admitted
 
 pub land_banks_on-requires-clause-backed : goal.land_banks_on-requires-clause-backed
-land_banks_on-requires-clause-backed g c = λ _ _. subst (λ (ops : List MemOp). All (IsBacked (loads_in c.args.self.now)) ops) (sym c.items.ensures.items) c.requires.can_land.backed
+land_banks_on-requires-clause-backed g c = λ _ _. subst (λ (ops : List MemOp). All (IsBacked (loads_in c.args.self.now)) ops) (sym (c.items.ensures.items ∙ c.deref.ensures)) c.requires.can_land.backed

@@ -13,16 +13,16 @@ use Rattle.frame_exec.proofs.Stepping.{ran}
 use Rattle.frame_exec.proofs.bench.Bench.run.Goals as goal
 
 pub upset-requires : goal.upset-requires
-upset-requires c = subst (λ (upsets : List Upset). All (λ (u : Upset). is_mapped (regions_of c.args.self.now.ram.areas) u.at ≡ true) upsets) (sym c.upsets.ensures.value) c.requires.upsets
+upset-requires g c = subst (λ (upsets : List Upset). All (λ (u : Upset). is_mapped (regions_of c.args.self.now.ram.areas) u.at ≡ true) upsets) (sym c.upsets.ensures.value) c.requires.upsets
 
 pub step-requires-clause-ready : goal.step-requires-clause-ready
-step-requires-clause-ready c =
+step-requires-clause-ready g c = λ _ _.
     let old = c.args.self.now in
     let upset = ready_by old c.upset.new.self (regions_same old.ram c.upset.new.self.ram c.upsets.result.now c.upset.ensures.memory) c.upset.ensures.run.tables c.upset.ensures.apps c.requires.ready in
     ready_by c.upset.new.self c.take.new.self (ap (λ (m : Memory). regions_of m.areas) c.take.ensures.memory) c.take.ensures.run.tables c.take.ensures.apps upset
 
 pub returns-clause-runs : goal.returns-clause-runs
-returns-clause-runs c = λ setup s epoch files has.
+returns-clause-runs g c = λ setup s epoch files has.
     let old = c.args.self.now in
     let frame = c.args.input.now in
     let upset = c.upset.ensures in

@@ -1,0 +1,34 @@
+-- What the jobs of a frame left, taken over by the bench.
+use Rattle.std.proofs.Common.{◌≡◌, ℕ, Bool, true, false, Option, List, [], ◌∙◌, ap, refl, subst, sym}
+use Rattle.std.proofs.lemmas.List.Elements.{All-nil}
+use Rattle.bus_pipes.specs.declared.names.Out.{Out}
+use Rattle.memory_window.specs.Access.{Admitted}
+use Rattle.memory_window.specs.Memory.{Memory}
+use Rattle.memory_window.specs.Operations.{IsBacked}
+use Rattle.memory_window.specs.declared.operations.MemOp.{MemOp}
+use Rattle.mm_core.specs.Step.{mm_operations}
+use Rattle.frame_exec.specs.Applications.{mm_reads}
+use Rattle.frame_exec.specs.Jobs.{Gives, Operates}
+use Rattle.frame_exec.specs.Landable.{CanLand}
+use Rattle.frame_exec.specs.Wakes.{AreSendable, IsWoken, next_of}
+
+-- an application that was woken by a job: its state behind it, and what it gave
+module _ {Setup Input State : Type 0} (belongs : Setup → Type 0) (stands : Setup → List Input → State → Type 0) (gives : Setup → List Input → Input → List Out) (most : ℕ) (held : Bool) (input : Input) (old middle new : State) (next : Option State) (left given : List Out)
+    (gave : Gives belongs stands gives most held input old next left) (same : middle ≡ old) (state : new ≡ next_of next middle) (items : given ≡ left) where
+  pub state_is : new ≡ next_of next old
+  state_is = state ∙ ap (next_of next) same
+
+  pub taken_woken : (setup : Setup) → belongs setup → IsWoken (stands setup) (gives setup) held input old new given
+  taken_woken setup own =
+      subst (λ (s : State). IsWoken (stands setup) (gives setup) held input old s given) (sym state_is)
+      (subst (λ (os : List Out). IsWoken (stands setup) (gives setup) held input old (next_of next old) os) (sym items) (gave.woken setup own))
+
+  pub taken_sendable : AreSendable most given
+  taken_sendable = subst (AreSendable most) (sym items) gave.sendable
+
+-- what MM left, by whether it was held
+pub operates : (loads : List (ℕ × List ℕ)) (held : Bool) (time : ℕ) (commands : List (List ℕ)) (image : Memory) (ops : List MemOp) → (held ≡ true → ops ≡ []) → (held ≡ false → (ops ≡ mm_operations (mm_reads loads time commands image)) × CanLand loads image ops)
+    → Operates loads held time commands image ops
+operates loads true time commands image ops none these =
+    record { are = none refl; can_land = subst (λ (os : List MemOp). CanLand loads image os) (sym (none refl)) (record { admitted = All-nil (Admitted image); backed = All-nil (IsBacked loads) }) }
+operates loads false time commands image ops none these = record { are = (these refl).0; can_land = (these refl).1 }

@@ -1,0 +1,45 @@
+use Rattle.std.proofs.Common.{◌≡◌, Option, length, refl, ap, sym, ◌∙◌, arith}
+use Rattle.std.proofs.lemmas.List.{get_or-set_other, get_or-set_same}
+use Rattle.bus_pipes.specs.Held.{Held}
+use Rattle.bus_pipes.specs.declared.names.Out.{Out}
+use Rattle.mm_core.specs.declared.state.Mm.{Mm}
+use Rattle.frame_exec.specs.declared.left.Left.{Left}
+use Rattle.frame_exec.specs.Wakes.{next_of}
+use Rattle.frame_exec.proofs.bench.Bench.take_over.Goals as goal
+
+pub returns : goal.returns
+returns c =
+    let hs = c.take_over.ensures in
+    let cs = c.take_over-2.ensures in
+    let sc = c.take_over-3.ensures in
+    let mm = c.take_over-4.ensures in
+    let md = c.take_over-5.ensures in
+    let gave = c.give_operations.new.self in
+    let left : Left = c.result_mut-left.result.now in
+    let behind = c.take_over-3.new.crew.results in
+    let count : length behind ≡ 5 = sc.count ∙ cs.count ∙ hs.count ∙ c.requires.five in
+    let same = sym mm.from.1 ∙ get_or-set_same behind 3 gave mm.from.0 (omega (arith, count)) in
+    record {
+      run = record { waits = refl; epoch = refl; number = refl; failed = refl; tables = refl; files = refl };
+      hs = (hs.from.0, hs.from.1, (hs.from.2, hs.from.3));
+      cs = (cs.from.0, sym (hs.others 1 cs.from.0 (omega arith)) ∙ cs.from.1, (cs.from.2, cs.from.3));
+      sc = (sc.from.0, sym (hs.others 2 sc.from.0 (omega arith)) ∙ sym (cs.others 2 sc.from.0 (omega arith)) ∙ sc.from.1, (sc.from.2, sc.from.3));
+      mm = (
+        left,
+        sym (hs.others 3 left (omega arith)) ∙ sym (cs.others 3 left (omega arith)) ∙ sym (sc.others 3 left (omega arith)) ∙ c.result_mut-left.ensures.value,
+        (
+          mm.from.2 ∙ ap (λ (l : Left). next_of l.mm c.args.self.now.mm.state.value) same ∙ ap (λ (next : Option Mm). next_of next c.args.self.now.mm.state.value) c.give_operations.ensures.next,
+          mm.from.3 ∙ ap (λ (l : Left). l.out.items) same ∙ ap (λ (held : Held Out). held.items) c.give_operations.ensures.items,
+          c.give_operations.ensures.operations,
+        ),
+      );
+      md = (
+        md.from.0,
+        sym (hs.others 4 md.from.0 (omega arith)) ∙ sym (cs.others 4 md.from.0 (omega arith)) ∙ sym (sc.others 4 md.from.0 (omega arith))
+            ∙ sym (get_or-set_other behind 3 4 gave md.from.0 (omega arith)) ∙ sym (mm.others 4 md.from.0 (omega arith)) ∙ md.from.1,
+        (md.from.2, md.from.3),
+      );
+      pipes = refl;
+      log = refl;
+      memory = refl;
+    }
