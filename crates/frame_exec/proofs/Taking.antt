@@ -13,15 +13,15 @@ use Rattle.frame_exec.specs.Landable.{CanLand}
 use Rattle.frame_exec.specs.Wakes.{AreSendable, IsWoken, next_of}
 
 -- an application that was woken by a job: its state behind it, and what it gave
-module _ {Setup Input State : Type 0} (belongs : Setup → Type 0) (stands : Setup → List Input → State → Type 0) (gives : Setup → List Input → Input → List Out) (most : ℕ) (held : Bool) (input : Input) (old middle new : State) (next : Option State) (left given : List Out)
-    (gave : Gives belongs stands gives most held input old next left) (same : middle ≡ old) (state : new ≡ next_of next middle) (items : given ≡ left) where
-  pub state_is : new ≡ next_of next old
-  state_is = state ∙ ap (next_of next) same
+module _ {Setup Input State : Type 0} (belongs : Setup → Type 0) (stands : Setup → List Input → State → Type 0) (gives : Setup → List Input → Input → List Out) (most : ℕ) (held : Bool) (input : Input) (old middle new : State) (stays : Bool) (next : Option State) (left given : List Out)
+    (gave : Gives belongs stands gives most held input old stays next left) (same : middle ≡ old) (state : new ≡ next_of stays next middle) (items : given ≡ left) where
+  pub state_is : new ≡ next_of stays next old
+  state_is = state ∙ ap (next_of stays next) same
 
   pub taken_woken : (setup : Setup) → belongs setup → IsWoken (stands setup) (gives setup) held input old new given
   taken_woken setup own =
       subst (λ (s : State). IsWoken (stands setup) (gives setup) held input old s given) (sym state_is)
-      (subst (λ (os : List Out). IsWoken (stands setup) (gives setup) held input old (next_of next old) os) (sym items) (gave.woken setup own))
+      (subst (λ (os : List Out). IsWoken (stands setup) (gives setup) held input old (next_of stays next old) os) (sym items) (gave.woken setup own))
 
   pub taken_sendable : AreSendable most given
   taken_sendable = subst (AreSendable most) (sym items) gave.sendable

@@ -1,5 +1,5 @@
 -- What a wakeup makes of an application, whichever it is.
-use Rattle.std.specs.Prelude.{◌≡◌, ℕ, ◌≤◌, Bool, false, Option, None, Some, if◌then◌else◌, List, [], ◌∷◌, ◌++◌, length}
+use Rattle.std.specs.Prelude.{◌≡◌, ℕ, ◌≤◌, Bool, true, false, Option, None, Some, if◌then◌else◌, List, [], ◌∷◌, ◌++◌, length}
 use Rattle.std.specs.List.{AllPass, flat_map}
 use Rattle.bus_pipes.specs.Counted.{is_item_counted}
 use Rattle.bus_pipes.specs.declared.names.Out.{Out}
@@ -17,10 +17,11 @@ module _ {A : Type 0} where
   abbrev pub joined : List (List A) → List A
   joined lists = flat_map (λ (list : List A). list) lists
 
--- the state of an application behind a wakeup: the next one, unless it stayed as it was
-abbrev pub next_of : {State : Type 0} → Option State → State → State
-next_of None old = old
-next_of (Some next) old = next
+-- the state of an application behind a wakeup: the next one, unless it stays as it was
+abbrev pub next_of : {State : Type 0} → Bool → Option State → State → State
+next_of true next old = old
+next_of false None old = old
+next_of false (Some next) old = next
 
 -- items can be sent: they are few, and their packets have ids that are counted
 pub record AreSendable (most : ℕ) (items : List Out) : Type 0 where

@@ -17,10 +17,12 @@ use std::mem;
 /// How many items an application gives in a frame at most, whichever it is.
 pub(crate) const MOST_ITEMS: u32 = 1104;
 
-/// What a wakeup left: the next state of the application that was woken, unless it stayed as it was, the items that it gave, and
+/// What a wakeup left: the next state of the application that was woken, unless it stays as it was, the items that it gave, and
 /// MM's operations.
 #[derive(Drop)]
 pub(crate) struct Left {
+    /// Whether the state stays as it was. A flag, since writing `None` writes a whole state's zeros.
+    pub(crate) stays: bool,
     pub(crate) hs: Option<Hs>,
     pub(crate) cs: Option<Cs>,
     pub(crate) sc: Option<Sc>,
@@ -37,7 +39,7 @@ pub(crate) trait Next: Sized {
 
     ghost next: { Left → Option Self };
 
-    /// The next state that was left, unless the state stayed as it was.
+    /// The next state that was left, which holds unless the state stays as it was.
     fn next_in(left: &Left) -> &Option<Self>
         ensures { result.now ≡ next left.now };
 }
@@ -85,6 +87,7 @@ impl Next for Md {
 impl Scratch for Left {
     fn fresh(alloc: Global) -> Result<Left, NoMemory> {
         Ok(Left {
+            stays: true,
             hs: None,
             cs: None,
             sc: None,
@@ -110,7 +113,7 @@ impl Left {
     pub(crate) fn give_operations(&mut self, ops: &mut Box<Ops>)
         requires { ops.old.value ≡ [] }
         ensures operations { ops.new.value ≡ self.old.ops.value }
-        ensures next { self.new.mm ≡ self.old.mm }
+        ensures next { (self.new.mm ≡ self.old.mm) × (self.new.stays ≡ self.old.stays) }
         ensures items { self.new.out ≡ self.old.out }
     {
         if self.ops.items().is_empty() {

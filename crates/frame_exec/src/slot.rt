@@ -57,10 +57,12 @@ impl<S> Slot<S> {
         bus.take_all(pipe, &mut self.commands);
     }
 
-    /// Wakes the application on the packets that it took, unless it is held. Its next state is left in `next`, unless it stays as it is.
+    /// Wakes the application on the packets that it took, unless it is held. Its next state is left in `next`, unless it `stays` as it
+    /// is.
     pub(crate) fn wake<R: Copy + Drop, X>(
         &self,
         reads: R,
+        stays: &mut bool,
         next: &mut Option<S>,
         out: &mut Outbox,
         beside: &mut X,
@@ -71,20 +73,21 @@ impl<S> Slot<S> {
         requires empty { out.old.items ≡ [] }
         requires can { S.can_step reads self.now.state.value }
         requires clear { S.is_clear beside.old }
-        ensures wakes { (setup : S.Setup) → S.belongs setup reads → IsWoken (S.stands setup) (S.items setup) self.now.held (S.input reads self.now.commands) self.now.state.value (next_of next.new self.now.state.value) out.new.items }
-        ensures can { S.can_step reads (next_of next.new self.now.state.value) }
+        ensures wakes { (setup : S.Setup) → S.belongs setup reads → IsWoken (S.stands setup) (S.items setup) self.now.held (S.input reads self.now.commands) self.now.state.value (next_of stays.new next.new self.now.state.value) out.new.items }
+        ensures can { S.can_step reads (next_of stays.new next.new self.now.state.value) }
         ensures sendable { AreSendable S.most out.new.items }
         ensures held { self.now.held ≡ true → S.is_clear beside.new }
         ensures fills { self.now.held ≡ false → S.fills reads self.now.commands beside.new }
         ensures room { out.new.room ≡ out.old.room }
     {
-        *next = None;
+        *stays = true;
         if self.held {
             return;
         }
         if self.state.is_idle(reads, self.commands.packets()) {
             return;
         }
+        *stays = false;
         let state = next.insert(*self.state);
         state.advance(reads, self.commands.packets(), out, beside);
     }
@@ -95,13 +98,13 @@ impl<S> Slot<S> {
         S: Next + Copy + Drop,
         requires job { job < length crew.old.results }
         requires empty { self.old.out.items ≡ [] }
-        ensures from { (left : Left) × (slice_index_or crew.old.results job left ≡ left) × (self.new.state.value ≡ next_of (S.next left) self.old.state.value) × (self.new.out.items ≡ left.out.items) }
+        ensures from { (left : Left) × (slice_index_or crew.old.results job left ≡ left) × (self.new.state.value ≡ next_of left.stays (S.next left) self.old.state.value) × (self.new.out.items ≡ left.out.items) }
         ensures others { (k : ℕ) (d : Left) → k ≢ job → slice_index_or crew.new.results k d ≡ slice_index_or crew.old.results k d }
         ensures count { length crew.new.results ≡ length crew.old.results }
         ensures jobs { crew.new.jobs ≡ crew.old.jobs }
     {
         let left = crew.result_mut(job);
-        follow(&mut self.state, S::next_in(left));
+        follow(&mut self.state, left.stays, S::next_in(left));
         if left.out.is_empty() {
             return;
         }
@@ -110,9 +113,13 @@ impl<S> Slot<S> {
 }
 
 /// Goes on to the next state, unless the state stays as it is.
-fn follow<S: Copy + Drop>(state: &mut Box<S>, next: &Option<S>)
-    ensures { state.new.value ≡ next_of next.now state.old.value }
+#[inline(always)]
+fn follow<S: Copy + Drop>(state: &mut Box<S>, stays: bool, next: &Option<S>)
+    ensures { state.new.value ≡ next_of stays next.now state.old.value }
 {
+    if stays {
+        return;
+    }
     if let Some(new) = next {
         **state = *new;
     }

@@ -85,8 +85,13 @@ impl<'a, 'n, 'f> Scene<'a, 'n, 'f> {
             counters: self.counters,
             time: self.time,
         };
-        self.hs
-            .wake(reads, &mut scratch.hs, &mut scratch.out, &mut ());
+        self.hs.wake(
+            reads,
+            &mut scratch.stays,
+            &mut scratch.hs,
+            &mut scratch.out,
+            &mut (),
+        );
     }
 
     // Wakes CS. The scratch is clear.
@@ -100,8 +105,13 @@ impl<'a, 'n, 'f> Scene<'a, 'n, 'f> {
             window: self.window,
             time: self.time,
         };
-        self.cs
-            .wake(reads, &mut scratch.cs, &mut scratch.out, &mut ());
+        self.cs.wake(
+            reads,
+            &mut scratch.stays,
+            &mut scratch.cs,
+            &mut scratch.out,
+            &mut (),
+        );
     }
 
     // Wakes SC. The scratch is clear.
@@ -113,8 +123,13 @@ impl<'a, 'n, 'f> Scene<'a, 'n, 'f> {
             tables: self.tables.sc(),
             time: self.time,
         };
-        self.sc
-            .wake(reads, &mut scratch.sc, &mut scratch.out, &mut ());
+        self.sc.wake(
+            reads,
+            &mut scratch.stays,
+            &mut scratch.sc,
+            &mut scratch.out,
+            &mut (),
+        );
     }
 
     // Wakes MM. The scratch is clear.
@@ -128,7 +143,13 @@ impl<'a, 'n, 'f> Scene<'a, 'n, 'f> {
             files: self.files,
             time: self.time,
         };
-        self.mm.wake(reads, &mut scratch.mm, &mut scratch.out, &mut *scratch.ops);
+        self.mm.wake(
+            reads,
+            &mut scratch.stays,
+            &mut scratch.mm,
+            &mut scratch.out,
+            &mut *scratch.ops,
+        );
     }
 
     // Wakes MD. The scratch is clear.
@@ -140,7 +161,12 @@ impl<'a, 'n, 'f> Scene<'a, 'n, 'f> {
             window: self.window,
             time: self.time,
         };
-        self.md
-            .wake(reads, &mut scratch.md, &mut scratch.out, &mut ());
+        self.md.wake(
+            reads,
+            &mut scratch.stays,
+            &mut scratch.md,
+            &mut scratch.out,
+            &mut (),
+        );
     }
 }

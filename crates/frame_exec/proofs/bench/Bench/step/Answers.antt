@@ -24,11 +24,11 @@ returns-clause-steps g c =
     let more = taken.run in
     record {
       run = record { waits = more.waits ∙ run.waits; epoch = more.epoch ∙ run.epoch; number = more.number ∙ run.number; failed = more.failed ∙ run.failed; tables = more.tables ∙ run.tables; files = more.files ∙ run.files };
-      hs = taken_woken _ _ _ _ _ _ _ _ _ _ _ _ (woken.hs taken.hs.0 taken.hs.1) (ap (λ slot. slot.state.value) slots.hs) taken.hs.2.0 taken.hs.2.1 c.args.self.now.tables refl;
-      cs = taken_woken _ _ _ _ _ _ _ _ _ _ _ _ (woken.cs taken.cs.0 taken.cs.1).0 (ap (λ slot. slot.state.value) slots.cs) taken.cs.2.0 taken.cs.2.1 c.args.self.now.tables (refl, refl);
-      sc = λ begin same. taken_woken _ _ _ _ _ _ _ _ _ _ _ _ (woken.sc taken.sc.0 taken.sc.1).0 (ap (λ slot. slot.state.value) slots.sc) taken.sc.2.0 taken.sc.2.1 begin (sym same);
-      mm = λ tables. taken_woken _ _ _ _ _ _ _ _ _ _ _ _ (woken.mm taken.mm.0 taken.mm.1).0 (ap (λ slot. slot.state.value) slots.mm) taken.mm.2.0 taken.mm.2.1 tables tt;
-      md = λ tables. taken_woken _ _ _ _ _ _ _ _ _ _ _ _ (woken.md taken.md.0 taken.md.1).0 (ap (λ slot. slot.state.value) slots.md) taken.md.2.0 taken.md.2.1 tables tt;
+      hs = taken_woken _ _ _ _ _ _ _ _ _ _ _ _ _ (woken.hs taken.hs.0 taken.hs.1) (ap (λ slot. slot.state.value) slots.hs) taken.hs.2.0 taken.hs.2.1 c.args.self.now.tables refl;
+      cs = taken_woken _ _ _ _ _ _ _ _ _ _ _ _ _ (woken.cs taken.cs.0 taken.cs.1).0 (ap (λ slot. slot.state.value) slots.cs) taken.cs.2.0 taken.cs.2.1 c.args.self.now.tables (refl, refl);
+      sc = λ begin same. taken_woken _ _ _ _ _ _ _ _ _ _ _ _ _ (woken.sc taken.sc.0 taken.sc.1).0 (ap (λ slot. slot.state.value) slots.sc) taken.sc.2.0 taken.sc.2.1 begin (sym same);
+      mm = λ tables. taken_woken _ _ _ _ _ _ _ _ _ _ _ _ _ (woken.mm taken.mm.0 taken.mm.1).0 (ap (λ slot. slot.state.value) slots.mm) taken.mm.2.0 taken.mm.2.1 tables tt;
+      md = λ tables. taken_woken _ _ _ _ _ _ _ _ _ _ _ _ _ (woken.md taken.md.0 taken.md.1).0 (ap (λ slot. slot.state.value) slots.md) taken.md.2.0 taken.md.2.1 tables tt;
       operations = taken.mm.2.2 ∙ (woken.mm taken.mm.0 taken.mm.1).1.are;
       pipes = taken.pipes ∙ slots.pipes;
       log = taken.log ∙ slots.log;
@@ -46,11 +46,11 @@ returns-clause-can_send g c =
     let ram : new.ram ≡ old.ram = taken.memory ∙ slots.memory in
     let files : new.files ≡ old.files = taken.run.files ∙ woken.run.files in
     record {
-      hs = taken_sendable _ _ _ _ _ _ _ _ _ _ _ _ (woken.hs taken.hs.0 taken.hs.1) (ap (λ slot. slot.state.value) slots.hs) taken.hs.2.0 taken.hs.2.1;
-      cs = taken_sendable _ _ _ _ _ _ _ _ _ _ _ _ (woken.cs taken.cs.0 taken.cs.1).0 (ap (λ slot. slot.state.value) slots.cs) taken.cs.2.0 taken.cs.2.1;
-      sc = taken_sendable _ _ _ _ _ _ _ _ _ _ _ _ (woken.sc taken.sc.0 taken.sc.1).0 (ap (λ slot. slot.state.value) slots.sc) taken.sc.2.0 taken.sc.2.1;
-      mm = taken_sendable _ _ _ _ _ _ _ _ _ _ _ _ (woken.mm taken.mm.0 taken.mm.1).0 (ap (λ slot. slot.state.value) slots.mm) taken.mm.2.0 taken.mm.2.1;
-      md = taken_sendable _ _ _ _ _ _ _ _ _ _ _ _ (woken.md taken.md.0 taken.md.1).0 (ap (λ slot. slot.state.value) slots.md) taken.md.2.0 taken.md.2.1;
+      hs = taken_sendable _ _ _ _ _ _ _ _ _ _ _ _ _ (woken.hs taken.hs.0 taken.hs.1) (ap (λ slot. slot.state.value) slots.hs) taken.hs.2.0 taken.hs.2.1;
+      cs = taken_sendable _ _ _ _ _ _ _ _ _ _ _ _ _ (woken.cs taken.cs.0 taken.cs.1).0 (ap (λ slot. slot.state.value) slots.cs) taken.cs.2.0 taken.cs.2.1;
+      sc = taken_sendable _ _ _ _ _ _ _ _ _ _ _ _ _ (woken.sc taken.sc.0 taken.sc.1).0 (ap (λ slot. slot.state.value) slots.sc) taken.sc.2.0 taken.sc.2.1;
+      mm = taken_sendable _ _ _ _ _ _ _ _ _ _ _ _ _ (woken.mm taken.mm.0 taken.mm.1).0 (ap (λ slot. slot.state.value) slots.mm) taken.mm.2.0 taken.mm.2.1;
+      md = taken_sendable _ _ _ _ _ _ _ _ _ _ _ _ _ (woken.md taken.md.0 taken.md.1).0 (ap (λ slot. slot.state.value) slots.md) taken.md.2.0 taken.md.2.1;
       operations = subst (λ (fs : Bor (List (List ℕ))). CanLand (loads_of fs.now) new.ram new.ops.value) (sym files)
           (subst (λ (m : Memory). CanLand (loads_in old) m new.ops.value) (sym ram) (subst (λ (ops : List MemOp). CanLand (loads_in old) old.ram ops) (sym taken.mm.2.2) land));
     }
@@ -70,9 +70,9 @@ returns-clause-ready g c =
     record {
       cs = subst (λ (m : Memory). CsIsReady (regions_of m.areas) new.tables.eeprom new.tables.memory new.cs.state.value) (sym ram)
           (subst (λ (t : TableSet). CsIsReady (regions_of old.ram.areas) t.eeprom t.memory new.cs.state.value) (sym tables)
-          (subst (λ (s : Cs). CsIsReady (regions_of old.ram.areas) old.tables.eeprom old.tables.memory s) (sym (state_is _ _ _ _ _ _ _ _ _ _ _ _ cs.0 (ap (λ slot. slot.state.value) slots.cs) taken.cs.2.0 taken.cs.2.1)) cs.1));
+          (subst (λ (s : Cs). CsIsReady (regions_of old.ram.areas) old.tables.eeprom old.tables.memory s) (sym (state_is _ _ _ _ _ _ _ _ _ _ _ _ _ cs.0 (ap (λ slot. slot.state.value) slots.cs) taken.cs.2.0 taken.cs.2.1)) cs.1));
       sc = subst (λ (t : TableSet). ScIsReady t.sc new.sc.state.value) (sym tables)
-          (subst (λ (s : Sc). ScIsReady old.tables.sc s) (sym (state_is _ _ _ _ _ _ _ _ _ _ _ _ sc.0 (ap (λ slot. slot.state.value) slots.sc) taken.sc.2.0 taken.sc.2.1)) sc.1);
+          (subst (λ (s : Sc). ScIsReady old.tables.sc s) (sym (state_is _ _ _ _ _ _ _ _ _ _ _ _ _ sc.0 (ap (λ slot. slot.state.value) slots.sc) taken.sc.2.0 taken.sc.2.1)) sc.1);
       md = subst (λ (m : Memory). AllGiven (regions_of m.areas) new.md.state.value) (sym ram)
-          (subst (λ (s : Md). AllGiven (regions_of old.ram.areas) s) (sym (state_is _ _ _ _ _ _ _ _ _ _ _ _ md.0 (ap (λ slot. slot.state.value) slots.md) taken.md.2.0 taken.md.2.1)) md.1);
+          (subst (λ (s : Md). AllGiven (regions_of old.ram.areas) s) (sym (state_is _ _ _ _ _ _ _ _ _ _ _ _ _ md.0 (ap (λ slot. slot.state.value) slots.md) taken.md.2.0 taken.md.2.1)) md.1);
     }

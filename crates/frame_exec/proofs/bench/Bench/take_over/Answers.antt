@@ -1,4 +1,4 @@
-use Rattle.std.proofs.Common.{◌≡◌, Option, length, refl, ap, sym, ◌∙◌, arith}
+use Rattle.std.proofs.Common.{◌≡◌, Bool, Option, length, refl, ap, sym, ◌∙◌, arith}
 use Rattle.std.proofs.lemmas.List.{get_or-set_other, get_or-set_same}
 use Rattle.bus_pipes.specs.Held.{Held}
 use Rattle.bus_pipes.specs.declared.names.Out.{Out}
@@ -28,7 +28,7 @@ returns c =
         left,
         sym (hs.others 3 left (omega arith)) ∙ sym (cs.others 3 left (omega arith)) ∙ sym (sc.others 3 left (omega arith)) ∙ c.result_mut-left.ensures.value,
         (
-          mm.from.2 ∙ ap (λ (l : Left). next_of l.mm c.args.self.now.mm.state.value) same ∙ ap (λ (next : Option Mm). next_of next c.args.self.now.mm.state.value) c.give_operations.ensures.next,
+          mm.from.2 ∙ ap (λ (l : Left). next_of l.stays l.mm c.args.self.now.mm.state.value) same ∙ ap (λ (next : Option Mm). next_of gave.stays next c.args.self.now.mm.state.value) c.give_operations.ensures.next.0 ∙ ap (λ (stays : Bool). next_of stays left.mm c.args.self.now.mm.state.value) c.give_operations.ensures.next.1,
           mm.from.3 ∙ ap (λ (l : Left). l.out.items) same ∙ ap (λ (held : Held Out). held.items) c.give_operations.ensures.items,
           c.give_operations.ensures.operations,
         ),
