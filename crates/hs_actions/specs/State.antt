@@ -5,6 +5,18 @@ use Rattle.hs_tables.specs.declared.actions.ActRow.{ActRow}
 use Rattle.hs_actions.specs.Outcomes.{Beginning, Outcomes, Past, outcomes_in, made_of, max_of, sendings, sent_of, act_at}
 use Rattle.hs_actions.specs.declared.state.Actions.{Actions}
 
+-- The resets made.
+abbrev pub resets_made : Actions → ℕ
+resets_made a = a.made
+
+-- Their maximum.
+abbrev pub resets_most : Actions → ℕ
+resets_most a = a.max
+
+-- The message actions sent, modulo 65,536.
+abbrev pub actions_sent : Actions → ℕ
+actions_sent a = a.sent
+
 -- What is left of the cooldown behind a sending in wakeup j, once so many wakeups have begun.
 abbrev pub left_by : ℕ → ℕ → ℕ → ℕ
 left_by cooldown wakeups j = j + 1 + cooldown - wakeups
@@ -16,9 +28,9 @@ left_of cooldown wakeups sent = fold (λ most j. max most (left_by cooldown wake
 -- The state stands for the outcomes since a beginning.
 pub record StandsOn (acts : List ActRow) (begins : Beginning) (wakeups : ℕ) (earlier : Outcomes) (a : Actions) : Type 0 where
   pub cooldowns : (place : ℕ) → place < 8 → get_or a.cooldowns place 0 ≡ left_of (act_at acts place).cooldown wakeups (sendings place earlier)
-  pub made : a.made ≡ made_of begins earlier
-  pub max : a.max ≡ max_of begins earlier
-  pub sent : a.sent ≡ sent_of earlier
+  pub made : resets_made a ≡ made_of begins earlier
+  pub max : resets_most a ≡ max_of begins earlier
+  pub sent : actions_sent a ≡ sent_of earlier
 
 -- It stands for what was before.
 unfoldable pub ActionsStand : List ActRow → Past → Actions → Type 0

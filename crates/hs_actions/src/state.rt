@@ -8,7 +8,7 @@ ghost use Rattle.hs_actions.specs.Happenings.{Attempt, action_of, HasPlace};
 ghost use Rattle.hs_actions.specs.Happenings.Happening.{Limits, Clears, Attempts};
 ghost use Rattle.hs_actions.specs.Outcomes.{Past, past_from, in_next_wakeup, with_more, goes_after};
 ghost use Rattle.hs_actions.specs.Items.{happening_items};
-ghost use Rattle.hs_actions.specs.State.{ActionsStand, is_cooling};
+ghost use Rattle.hs_actions.specs.State.{ActionsStand, is_cooling, resets_made, resets_most, actions_sent};
 ghost use Rattle.hs_actions.specs.declared.action.Action.TheVariants.{Reset, Message};
 
 use crate::action::{Action, Source, action_of};
@@ -62,15 +62,15 @@ impl Actions {
 
     /// The resets made, and their maximum.
     pub fn resets(&self) -> (u16, u16)
-        ensures made { result.0 ≡ self.now.made }
-        ensures max { result.1 ≡ self.now.max }
+        ensures made { result.0 ≡ resets_made self.now }
+        ensures max { result.1 ≡ resets_most self.now }
     {
         (self.made, self.max)
     }
 
     /// The message actions sent, modulo 65,536.
     pub fn sent(&self) -> u16
-        ensures { result ≡ self.now.sent }
+        ensures { result ≡ actions_sent self.now }
     {
         self.sent
     }

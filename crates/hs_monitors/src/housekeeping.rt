@@ -4,6 +4,7 @@ ghost use Rattle.std.specs.List.{flat_map};
 ghost use Rattle.packet_forms.specs.declared.name.Counter.{Counter};
 ghost use Rattle.bus_pipes.specs.Counted.{is_item_counted};
 ghost use Rattle.bus_pipes.specs.declared.names.Out.TheVariants as outs;
+ghost use Rattle.hs_actions.specs.State.{resets_made, resets_most, actions_sent};
 ghost use Rattle.hs_tables.specs.Counters.{entry_of as name_of};
 ghost use Rattle.hs_tables.specs.declared.apps.AppEntry.{AppEntry};
 ghost use Rattle.hs_tables.specs.Apps.{entry_of};
@@ -42,7 +43,7 @@ pub(crate) fn housekeeping(
     counters: &[Counter],
     now: u32,
 ) -> Packet
-    ensures packet { result ≡ housekeeping_of now counts shown.monitoring shown.listening actions.now.made actions.now.max actions.now.sent shown.watching names.now counters.now }
+    ensures packet { result ≡ housekeeping_of now counts shown.monitoring shown.listening (resets_made actions.now) (resets_most actions.now) (actions_sent actions.now) shown.watching names.now counters.now }
     ensures counted { is_item_counted (outs.Made result) ≡ true }
 {
     let mut payload = Payload::new();
@@ -68,7 +69,7 @@ fn flag_of(on: bool) -> u8
 #[tactic(auto, unfolding(packet_forms::specs::Numbers::be16_bytes))]
 fn tell_actions(payload: &mut Payload, actions: &Actions)
     requires { length payload.old ≡ 4 }
-    ensures bytes { payload.new ≡ payload.old ++ told_bytes actions.now.made actions.now.max actions.now.sent }
+    ensures bytes { payload.new ≡ payload.old ++ told_bytes (resets_made actions.now) (resets_most actions.now) (actions_sent actions.now) }
     ensures size { length payload.new ≡ 12 }
 {
     let (made, max) = actions.resets();
