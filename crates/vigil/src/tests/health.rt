@@ -23,7 +23,7 @@ struct Watch {
     rehearsal: Rehearsal<'static>,
 }
 
-const WATCHES: [Watch; 21] = [
+const WATCHES: [Watch; 22] = [
     // first_check_acts
     Watch {
         apps: &[(1, "LOAD", 1, 3)],
@@ -122,6 +122,32 @@ const WATCHES: [Watch; 21] = [
                 Line::Event("HS", 4, 0, 18, 2),
                 Line::Event("HS", 7, 1, 102, 3),
                 Line::Text("7 restart LOAD"),
+            ],
+        },
+    },
+    // The same with a report in place of a restart.
+    Watch {
+        apps: &[(1, "LOAD", 3, 3)],
+        events: &[],
+        counts: &[],
+        actions: &[],
+        rehearsal: Rehearsal {
+            frames: 9,
+            parts: &[&[
+                (0, "app LOAD 5\n"),
+                (1, "app LOAD 5\n"),
+                (2, "app LOAD 6\n"),
+                (3, "app LOAD 6\n"),
+                (4, "app LOAD 6\n"),
+                (5, "app LOAD 6\n"),
+                (6, "app LOAD 6\n"),
+                (7, "app LOAD 6\n"),
+                (8, "app LOAD 6\n"),
+                (3, "send 18AEC0000001028A\n"),
+            ]],
+            lines: &[
+                Line::Event("HS", 4, 0, 18, 2),
+                Line::Event("HS", 7, 1, 103, 3),
             ],
         },
     },
@@ -424,16 +450,16 @@ const WATCHES: [Watch; 21] = [
             ],
         },
     },
-    // The longest cycle count doesn't act, and an entry without one isn't used.
+    // The longest cycle count acts in its last wakeup, and an entry without one isn't used.
     Watch {
         apps: &[(1, "LOAD", 65535, 3), (2, "LOAD", 0, 3)],
         events: &[],
         counts: &[],
         actions: &[],
         rehearsal: Rehearsal {
-            frames: 3,
+            frames: 65536,
             parts: &[&[]],
-            lines: &[],
+            lines: &[Line::Event("HS", 65534, 0, 103, 3)],
         },
     },
     // Housekeeping: what was counted, both monitorings, the resets, which monitors watch, and the counters.
