@@ -1,10 +1,10 @@
 -- The packets with which CS answers its commands before their events.
 use Rattle.std.specs.Prelude.{ℕ, List, [], ◌∷◌, ◌++◌, Option, Some, None}
+use Rattle.packet_forms.specs.MessageIds.{cs_baseline}
 use Rattle.packet_forms.specs.Numbers.{be16_bytes}
 use Rattle.packet_forms.specs.Built.{telemetry_of}
 use Rattle.bus_pipes.specs.declared.names.Out.{Out}
 use Rattle.bus_pipes.specs.declared.names.Out.TheVariants.{Made}
-use Rattle.cs_slices.specs.Messages.{baseline_id}
 use Rattle.cs_slices.specs.Instructions.{place_of}
 use Rattle.cs_slices.specs.Slices.{Slice}
 use Rattle.cs_slices.specs.Passes.{baseline}
@@ -18,7 +18,7 @@ baseline_bytes (Some check) = be16_bytes 1 ++ be16_bytes check
 
 -- The baseline packet of an entry.
 unfoldable pub baseline_packet : ℕ → ℕ → ℕ → Option ℕ → List ℕ
-baseline_packet time table number base = telemetry_of baseline_id time (be16_bytes table ++ be16_bytes number ++ baseline_bytes base)
+baseline_packet time table number base = telemetry_of cs_baseline time (be16_bytes table ++ be16_bytes number ++ baseline_bytes base)
 
 -- What an order is answered with before its event, by the slices so far.
 abbrev pub replies_to : ℕ → List Slice → Instruction → List Out

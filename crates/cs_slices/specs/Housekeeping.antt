@@ -1,10 +1,10 @@
 -- CS's housekeeping.
 use Rattle.std.specs.Prelude.{ℕ, Bool, List, [], ◌∷◌, ◌++◌}
 use Rattle.histories.specs.Masks.{bits_of}
+use Rattle.packet_forms.specs.MessageIds.{cs_housekeeping}
 use Rattle.packet_forms.specs.Numbers.{be16_bytes, be32_bytes}
 use Rattle.packet_forms.specs.Built.{telemetry_of}
 use Rattle.bus_pipes.specs.declared.names.Counts.{Counts}
-use Rattle.cs_slices.specs.Messages.{housekeeping_id}
 use Rattle.cs_slices.specs.Orders.{is_cs_on, is_table_on}
 use Rattle.cs_slices.specs.Slices.{Slice}
 use Rattle.cs_slices.specs.Passes.{miscompare_count, pass_count}
@@ -17,7 +17,7 @@ flags_of cs eeprom memory = bits_of (cs ∷ eeprom ∷ memory ∷ [])
 -- The housekeeping packet: both counts, the flags, the miscompares of both tables, and the whole passes.
 unfoldable pub housekeeping_of : ℕ → Counts → ℕ → ℕ → ℕ → ℕ → List ℕ
 housekeeping_of time counts flags eeprom memory passes =
-    telemetry_of housekeeping_id time ((counts.accepted ∷ counts.errors ∷ flags ∷ 0 ∷ []) ++ be16_bytes eeprom ++ be16_bytes memory ++ be32_bytes passes)
+    telemetry_of cs_housekeeping time ((counts.accepted ∷ counts.errors ∷ flags ∷ 0 ∷ []) ++ be16_bytes eeprom ++ be16_bytes memory ++ be32_bytes passes)
 
 -- The housekeeping packet at a place, by what was ordered before it and the slices so far.
 unfoldable pub housekeeping_at : ℕ → Counts → List Instruction → List Slice → List ℕ

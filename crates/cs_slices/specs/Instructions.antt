@@ -1,8 +1,9 @@
 -- What CS's commands ask for.
 use Rattle.std.specs.Prelude.{ℕ, ◌+◌, ◌-◌, ◌*◌, ◌≤◌, ◌==◌, true, false, if◌then◌else◌, List}
+use Rattle.packet_forms.specs.MessageIds.{cs_command, cs_request}
 use Rattle.packet_forms.specs.Numbers.{be16_at}
 use Rattle.commands.specs.Verdicts.{Language}
-use Rattle.cs_slices.specs.Messages.{cs_name, command_id, request_id, cs_codes}
+use Rattle.cs_slices.specs.Messages.{cs_name, cs_codes}
 use Rattle.cs_slices.specs.declared.instructions.Instruction.{Instruction}
 use Rattle.cs_slices.specs.declared.instructions.Instruction.TheVariants.{Plain, Whole, Table, Entry, Report}
 
@@ -20,7 +21,7 @@ instruction_of code payload =
 
 -- CS's commands.
 abbrev pub cs_language : Language Instruction
-cs_language = record { name = cs_name; command_id = command_id; request_id = request_id; codes = cs_codes; decode = instruction_of }
+cs_language = record { name = cs_name; command_id = cs_command; request_id = cs_request; codes = cs_codes; decode = instruction_of }
 
 -- The place, from 0, of an entry from 1 to 16 of table 1, EEPROM, or 2, memory.
 abbrev pub place_of : ℕ → ℕ → ℕ

@@ -1,4 +1,4 @@
--- CS's name, its message ids, and the codes of its commands.
+-- CS's name, and the codes of its commands.
 use Rattle.std.specs.Prelude.{ℕ, List, [], ◌∷◌, codes}
 use Rattle.packet_forms.specs.Names.{name_of}
 use Rattle.commands.specs.Rows.{code_row}
@@ -7,20 +7,6 @@ use Rattle.commands.specs.declared.verdicts.CodeRow.{CodeRow}
 -- CS's name.
 unfoldable pub cs_name : List ℕ
 cs_name = name_of (codes "CS")
-
--- Its commands, and the request for its housekeeping.
-abbrev pub command_id : ℕ
-command_id = 0x189F
-
-abbrev pub request_id : ℕ
-request_id = 0x18A0
-
--- Its housekeeping, and the report of a baseline.
-abbrev pub housekeeping_id : ℕ
-housekeeping_id = 0x08A4
-
-abbrev pub baseline_id : ℕ
-baseline_id = 0x08A5
 
 -- The event of a miscompare.
 abbrev pub miscompare_event : ℕ

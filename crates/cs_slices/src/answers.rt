@@ -4,7 +4,7 @@ ghost use Rattle.bus_pipes.specs.Counted.{is_item_counted};
 ghost use Rattle.bus_pipes.specs.declared.names.Out.TheVariants as outs;
 ghost use Rattle.cs_slices.specs.Answers.{baseline_packet};
 
-use crate::messages::BASELINE_ID;
+use packet_forms::message_ids::CS_BASELINE;
 use packet_forms::{Packet, telemetry};
 
 /// The packet that reports the baseline of an entry.
@@ -16,10 +16,10 @@ pub(crate) fn baseline_packet(table: u16, number: u16, base: Option<u16>, now: u
     let [a, b] = table.to_be_bytes();
     let [c, d] = number.to_be_bytes();
     match base {
-        None => telemetry(BASELINE_ID, now, &[a, b, c, d, 0, 0, 0, 0]),
+        None => telemetry(CS_BASELINE, now, &[a, b, c, d, 0, 0, 0, 0]),
         Some(check) => {
             let [e, f] = check.to_be_bytes();
-            telemetry(BASELINE_ID, now, &[a, b, c, d, 0, 1, e, f])
+            telemetry(CS_BASELINE, now, &[a, b, c, d, 0, 1, e, f])
         }
     }
 }

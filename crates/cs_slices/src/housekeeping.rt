@@ -4,10 +4,10 @@ ghost use Rattle.bus_pipes.specs.Counted.{is_item_counted};
 ghost use Rattle.bus_pipes.specs.declared.names.Out.TheVariants as outs;
 ghost use Rattle.cs_slices.specs.Housekeeping.{flags_of, housekeeping_of};
 
-use crate::messages::HOUSEKEEPING_ID;
 use crate::switches::Switches;
 use crate::tally::Tally;
 use bus_pipes::Counts;
+use packet_forms::message_ids::CS_HOUSEKEEPING;
 use packet_forms::{Packet, telemetry};
 
 /// The packet with both counts, the flags, the miscompares of both tables and the number of whole passes.
@@ -21,7 +21,7 @@ pub(crate) fn housekeeping(counts: Counts, switches: &Switches, tally: &Tally, n
     let [c, d] = tally.memory().to_be_bytes();
     let [e, f, g, h] = tally.passes().to_be_bytes();
     telemetry(
-        HOUSEKEEPING_ID,
+        CS_HOUSEKEEPING,
         now,
         &[
             counts.accepted,

@@ -2,8 +2,9 @@
 ghost use Rattle.std.specs.Prelude.{◌≡◌, ◌<◌};
 ghost use Rattle.cs_slices.specs.Instructions.{place_of, IsEntry};
 
-use crate::messages::{CODES, COMMAND_ID, REQUEST_ID, name};
+use crate::messages::{CODES, name};
 use commands::{Command, Terms};
+use packet_forms::message_ids::{CS_COMMAND, CS_REQUEST};
 use packet_forms::{Name, be16};
 
 /// What an accepted command asks for. Table 1 is EEPROM's and 2 memory's; entries are numbered from 1 to 16.
@@ -33,8 +34,8 @@ impl Command for Instruction {
     #[tactic(auto, unfolding(crate::specs::Messages::cs_codes))]
     fn terms() -> Terms {
         Terms {
-            command_id: COMMAND_ID,
-            request_id: REQUEST_ID,
+            command_id: CS_COMMAND,
+            request_id: CS_REQUEST,
             codes: &CODES,
         }
     }

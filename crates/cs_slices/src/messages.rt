@@ -1,4 +1,4 @@
-//! CS's name, its message ids, and the codes of its commands.
+//! CS's name, and the codes of its commands.
 ghost use Rattle.std.specs.Prelude.{◌≡◌};
 ghost use Rattle.packet_forms.specs.Names.{is_name_text};
 ghost use Rattle.cs_slices.specs.Messages.{cs_name};
@@ -6,13 +6,6 @@ ghost use Rattle.cs_slices.specs.Messages.{cs_name};
 use commands::{CodeRow, named};
 use packet_forms::Name;
 
-pub(crate) const COMMAND_ID: u16 = 0x189F;
-
-pub(crate) const REQUEST_ID: u16 = 0x18A0;
-
-pub(crate) const HOUSEKEEPING_ID: u16 = 0x08A4;
-
-pub(crate) const BASELINE_ID: u16 = 0x08A5;
 /// The event of a miscompare.
 pub(crate) const MISCOMPARE: u16 = 101;
 

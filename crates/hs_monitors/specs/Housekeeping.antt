@@ -2,6 +2,7 @@
 use Rattle.std.specs.Prelude.{ℕ, Bool, if◌then◌else◌, List, [], ◌∷◌, ◌++◌, map, slice_index_or, Option, Some, None, unwrap_or}
 use Rattle.std.specs.List.{flat_map}
 use Rattle.histories.specs.Masks.{bits_of}
+use Rattle.packet_forms.specs.MessageIds.{hs_housekeeping}
 use Rattle.packet_forms.specs.Numbers.{be16_bytes, be32_bytes}
 use Rattle.packet_forms.specs.Built.{telemetry_of}
 use Rattle.packet_forms.specs.declared.name.Counter.{Counter}
@@ -10,7 +11,6 @@ use Rattle.hs_tables.specs.Counters.{blank_row, entry_of}
 use Rattle.hs_tables.specs.declared.apps.AppRow.{AppRow}
 use Rattle.hs_tables.specs.declared.counters.CountRow.{CountRow}
 use Rattle.hs_actions.specs.Outcomes.{outcomes_in, made_of, max_of, sent_of}
-use Rattle.hs_monitors.specs.Messages.{housekeeping_id}
 use Rattle.hs_monitors.specs.Histories.{Input, HsEntry, Setup, tables_after}
 use Rattle.hs_monitors.specs.Orders.{orders_of, is_on, is_listening}
 use Rattle.hs_monitors.specs.Watches.{watch_at}
@@ -46,7 +46,7 @@ told_bytes made max sent = be16_bytes made ++ be16_bytes max ++ be16_bytes sent 
 -- The housekeeping packet: both counts, whether both monitorings are on, the resets and message actions, the watching monitors, and the 32 counters.
 unfoldable pub housekeeping_of : ℕ → Counts → Bool → Bool → ℕ → ℕ → ℕ → ℕ → List CountRow → List Counter → List ℕ
 housekeeping_of time counts monitoring listening made max sent watching rows counters =
-    telemetry_of housekeeping_id time ((counts.accepted ∷ counts.errors ∷ flag_of monitoring ∷ flag_of listening ∷ []) ++ told_bytes made max sent ++ be32_bytes watching ++ flat_map (shown_bytes counters) rows)
+    telemetry_of hs_housekeeping time ((counts.accepted ∷ counts.errors ∷ flag_of monitoring ∷ flag_of listening ∷ []) ++ told_bytes made max sent ++ be32_bytes watching ++ flat_map (shown_bytes counters) rows)
 
 -- The housekeeping packet at a place in a wakeup, behind what was ordered in it so far.
 unfoldable pub housekeeping_at : Setup → List HsEntry → Input → Counts → List Instruction → List ℕ

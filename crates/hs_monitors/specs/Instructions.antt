@@ -1,9 +1,10 @@
 -- What Health and Safety's commands ask for.
 use Rattle.std.specs.Prelude.{ℕ, ◌==◌, true, false, if◌then◌else◌, List}
+use Rattle.packet_forms.specs.MessageIds.{hs_command, hs_request}
 use Rattle.packet_forms.specs.Numbers.{be16_at}
 use Rattle.commands.specs.Verdicts.{Language}
 use Rattle.hs_actions.specs.Items.{hs_name}
-use Rattle.hs_monitors.specs.Messages.{command_id, request_id, hs_codes}
+use Rattle.hs_monitors.specs.Messages.{hs_codes}
 use Rattle.hs_monitors.specs.declared.instructions.Instruction.{Instruction}
 use Rattle.hs_monitors.specs.declared.instructions.Instruction.TheVariants.{Plain, Monitor, Listen, Clear, Limit}
 
@@ -20,4 +21,4 @@ instruction_of code payload =
 
 -- Health and Safety's commands.
 abbrev pub hs_language : Language Instruction
-hs_language = record { name = hs_name; command_id = command_id; request_id = request_id; codes = hs_codes; decode = instruction_of }
+hs_language = record { name = hs_name; command_id = hs_command; request_id = hs_request; codes = hs_codes; decode = instruction_of }

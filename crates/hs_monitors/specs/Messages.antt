@@ -1,18 +1,7 @@
--- Health and Safety's message ids, and the codes of its commands. Its name stands with its actions.
+-- The codes of Health and Safety's commands. Its name stands with its actions.
 use Rattle.std.specs.Prelude.{ℕ, List, [], ◌∷◌}
 use Rattle.commands.specs.Rows.{code_row}
 use Rattle.commands.specs.declared.verdicts.CodeRow.{CodeRow}
-
--- Its commands, and the request for its housekeeping.
-abbrev pub command_id : ℕ
-command_id = 0x18AE
-
-abbrev pub request_id : ℕ
-request_id = 0x18AF
-
--- Its housekeeping.
-abbrev pub housekeeping_id : ℕ
-housekeeping_id = 0x08AD
 
 -- The codes, each with the length of its payload: no-op, reset counters, application monitoring on and off, event monitoring on and off, set the resets made to 0, set the maximum of resets.
 unfoldable pub hs_codes : List CodeRow

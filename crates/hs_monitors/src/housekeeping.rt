@@ -13,12 +13,12 @@ ghost use Rattle.hs_monitors.specs.Entries.{EntryStands, EntriesStand};
 ghost use Rattle.hs_monitors.specs.Housekeeping.{flag_of, watching_of, count_at, shown_of, shown_bytes, told_bytes, housekeeping_of};
 
 use crate::apps::PLACES;
-use crate::messages::HOUSEKEEPING_ID;
 use crate::watches::{Watched, counter_in};
 use bus_pipes::Counts;
 use histories::bits_of;
 use hs_actions::Actions;
 use hs_tables::{AppMon, ExeCount};
+use packet_forms::message_ids::HS_HOUSEKEEPING;
 use packet_forms::{ByteList, Counter, Packet, telemetry};
 
 /// The payload: both counts, two flags, three numbers and a zero, a mask, and 32 counters.
@@ -56,7 +56,7 @@ pub(crate) fn housekeeping(
     tell_actions(&mut payload, actions);
     payload.append(&shown.watching.to_be_bytes());
     show_counters(&mut payload, names, counters);
-    telemetry(HOUSEKEEPING_ID, now, payload.bytes())
+    telemetry(HS_HOUSEKEEPING, now, payload.bytes())
 }
 
 fn flag_of(on: bool) -> u8

@@ -1,8 +1,9 @@
 //! What a command asks for.
 ghost use Rattle.std.specs.Prelude.{◌≡◌};
 
-use crate::messages::{CODES, COMMAND_ID, REQUEST_ID, name};
+use crate::messages::{CODES, name};
 use commands::{Command, Terms};
+use packet_forms::message_ids::{HS_COMMAND, HS_REQUEST};
 use packet_forms::{Name, be16};
 
 /// What an accepted command asks for.
@@ -32,8 +33,8 @@ impl Command for Instruction {
     #[tactic(auto, unfolding(crate::specs::Messages::hs_codes))]
     fn terms() -> Terms {
         Terms {
-            command_id: COMMAND_ID,
-            request_id: REQUEST_ID,
+            command_id: HS_COMMAND,
+            request_id: HS_REQUEST,
             codes: &CODES,
         }
     }

@@ -1,16 +1,10 @@
-//! Health and Safety's name, its message ids, and the codes of its commands.
+//! Health and Safety's name, and the codes of its commands.
 ghost use Rattle.std.specs.Prelude.{◌≡◌};
 ghost use Rattle.packet_forms.specs.Names.{is_name_text};
 ghost use Rattle.hs_actions.specs.Items.{hs_name};
 
 use commands::{CodeRow, named};
 use packet_forms::Name;
-
-pub(crate) const COMMAND_ID: u16 = 0x18AE;
-
-pub(crate) const REQUEST_ID: u16 = 0x18AF;
-
-pub(crate) const HOUSEKEEPING_ID: u16 = 0x08AD;
 
 /// No-op, reset counters, application monitoring on and off, event monitoring on and off, set the resets made to 0, set the maximum of
 /// resets.

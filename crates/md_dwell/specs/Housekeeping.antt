@@ -2,9 +2,9 @@
 use Rattle.std.specs.Prelude.{ℕ, ◌-◌, Bool, ◌&&◌, nat_lt, List, [], ◌∷◌, map, slice_index_or}
 use Rattle.std.specs.List.{range_with_len}
 use Rattle.histories.specs.Masks.{bits_of}
+use Rattle.packet_forms.specs.MessageIds.{md_housekeeping}
 use Rattle.packet_forms.specs.Built.{telemetry_of}
 use Rattle.bus_pipes.specs.declared.names.Counts.{Counts}
-use Rattle.md_dwell.specs.Messages.{housekeeping_id}
 use Rattle.md_dwell.specs.Tables.{DwellTable, blank_table}
 use Rattle.md_dwell.specs.Lists.{list_of, delays}
 use Rattle.md_dwell.specs.Orders.{entries_after, is_on_after}
@@ -33,4 +33,4 @@ enabled_bits tables orders = bits_of (map (is_on tables orders) (range_with_len 
 
 -- The housekeeping packet: both counts, and the enabled tables.
 unfoldable pub housekeeping_of : ℕ → Counts → ℕ → List ℕ
-housekeeping_of time counts enabled = telemetry_of housekeeping_id time (counts.accepted ∷ counts.errors ∷ enabled ∷ 0 ∷ [])
+housekeeping_of time counts enabled = telemetry_of md_housekeeping time (counts.accepted ∷ counts.errors ∷ enabled ∷ 0 ∷ [])

@@ -1,8 +1,9 @@
 -- What MD's commands ask for.
 use Rattle.std.specs.Prelude.{ℕ, ◌==◌, ◌<◌, ◌≤◌, if◌then◌else◌, List}
+use Rattle.packet_forms.specs.MessageIds.{md_command, md_request}
 use Rattle.packet_forms.specs.Numbers.{be16_at, be32_at}
 use Rattle.commands.specs.Verdicts.{Language}
-use Rattle.md_dwell.specs.Messages.{md_name, command_id, request_id, md_codes}
+use Rattle.md_dwell.specs.Messages.{md_name, md_codes}
 use Rattle.md_dwell.specs.declared.tables.DwellEntry.{DwellEntry}
 use Rattle.md_dwell.specs.declared.instructions.Instruction.{Instruction}
 use Rattle.md_dwell.specs.declared.instructions.Instruction.TheVariants.{Plain, Start, Stop, Jam}
@@ -21,7 +22,7 @@ instruction_of code payload =
 
 -- MD's commands.
 abbrev pub md_language : Language Instruction
-md_language = record { name = md_name; command_id = command_id; request_id = request_id; codes = md_codes; decode = instruction_of }
+md_language = record { name = md_name; command_id = md_command; request_id = md_request; codes = md_codes; decode = instruction_of }
 
 -- A jam names an entry of the 25.
 abbrev pub NamesEntry : Instruction → Type 0

@@ -1,5 +1,6 @@
 -- What MD sends in a wakeup.
 use Rattle.std.specs.Prelude.{ℕ, List, [], ◌∷◌, ◌++◌, length, map, Option, Some, None}
+use Rattle.packet_forms.specs.MessageIds.{md_dwell}
 use Rattle.packet_forms.specs.Numbers.{be16_bytes}
 use Rattle.packet_forms.specs.Built.{telemetry_of}
 use Rattle.bus_pipes.specs.declared.names.Out.{Out}
@@ -7,7 +8,7 @@ use Rattle.bus_pipes.specs.declared.names.Out.TheVariants.{Made}
 use Rattle.commands.specs.Inputs.{Wakeup, heard_of}
 use Rattle.commands.specs.Answering.{Answers, command_items}
 use Rattle.commands.specs.declared.verdicts.Verdict.{Verdict}
-use Rattle.md_dwell.specs.Messages.{md_name, dwell_id}
+use Rattle.md_dwell.specs.Messages.{md_name}
 use Rattle.md_dwell.specs.Tables.{DwellTable}
 use Rattle.md_dwell.specs.Rounds.{dwell_at}
 use Rattle.md_dwell.specs.Verdicts.{md_protocol}
@@ -37,7 +38,7 @@ md_answers = record {
 
 -- The packet with the bytes of a round of table n: n, the number of bytes, the bytes.
 unfoldable pub dwell_packet : ℕ → ℕ → List ℕ → List ℕ
-dwell_packet time n bytes = telemetry_of (dwell_id n) time (be16_bytes n ++ be16_bytes (length bytes) ++ bytes)
+dwell_packet time n bytes = telemetry_of (md_dwell n) time (be16_bytes n ++ be16_bytes (length bytes) ++ bytes)
 
 -- That packet, where a round ended.
 abbrev pub dwell_items : ℕ → ℕ → Option (List ℕ) → List Out

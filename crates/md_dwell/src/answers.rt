@@ -2,8 +2,8 @@
 ghost use Rattle.std.specs.Prelude.{◌≡◌, ◌≤◌, length, true};
 ghost use Rattle.md_dwell.specs.Step.{dwell_packet};
 
-use crate::messages::DWELL_ID;
 use crate::payload::Payload;
+use packet_forms::message_ids::MD_DWELL;
 use packet_forms::{Packet, telemetry};
 
 /// The packet with the bytes of a round of a table, 1 to 4.
@@ -17,5 +17,5 @@ pub(crate) fn dwell_packet(table: u16, bytes: &[u8], now: u32) -> Packet
     payload.append(&table.to_be_bytes());
     payload.append(&(bytes.len() as u16).to_be_bytes());
     payload.append(bytes);
-    telemetry(DWELL_ID + table, now, payload.bytes())
+    telemetry(MD_DWELL + table, now, payload.bytes())
 }

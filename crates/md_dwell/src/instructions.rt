@@ -1,9 +1,10 @@
 //! What a command asks for.
 ghost use Rattle.std.specs.Prelude.{◌≡◌};
 
-use crate::messages::{CODES, COMMAND_ID, REQUEST_ID, name};
+use crate::messages::{CODES, name};
 use crate::tables::DwellEntry;
 use commands::{Command, Terms};
+use packet_forms::message_ids::{MD_COMMAND, MD_REQUEST};
 use packet_forms::{Name, be16, be32};
 
 /// What an accepted command asks for. Bit n - 1 of a mask is table n.
@@ -39,8 +40,8 @@ impl Command for Instruction {
     #[tactic(auto, unfolding(crate::specs::Messages::md_codes))]
     fn terms() -> Terms {
         Terms {
-            command_id: COMMAND_ID,
-            request_id: REQUEST_ID,
+            command_id: MD_COMMAND,
+            request_id: MD_REQUEST,
             codes: &CODES,
         }
     }

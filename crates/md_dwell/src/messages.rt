@@ -1,18 +1,10 @@
-//! MD's name, its message ids, and the codes of its commands.
+//! MD's name, and the codes of its commands.
 ghost use Rattle.std.specs.Prelude.{◌≡◌};
 ghost use Rattle.packet_forms.specs.Names.{is_name_text};
 ghost use Rattle.md_dwell.specs.Messages.{md_name};
 
 use commands::{CodeRow, named};
 use packet_forms::Name;
-
-pub(crate) const COMMAND_ID: u16 = 0x1890;
-
-pub(crate) const REQUEST_ID: u16 = 0x1891;
-
-pub(crate) const HOUSEKEEPING_ID: u16 = 0x0890;
-/// The dwell packets of table n have the n-th id behind this one.
-pub(crate) const DWELL_ID: u16 = 0x0890;
 
 /// No-op, reset counters, start, stop, jam.
 pub(crate) const CODES: [CodeRow; 5] = [

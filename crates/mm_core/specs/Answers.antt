@@ -1,20 +1,20 @@
 -- The packets with which MM answers its commands before their events.
 use Rattle.std.specs.Prelude.{ℕ, ◌+◌, ◌-◌, ◌*◌, ◌/◌, List, [], ◌∷◌, ◌++◌, length, map, take, drop, Result, Ok, Err}
 use Rattle.std.specs.List.{range_with_len}
+use Rattle.packet_forms.specs.MessageIds.{mm_peek, mm_dump}
 use Rattle.packet_forms.specs.Numbers.{be16_bytes, be32_bytes}
 use Rattle.packet_forms.specs.Built.{telemetry_of}
 use Rattle.bus_pipes.specs.declared.names.Out.{Out}
 use Rattle.bus_pipes.specs.declared.names.Out.TheVariants.{Made}
 use Rattle.memory_window.specs.Memory.{Memory}
 use Rattle.memory_window.specs.declared.access.AccessFault.{AccessFault}
-use Rattle.mm_core.specs.Messages.{peek_id, dump_id}
 use Rattle.mm_core.specs.Reading.{value_at, range_at}
 use Rattle.mm_core.specs.declared.instructions.Instruction.{Instruction}
 use Rattle.mm_core.specs.declared.instructions.Instruction.TheVariants.{Plain, Peek, Poke, Load, LoadFile, Fill, Protect, Dump}
 
 -- The packet with the value that a peek read: its size, its address, the value.
 unfoldable pub peek_packet : ℕ → ℕ → ℕ → ℕ → List ℕ
-peek_packet time size at value = telemetry_of peek_id time (size ∷ be32_bytes at ++ be32_bytes value)
+peek_packet time size at value = telemetry_of mm_peek time (size ∷ be32_bytes at ++ be32_bytes value)
 
 -- The packet of a read, where it met no fault.
 abbrev pub read_items : ℕ → ℕ → ℕ → Result ℕ AccessFault → List Out
@@ -27,7 +27,7 @@ part_size = 128
 
 -- The packet with a part of a dump: its address, how many bytes it has, and these.
 unfoldable pub dump_packet : ℕ → ℕ → List ℕ → List ℕ
-dump_packet time at part = telemetry_of dump_id time (be32_bytes at ++ be16_bytes (length part) ++ part)
+dump_packet time at part = telemetry_of mm_dump time (be32_bytes at ++ be16_bytes (length part) ++ part)
 
 -- The packet of the part in place k, from 0, of a dump from an address on.
 abbrev pub dump_part : ℕ → ℕ → List ℕ → ℕ → Out

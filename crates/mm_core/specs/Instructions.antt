@@ -1,12 +1,13 @@
 -- What MM's commands ask for.
 use Rattle.std.specs.Prelude.{ℕ, ◌%◌, ◌^◌, ◌==◌, Bool, true, false, ◌&&◌, nat_lt, nat_le, if◌then◌else◌, List, length, drop, slice_index, Option, Some, None}
+use Rattle.packet_forms.specs.MessageIds.{mm_command, mm_request}
 use Rattle.packet_forms.specs.Numbers.{be16_at, be32_at}
 use Rattle.table_files.specs.Files.{nth}
 use Rattle.commands.specs.Verdicts.{Language}
 use Rattle.memory_window.specs.Operations.{is_size}
 use Rattle.memory_window.specs.declared.operations.MemOp.{MemOp}
 use Rattle.memory_window.specs.declared.operations.MemOp.TheVariants as ops
-use Rattle.mm_core.specs.Messages.{mm_name, command_id, request_id, mm_codes}
+use Rattle.mm_core.specs.Messages.{mm_name, mm_codes}
 use Rattle.mm_core.specs.declared.instructions.Instruction.{Instruction}
 use Rattle.mm_core.specs.declared.instructions.Instruction.TheVariants.{Plain, Peek, Poke, Load, LoadFile, Fill, Protect, Dump}
 
@@ -27,7 +28,7 @@ instruction_of code payload =
 
 -- MM's commands.
 abbrev pub mm_language : Language Instruction
-mm_language = record { name = mm_name; command_id = command_id; request_id = request_id; codes = mm_codes; decode = instruction_of }
+mm_language = record { name = mm_name; command_id = mm_command; request_id = mm_request; codes = mm_codes; decode = instruction_of }
 
 -- The operation that loads a file, where there is one: all its bytes, at its address.
 abbrev pub file_operation : ℕ → Option (ℕ × List ℕ) → Option MemOp

@@ -1,4 +1,4 @@
--- MM's name, its message ids, and the codes of its commands.
+-- MM's name, and the codes of its commands.
 use Rattle.std.specs.Prelude.{ℕ, List, [], ◌∷◌, codes}
 use Rattle.packet_forms.specs.Names.{name_of}
 use Rattle.commands.specs.Rows.{code_row}
@@ -7,23 +7,6 @@ use Rattle.commands.specs.declared.verdicts.CodeRow.{CodeRow}
 -- MM's name.
 unfoldable pub mm_name : List ℕ
 mm_name = name_of (codes "MM")
-
--- Its commands, and the request for its housekeeping.
-abbrev pub command_id : ℕ
-command_id = 0x1888
-
-abbrev pub request_id : ℕ
-request_id = 0x1889
-
--- Its housekeeping, the packet with a value that was read, and that with a part of a dump.
-abbrev pub housekeeping_id : ℕ
-housekeeping_id = 0x0887
-
-abbrev pub peek_id : ℕ
-peek_id = 0x088A
-
-abbrev pub dump_id : ℕ
-dump_id = 0x088B
 
 -- The codes, each with the shortest and the longest payload: no-op, reset counters, peek, poke, load, load of a file, fill, EEPROM
 -- enable and disable, and dump.

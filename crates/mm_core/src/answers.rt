@@ -11,10 +11,10 @@ ghost use Rattle.mm_core.specs.Instructions.{is_dump_len, is_sized};
 ghost use Rattle.mm_core.specs.Answers.{peek_packet, read_items, dump_packet, dump_items, range_items, replies_to};
 
 use crate::instructions::Instruction;
-use crate::messages::{DUMP_ID, PEEK_ID};
 use crate::reading::{range_at, value_at};
 use bus_pipes::{Out, Outbox, push_telemetry};
 use memory_window::Window;
+use packet_forms::message_ids::{MM_DUMP, MM_PEEK};
 use packet_forms::{ByteList, Packet, behind, front, telemetry};
 
 /// How many bytes a part of a dump has, but for the last one.
@@ -113,7 +113,7 @@ fn push_peek(size: u8, at: u32, value: u32, now: u32, out: &mut Outbox)
 {
     let [a, b, c, d] = at.to_be_bytes();
     let [e, f, g, h] = value.to_be_bytes();
-    push_telemetry(out, PEEK_ID, now, &[size, a, b, c, d, e, f, g, h]);
+    push_telemetry(out, MM_PEEK, now, &[size, a, b, c, d, e, f, g, h]);
 }
 
 // The packet with a part of a dump.
@@ -127,5 +127,5 @@ fn dump_packet(part: &[u8], at: u32, now: u32) -> Packet
     payload.append(&at.to_be_bytes());
     payload.append(&(part.len() as u16).to_be_bytes());
     payload.append(part);
-    telemetry(DUMP_ID, now, payload.bytes())
+    telemetry(MM_DUMP, now, payload.bytes())
 }

@@ -6,11 +6,11 @@ ghost use Rattle.memory_window.specs.Window.{seen};
 ghost use Rattle.mm_core.specs.Reading.{protection_of};
 ghost use Rattle.mm_core.specs.Housekeeping.{is_open, open_regions, housekeeping_of};
 
-use crate::messages::HOUSEKEEPING_ID;
 use crate::reading::protection_of;
 use bus_pipes::Counts;
 use histories::bits_of;
 use memory_window::Window;
+use packet_forms::message_ids::MM_HOUSEKEEPING;
 use packet_forms::{Packet, telemetry};
 
 /// The packet with both counts and the regions that are open for writing.
@@ -21,7 +21,7 @@ pub(crate) fn housekeeping(window: Window<'_>, counts: Counts, now: u32) -> Pack
 {
     let open = open_regions(window);
     telemetry(
-        HOUSEKEEPING_ID,
+        MM_HOUSEKEEPING,
         now,
         &[counts.accepted, counts.errors, open, 0],
     )

@@ -3,10 +3,11 @@ ghost use Rattle.std.specs.Prelude.{◌≡◌, true};
 ghost use Rattle.table_files.specs.Files.{loads_of, nth};
 ghost use Rattle.mm_core.specs.Instructions.{file_operation, operation_of, is_fill_len, is_dump_len, is_sized};
 
-use crate::messages::{CODES, COMMAND_ID, REQUEST_ID, name};
+use crate::messages::{CODES, name};
 use crate::reading::low_bits;
 use commands::{Command, Terms};
 use memory_window::{Chunk, MemOp};
+use packet_forms::message_ids::{MM_COMMAND, MM_REQUEST};
 use packet_forms::{Name, be16, be32};
 use table_files::Files;
 
@@ -49,8 +50,8 @@ impl Command for Instruction {
     #[tactic(auto, unfolding(crate::specs::Messages::mm_codes))]
     fn terms() -> Terms {
         Terms {
-            command_id: COMMAND_ID,
-            request_id: REQUEST_ID,
+            command_id: MM_COMMAND,
+            request_id: MM_REQUEST,
             codes: &CODES,
         }
     }

@@ -1,20 +1,10 @@
-//! MM's name, its message ids, and the codes of its commands.
+//! MM's name, and the codes of its commands.
 ghost use Rattle.std.specs.Prelude.{◌≡◌};
 ghost use Rattle.packet_forms.specs.Names.{is_name_text};
 ghost use Rattle.mm_core.specs.Messages.{mm_name};
 
 use commands::{CodeRow, named};
 use packet_forms::Name;
-
-pub(crate) const COMMAND_ID: u16 = 0x1888;
-
-pub(crate) const REQUEST_ID: u16 = 0x1889;
-
-pub(crate) const HOUSEKEEPING_ID: u16 = 0x0887;
-
-pub(crate) const PEEK_ID: u16 = 0x088A;
-
-pub(crate) const DUMP_ID: u16 = 0x088B;
 
 /// No-op, reset counters, peek, poke, load, load of a file, fill, EEPROM enable and disable, and dump.
 pub(crate) const CODES: [CodeRow; 10] = [

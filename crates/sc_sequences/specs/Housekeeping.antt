@@ -1,10 +1,10 @@
 -- Stored Command's housekeeping.
 use Rattle.std.specs.Prelude.{ℕ, ◌+◌, ◌/◌, ◌%◌, List, [], ◌∷◌, ◌++◌, map, drop, length, Option, Some, None}
 use Rattle.histories.specs.Masks.{bits_of}
+use Rattle.packet_forms.specs.MessageIds.{sc_housekeeping}
 use Rattle.packet_forms.specs.Numbers.{be16_bytes, be32_bytes}
 use Rattle.packet_forms.specs.Built.{telemetry_of}
 use Rattle.bus_pipes.specs.declared.names.Counts.{Counts}
-use Rattle.sc_sequences.specs.Messages.{housekeeping_id}
 use Rattle.sc_sequences.specs.Sequences.{Sequence, is_running, at_place, running_ats}
 use Rattle.sc_sequences.specs.Turns.{Sequences}
 use Rattle.sc_sequences.specs.declared.housekeeping.Report.{Report}
@@ -47,6 +47,6 @@ told_bytes left sent wrong = be16_bytes left ++ be16_bytes sent ++ be16_bytes wr
 -- wrong checksum, 0, the relative sequences that run, and those that are enabled.
 unfoldable pub housekeeping_of : ℕ → Counts → Report → List ℕ
 housekeeping_of time counts report =
-    telemetry_of housekeeping_id time (
+    telemetry_of sc_housekeeping time (
     (counts.accepted ∷ counts.errors ∷ report.ats ∷ 0 ∷ []) ++ told_bytes report.left report.sent report.wrong
     ++ be64_bytes report.masks.running ++ be64_bytes report.masks.enabled)

@@ -1,8 +1,9 @@
 -- What Stored Command's commands ask for.
 use Rattle.std.specs.Prelude.{ℕ, ◌==◌, if◌then◌else◌, List}
+use Rattle.packet_forms.specs.MessageIds.{sc_command, sc_request}
 use Rattle.packet_forms.specs.Numbers.{be16_at, be32_at}
 use Rattle.commands.specs.Verdicts.{Language}
-use Rattle.sc_sequences.specs.Messages.{sc_name, command_id, request_id, sc_codes}
+use Rattle.sc_sequences.specs.Messages.{sc_name, sc_codes}
 use Rattle.sc_sequences.specs.declared.instructions.Instruction.{Instruction}
 use Rattle.sc_sequences.specs.declared.instructions.Instruction.TheVariants.{Plain, StartAts, StopAts, StartRts, StopRts, DisableRts, EnableRts, SwitchAts, JumpAts}
 
@@ -21,4 +22,4 @@ instruction_of code payload =
 
 -- Stored Command's commands.
 abbrev pub sc_language : Language Instruction
-sc_language = record { name = sc_name; command_id = command_id; request_id = request_id; codes = sc_codes; decode = instruction_of }
+sc_language = record { name = sc_name; command_id = sc_command; request_id = sc_request; codes = sc_codes; decode = instruction_of }

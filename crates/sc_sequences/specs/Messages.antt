@@ -8,17 +8,6 @@ use Rattle.commands.specs.declared.verdicts.CodeRow.{CodeRow}
 unfoldable pub sc_name : List ℕ
 sc_name = name_of (codes "SC")
 
--- Its commands, and the request for its housekeeping.
-abbrev pub command_id : ℕ
-command_id = 0x18A9
-
-abbrev pub request_id : ℕ
-request_id = 0x18AA
-
--- Its housekeeping.
-abbrev pub housekeeping_id : ℕ
-housekeeping_id = 0x08AA
-
 -- The codes, each with the length of its payload: no-op, reset counters, start and stop an absolute sequence, start, stop, disable and
 -- enable a relative one, switch and jump in the absolute one.
 unfoldable pub sc_codes : List CodeRow

@@ -9,11 +9,11 @@ ghost use Rattle.sc_sequences.specs.Housekeeping.{shown_ats, left_in, running_ma
 ghost use Rattle.sc_sequences.specs.State.{CursorsStand, SequencerStands};
 
 use crate::cursors::Cursors;
-use crate::messages::HOUSEKEEPING_ID;
 use crate::places::running_ats;
 use crate::sequencer::Sequencer;
 use bus_pipes::Counts;
 use histories::bits_of;
+use packet_forms::message_ids::SC_HOUSEKEEPING;
 use packet_forms::{ByteList, Packet, telemetry};
 use sc_tables::ScTables;
 
@@ -109,7 +109,7 @@ pub(crate) fn housekeeping(counts: Counts, report: &Report, now: u32) -> Packet
     tell_numbers(&mut payload, report);
     append_wide(&mut payload, report.masks.running);
     append_wide(&mut payload, report.masks.enabled);
-    telemetry(HOUSEKEEPING_ID, now, payload.bytes())
+    telemetry(SC_HOUSEKEEPING, now, payload.bytes())
 }
 
 // Puts the commands that are left, those sent, those with a wrong checksum and 0 behind the bytes.

@@ -1,8 +1,9 @@
 //! What a command asks for.
 ghost use Rattle.std.specs.Prelude.{◌≡◌};
 
-use crate::messages::{CODES, COMMAND_ID, REQUEST_ID, name};
+use crate::messages::{CODES, name};
 use commands::{Command, Terms};
+use packet_forms::message_ids::{SC_COMMAND, SC_REQUEST};
 use packet_forms::{Name, be16, be32};
 
 /// What an accepted command asks for.
@@ -40,8 +41,8 @@ impl Command for Instruction {
     #[tactic(auto, unfolding(crate::specs::Messages::sc_codes))]
     fn terms() -> Terms {
         Terms {
-            command_id: COMMAND_ID,
-            request_id: REQUEST_ID,
+            command_id: SC_COMMAND,
+            request_id: SC_REQUEST,
             codes: &CODES,
         }
     }

@@ -1,16 +1,10 @@
-//! Stored Command's name, its message ids, the codes of its commands, and its events that no command gives.
+//! Stored Command's name, the codes of its commands, and its events that no command gives.
 ghost use Rattle.std.specs.Prelude.{◌≡◌};
 ghost use Rattle.packet_forms.specs.Names.{is_name_text};
 ghost use Rattle.sc_sequences.specs.Messages.{sc_name};
 
 use commands::{CodeRow, named};
 use packet_forms::Name;
-
-pub(crate) const COMMAND_ID: u16 = 0x18A9;
-
-pub(crate) const REQUEST_ID: u16 = 0x18AA;
-
-pub(crate) const HOUSEKEEPING_ID: u16 = 0x08AA;
 
 /// The event of a wrong checksum in an absolute sequence.
 pub(crate) const WRONG_IN_ATS: u16 = 101;
