@@ -1,6 +1,7 @@
 -- The generated scenario: its text, from the number that it is drawn from.
 use Rattle.std.specs.Prelude.{ℕ, zero, suc, ◌+◌, ◌*◌, ◌/◌, ◌%◌, ◌==◌, if◌then◌else◌, List, [], ◌∷◌, ◌++◌, nat_lt, codes, decimal}
 use Rattle.std.specs.List.{flat_map}
+use Rattle.packet_forms.specs.MessageIds.{mm_command}
 use Rattle.packet_forms.specs.Built.{command_of}
 use Rattle.packet_forms.specs.Numbers.{be32_bytes}
 
@@ -44,9 +45,9 @@ upset_line b c = if b % 4 == 0 then codes "upset " ++ decimal c ++ codes " " ++ 
 -- a command of Memory Manager: to peek at a byte, to poke one, or to fill bytes
 unfoldable pub command_drawn : ℕ → ℕ → List ℕ
 command_drawn d e =
-    if d % 3 == 0 then command_of 0x1888 2 (8 ∷ be32_bytes e)
-    else if d % 3 == 1 then command_of 0x1888 3 (8 ∷ be32_bytes e ++ be32_bytes (d % 256))
-    else command_of 0x1888 8 (be32_bytes (e % 32768) ++ be32_bytes (1 + d % 256) ++ e % 256 ∷ [])
+    if d % 3 == 0 then command_of mm_command 2 (8 ∷ be32_bytes e)
+    else if d % 3 == 1 then command_of mm_command 3 (8 ∷ be32_bytes e ++ be32_bytes (d % 256))
+    else command_of mm_command 8 (be32_bytes (e % 32768) ++ be32_bytes (1 + d % 256) ++ e % 256 ∷ [])
 
 -- a hexadecimal digit, in upper case
 abbrev pub upper_digit : ℕ → ℕ

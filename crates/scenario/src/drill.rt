@@ -1,6 +1,7 @@
 //! The generated scenario, whose text is made piece by piece.
 
 ghost use Rattle.std.specs.Prelude.{◌≡◌, ◌≤◌, ◌<◌, ◌+◌, ◌*◌, ◌++◌, ◌∷◌, [], length, take, min, decimal, ◌↔◌};
+ghost use Rattle.packet_forms.specs.MessageIds.{mm_command};
 ghost use Rattle.packet_forms.specs.Built.{command_of};
 ghost use Rattle.packet_forms.specs.Numbers.{be32_bytes};
 ghost use Rattle.scenario.specs.Drill.{drawn, upper, drawn_behind, draws_of, counter_line, upset_line, command_drawn, upper_digit, upper_hex, send_line, frame_lines, text_left, drill_header, drill_text};
@@ -268,7 +269,7 @@ fn command_drawn(d: u32, e: u32) -> Packet
 
 #[tactic(auto, unfolding(packet_forms::specs::Numbers::be32_bytes))]
 fn peek(at: u32) -> Packet
-    ensures { result ≡ command_of 0x1888 2 (8 ∷ be32_bytes at) }
+    ensures { result ≡ command_of mm_command 2 (8 ∷ be32_bytes at) }
 {
     let [a, b, c, d] = at.to_be_bytes();
     command(MM_COMMAND, 2, &[8, a, b, c, d])
@@ -276,7 +277,7 @@ fn peek(at: u32) -> Packet
 
 #[tactic(auto, unfolding(packet_forms::specs::Numbers::be32_bytes))]
 fn poke(at: u32, value: u32) -> Packet
-    ensures { result ≡ command_of 0x1888 3 (8 ∷ be32_bytes at ++ be32_bytes value) }
+    ensures { result ≡ command_of mm_command 3 (8 ∷ be32_bytes at ++ be32_bytes value) }
 {
     let [a, b, c, d] = at.to_be_bytes();
     let [e, f, g, h] = value.to_be_bytes();
@@ -285,7 +286,7 @@ fn poke(at: u32, value: u32) -> Packet
 
 #[tactic(auto, unfolding(packet_forms::specs::Numbers::be32_bytes))]
 fn fill(at: u32, len: u32, byte: u8) -> Packet
-    ensures { result ≡ command_of 0x1888 8 (be32_bytes at ++ be32_bytes len ++ byte ∷ []) }
+    ensures { result ≡ command_of mm_command 8 (be32_bytes at ++ be32_bytes len ++ byte ∷ []) }
 {
     let [a, b, c, d] = at.to_be_bytes();
     let [e, f, g, h] = len.to_be_bytes();
