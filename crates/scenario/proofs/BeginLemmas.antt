@@ -5,12 +5,13 @@ use Rattle.scenario.specs.declared.reason.Reason.{Reason}
 use Rattle.scenario.specs.declared.reason.Reason.TheVariants as reasons
 use Rattle.scenario.specs.declared.sentence.Place.{Place}
 use Rattle.scenario.specs.declared.sentence.Sentence.{Sentence}
+use Rattle.scenario.specs.declared.sentence.Sentence.TheVariants as says
 use Rattle.scenario.specs.declared.sentence.Verb.{Verb}
 use Rattle.scenario.specs.declared.sentence.Verb.TheVariants as verbs
 use Rattle.scenario.specs.Words.{words}
 use Rattle.scenario.specs.Sentences.{◌>>=◌, Begins, placed, stands_at, verb_of, verb_at, sentence_of, as_said, said, line_says}
 
-pub tick_begins : (line : List ℕ) → bytes_eq line (codes "tick") ≡ true → Begins line verbs.Tick (words [])
+pub tick_begins : (line : List ℕ) → bytes_eq line (codes "tick") ≡ true → Begins line verbs.Tick []
 unfolding words verb_of
 tick_begins line e = (codes "tick", ap words ((bytes_eq-Decides line (codes "tick")).0 e), refl, refl)
 
@@ -42,3 +43,8 @@ begun_well place line verb others b stands = says_begun place line verb others b
 -- a line whose kind can't stand there is bad
 pub begun_badly : (place : Place) (line : List ℕ) (verb : Verb) (others : List (List ℕ)) → Begins line verb others → stands_at place verb ≡ false → line_says place line ≡ Err reasons.Word
 begun_badly place line verb others b stands = says_begun place line verb others b ∙ rw stands refl
+
+-- a line `tick` says so where it may stand
+pub tick_well : (place : Place) (line : List ℕ) → Begins line verbs.Tick [] → stands_at place verbs.Tick ≡ true → line_says place line ≡ Ok (Some says.Tick)
+unfolding sentence_of
+tick_well place line b stands = begun_well place line verbs.Tick [] b stands

@@ -1,12 +1,13 @@
 //! What the good lines so far come to, and what one more line is behind them.
-ghost use Rattle.std.specs.Prelude.{◌≡◌, ◌≤◌, ◌<◌, ◌+◌, ◌∷◌, false, if◌then◌else◌, is_none, ℕ, List, length, min, nat_lt, nat_le, ◌||◌, IfOk, Some, None};
+ghost use Rattle.std.specs.Prelude.{◌≡◌, ◌≤◌, ◌<◌, ◌+◌, ◌∷◌, [], false, if◌then◌else◌, is_none, ℕ, List, length, min, nat_lt, nat_le, ◌||◌, IfOk, Some, None};
 
 use crate::frame::FrameInput;
 use crate::reason::Reason;
 use crate::regions::RegionList;
-use crate::sentence::{Place, Sentence, line_says};
+use crate::sentence::{Place, Sentence, Verb, line_says, tick_says};
 use fsw_outside::NoMemory;
 use memory_window::{Map, is_mapped};
+use packet_forms::PACKET_BYTES;
 use std::alloc::{AllocFailed, Global};
 
 /// The longest line, in bytes without its LF.
@@ -53,7 +54,7 @@ impl Progress {
     ghost use Rattle.scenario.specs.Frames.{refusal, room_for_item};
     ghost use Rattle.scenario.specs.FrameLists.{items_in};
     ghost use Rattle.memory_window.specs.Regions.{map_fault_of};
-    ghost use Rattle.scenario.specs.Sentences.{Gives, IsPlaced};
+    ghost use Rattle.scenario.specs.Sentences.{Begins, Gives, IsPlaced};
     ghost use Rattle.scenario.specs.Texts.{Before, nothing, reads, passed, is_too_long};
     ghost use Rattle.scenario.specs.Following.{Follows, HasRoom, HasRoomFor, KeepsFrame};
 
@@ -107,6 +108,17 @@ impl Progress {
         }
     }
 
+    #[tactic(auto, unfolding(crate::specs::Frames::refusal))]
+    fn tick_refusal(&self) -> Option<Reason>
+        ensures value { (old : Before) → Follows self.now old → result ≡ refusal old.sentences Sentence.Tick }
+        ensures room { result ≡ None → HasRoom self.now Sentence.Tick }
+    {
+        if self.ticks < FRAMES {
+            return None;
+        }
+        Some(Reason::TooLong)
+    }
+
     /// Why a sentence can't stand here, beside its place.
     #[tactic(auto, unfolding(crate::specs::Frames::refusal))]
     fn refusal(&self, said: &Sentence) -> Option<Reason>
@@ -132,12 +144,7 @@ impl Progress {
                 self.room_for_item()
             }
             Sentence::Hold(_) => self.room_for_item(),
-            Sentence::Tick => {
-                if self.ticks < FRAMES {
-                    return None;
-                }
-                Some(Reason::TooLong)
-            }
+            Sentence::Tick => self.tick_refusal(),
             Sentence::End => None,
         }
     }
@@ -149,12 +156,34 @@ impl Progress {
         line.len() > LINE_BYTES || self.bytes + takes > TEXT_BYTES
     }
 
-    /// What a line says that takes so many bytes, or the first reason why it is bad.
+    /// Whether a line `tick` is good that takes so many bytes, or the first reason why it is bad.
+    #[tactic(auto, unfolding(crate::specs::Texts::reads, crate::specs::Frames::refusal))]
+    pub(crate) fn reads_tick(&self, line: &[u8], takes: u32) -> Result<(), Reason>
+        requires hidden { self.now.shown ≡ false }
+        requires tick { Begins line.now Verb.Tick [] }
+        requires takes { takes ≤ 1000 }
+        ensures value { (old : Before) → Follows self.now old → Gives (λ _. Some Sentence.Tick) result (reads old (record { bytes = line.now; takes = takes })) }
+        ensures room { IfOk result (λ _. HasRoomFor self.now (Some Sentence.Tick)) }
+        ensures placed { IfOk result (λ _. IsPlaced self.now.place (Some Sentence.Tick)) }
+        ensures small { IfOk result (λ _. self.now.bytes + takes ≤ 16777216) }
+    {
+        if self.is_too_long(line, takes) {
+            return Err(Reason::TooLong);
+        }
+        tick_says(self.place)?;
+        match self.tick_refusal() {
+            Some(reason) => Err(reason),
+            None => Ok(()),
+        }
+    }
+
+    /// What a line says that takes so many bytes, or the first reason why it is bad. `places` are for the bytes of a packet.
     #[tactic(auto, unfolding(crate::specs::Texts::reads))]
     pub(crate) fn reads(
         &self,
         line: &[u8],
         takes: u32,
+        places: &mut [u8; PACKET_BYTES],
         said: &mut Option<Sentence>,
     ) -> Result<(), Reason>
         requires hidden { self.now.shown ≡ false }
@@ -167,7 +196,7 @@ impl Progress {
         if self.is_too_long(line, takes) {
             return Err(Reason::TooLong);
         }
-        line_says(self.place, line, said)?;
+        line_says(self.place, line, places, said)?;
         match said {
             Some(sentence) => match self.refusal(sentence) {
                 Some(reason) => Err(reason),
@@ -241,6 +270,22 @@ impl Progress {
                 self.frame.hold(*app);
             }
         }
+    }
+
+    /// Passes a good line that says `tick` and takes so many bytes.
+    pub(crate) fn pass_tick(&mut self, takes: u32)
+        requires hidden { self.old.shown ≡ false }
+        requires room { HasRoomFor self.old (Some Sentence.Tick) }
+        requires some { 0 < takes }
+        requires small { self.old.bytes + takes ≤ 16777216 }
+        ensures follows { (old : Before) (line : List ℕ) → Follows self.old old → Follows self.new (passed old (record { bytes = line; takes = takes }) (Some Sentence.Tick)) }
+        ensures shows { KeepsFrame self.old (Some Sentence.Tick) self.new }
+    {
+        self.bytes += takes;
+        self.lines += 1;
+        self.ticks += 1;
+        self.place = Place::Between;
+        self.shown = true;
     }
 
     /// Passes a good line that takes so many bytes.

@@ -7,9 +7,10 @@ use crate::item::Item;
 use crate::line_buffer::{LINE_ROOM, LineBuffer};
 use crate::progress::{Header, Progress};
 use crate::reason::Reason;
-use crate::sentence::{Place, Sentence};
+use crate::sentence::{Place, Sentence, is_tick};
 use fsw_outside::NoMemory;
 use memchr::memchr;
+use packet_forms::PACKET_BYTES;
 use std::alloc::Global;
 
 /// Reads a scenario's text in pieces, and gives its header and its frames one after another.
@@ -22,8 +23,10 @@ pub struct Reader {
     whole: bool,
     finished: bool,
     progress: Progress,
-    // What the last line said. It stays here, since an empty place for it would be wiped for each line.
+    // What the last line but `tick` lines said, and the bytes of its packet. Both stay here, since empty places for them would
+    // be wiped for each line.
     said: Option<Sentence>,
+    places: [u8; PACKET_BYTES],
 }
 
 /// The first bytes, `most` at most.
@@ -90,6 +93,7 @@ impl Reader {
             finished: false,
             progress,
             said: None,
+            places: [0; PACKET_BYTES],
         })
     }
 
@@ -161,15 +165,19 @@ impl Reader {
             return self.at_end();
         }
         let takes = self.takes();
+        let line = self.line.bytes();
+        if is_tick(line) {
+            return match self.progress.reads_tick(line, takes) {
+                Ok(()) => self.pass_tick(),
+                Err(reason) => self.bad(reason),
+            };
+        }
         match self
             .progress
-            .reads(self.line.bytes(), takes, &mut self.said)
+            .reads(line, takes, &mut self.places, &mut self.said)
         {
             Ok(()) => self.pass(),
-            Err(reason) => Item::Bad {
-                line: self.progress.lines + 1,
-                reason: reason.number(),
-            },
+            Err(reason) => self.bad(reason),
         }
     }
 
@@ -230,6 +238,31 @@ impl Reader {
                 reason: Reason::Unended.number(),
             },
         }
+    }
+
+    /// What is answered at a line that is bad for this reason.
+    fn bad(&self, reason: Reason) -> Item
+        ensures { result ≡ Item.Bad (self.now.progress.lines + 1) (number_of reason) }
+    {
+        Item::Bad {
+            line: self.progress.lines + 1,
+            reason: reason.number(),
+        }
+    }
+
+    /// Passes a good line `tick`, and answers its frame.
+    fn pass_tick(&mut self) -> Item
+        requires hidden { self.old.progress.shown ≡ false }
+        requires line { has_line self.old ≡ true }
+        requires room { HasRoomFor self.old.progress (Some Sentence.Tick) }
+        requires small { self.old.progress.bytes + left self.old ≤ 16777216 }
+        ensures { Passes self.old (Some Sentence.Tick) result self.new }
+    {
+        let takes = self.takes();
+        self.progress.pass_tick(takes);
+        self.line.clear();
+        self.whole = false;
+        Item::Frame
     }
 
     /// Passes a good line, and answers its item or what comes behind it.

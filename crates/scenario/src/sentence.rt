@@ -1,5 +1,5 @@
 //! What a line says by itself, where it stands.
-ghost use Rattle.std.specs.Prelude.{◌≡◌, ◌≤◌, ◌∷◌, [], length, IfOk, IfSome, Some, None, true};
+ghost use Rattle.std.specs.Prelude.{◌≡◌, ◌≤◌, ◌∷◌, ℕ, List, [], length, IfOk, IfSome, Some, None, true};
 ghost use Rattle.scenario.specs.Words.{words};
 ghost use Rattle.scenario.specs.Sentences.{Gives, IsPlaced, IsOfVerb, as_said, verb_of, Begins, stands_at, none, one, two, three, number_or_bad, epoch_line, region_line, hex_said, send_line, app_line, upset_line, hold_line, bare_line, sentence_of, line_says, packet_of, packet_said, verb_at};
 
@@ -177,17 +177,20 @@ fn packet(bytes: &[u8]) -> Result<Packet, Reason>
     }
 }
 
-/// What the word behind `send` says.
+/// What the word behind `send` says. Its bytes are written into the places first, whatever stood there.
 #[tactic(auto, unfolding(crate::specs::Sentences::hex_said))]
-fn read_hex(word: &[u8], said: &mut Option<Sentence>) -> Result<(), Reason>
+fn read_hex(
+    word: &[u8],
+    places: &mut [u8; PACKET_BYTES],
+    said: &mut Option<Sentence>,
+) -> Result<(), Reason>
     ensures value { Gives (λ _. said.new) result (as_said (hex_said word.now)) }
     ensures verb { IfOk result (λ _. IsOfVerb Verb.Send said.new) }
 {
     if word.len() > 2 * PACKET_BYTES {
         return Err(Reason::Packet);
     }
-    let mut places = [0; PACKET_BYTES];
-    let len = hex(word, &mut places).ok_or(Reason::Packet)?;
+    let len = hex(word, places).ok_or(Reason::Packet)?;
     say_send(&places[..len], said)
 }
 
@@ -210,16 +213,20 @@ fn say_send(bytes: &[u8], said: &mut Option<Sentence>) -> Result<(), Reason>
 
 /// `send HEX`
 #[tactic(auto, unfolding(crate::specs::Sentences::send_line))]
-fn send_line(rest: &[u8], said: &mut Option<Sentence>) -> Result<(), Reason>
+fn send_line(
+    rest: &[u8],
+    places: &mut [u8; PACKET_BYTES],
+    said: &mut Option<Sentence>,
+) -> Result<(), Reason>
     ensures value { Gives (λ _. said.new) result (as_said (send_line (words rest.now))) }
     ensures verb { IfOk result (λ _. IsOfVerb Verb.Send said.new) }
 {
     // Mostly the digits end with the line. A space isn't one, so it needn't be looked for.
-    match read_hex(behind_spaces(rest), said) {
+    match read_hex(behind_spaces(rest), places, said) {
         Ok(()) => Ok(()),
         Err(_) => {
             let word = one_word(rest)?;
-            read_hex(word, said)
+            read_hex(word, places, said)
         }
     }
 }
@@ -303,7 +310,12 @@ fn end_line(rest: &[u8], said: &mut Option<Sentence>) -> Result<(), Reason>
 }
 
 #[tactic(auto, unfolding(crate::specs::Sentences::sentence_of))]
-fn read_sentence(verb: Verb, rest: &[u8], said: &mut Option<Sentence>) -> Result<(), Reason>
+fn read_sentence(
+    verb: Verb,
+    rest: &[u8],
+    places: &mut [u8; PACKET_BYTES],
+    said: &mut Option<Sentence>,
+) -> Result<(), Reason>
     ensures value { Gives (λ _. said.new) result (as_said (sentence_of verb (words rest.now))) }
     ensures verb { IfOk result (λ _. IsOfVerb verb said.new) }
 {
@@ -311,7 +323,7 @@ fn read_sentence(verb: Verb, rest: &[u8], said: &mut Option<Sentence>) -> Result
         Verb::Epoch => epoch_line(rest, said),
         Verb::Region => region_line(rest, said),
         Verb::Start => start_line(rest, said),
-        Verb::Send => send_line(rest, said),
+        Verb::Send => send_line(rest, places, said),
         Verb::App => app_line(rest, said),
         Verb::Upset => upset_line(rest, said),
         Verb::Hold => hold_line(rest, said),
@@ -337,23 +349,24 @@ fn verb_at(place: Place, word: &[u8]) -> Result<Verb, Reason>
     }
 }
 
-/// The kind of a line of the two commonest forms, and what comes behind its first word: no word needs to
-/// be looked for there.
-fn common_line(line: &[u8]) -> Option<(Verb, &[u8])>
-    ensures { IfSome result (λ found. Begins line.now found.0 (words found.1.now)) }
+/// What comes behind the first word of a line that begins with `send` and a space: no word needs to be looked for there.
+fn behind_send(line: &[u8]) -> Option<&[u8]>
+    ensures { IfSome result (λ rest. Begins line.now Verb.Send (words rest.now)) }
 {
-    if line == b"tick".as_slice() {
-        return Some((Verb::Tick, &[]));
-    }
     match line.strip_prefix(b"send ") {
-        Some(rest) => Some((Verb::Send, rest)),
+        Some(rest) => Some(rest),
         None => None,
     }
 }
 
 /// What a line says that stands at a place, by its words: nothing where it is skipped.
 #[tactic(auto, unfolding(crate::specs::Sentences::line_says, crate::specs::Sentences::said))]
-fn any_line_says(place: Place, line: &[u8], said: &mut Option<Sentence>) -> Result<(), Reason>
+fn any_line_says(
+    place: Place,
+    line: &[u8],
+    places: &mut [u8; PACKET_BYTES],
+    said: &mut Option<Sentence>,
+) -> Result<(), Reason>
     ensures value { Gives (λ _. said.new) result (line_says place line.now) }
     ensures placed { IfOk result (λ _. IsPlaced place said.new) }
 {
@@ -364,7 +377,7 @@ fn any_line_says(place: Place, line: &[u8], said: &mut Option<Sentence>) -> Resu
                 return Ok(());
             }
             let verb = verb_at(place, first)?;
-            read_sentence(verb, rest, said)
+            read_sentence(verb, rest, places, said)
         }
         None => {
             *said = None;
@@ -373,24 +386,44 @@ fn any_line_says(place: Place, line: &[u8], said: &mut Option<Sentence>) -> Resu
     }
 }
 
-/// What a line says that stands at a place: nothing where it is skipped.
+/// Whether a line is `tick` without any spaces.
+pub(crate) fn is_tick(line: &[u8]) -> bool
+    ensures { result ≡ true → Begins line.now Verb.Tick [] }
+{
+    line == b"tick".as_slice()
+}
+
+/// Whether such a line may stand at a place.
+pub(crate) fn tick_says(place: Place) -> Result<(), Reason>
+    ensures value { (line : List ℕ) → Begins line Verb.Tick [] → Gives (λ _. Some Sentence.Tick) result (line_says place line) }
+    ensures placed { IfOk result (λ _. IsPlaced place (Some Sentence.Tick)) }
+{
+    if may_stand(place, Verb::Tick) {
+        Ok(())
+    } else {
+        Err(Reason::Word)
+    }
+}
+
+/// What a line says that stands at a place: nothing where it is skipped. `places` are for the bytes of a packet.
 #[tactic(auto, unfolding(crate::specs::Sentences::line_says, crate::specs::Sentences::said))]
 pub(crate) fn line_says(
     place: Place,
     line: &[u8],
+    places: &mut [u8; PACKET_BYTES],
     said: &mut Option<Sentence>,
 ) -> Result<(), Reason>
     ensures value { Gives (λ _. said.new) result (line_says place line.now) }
     ensures placed { IfOk result (λ _. IsPlaced place said.new) }
 {
-    match common_line(line) {
-        Some((verb, rest)) => {
-            if may_stand(place, verb) {
-                read_sentence(verb, rest, said)
+    match behind_send(line) {
+        Some(rest) => {
+            if may_stand(place, Verb::Send) {
+                send_line(rest, places, said)
             } else {
                 Err(Reason::Word)
             }
         }
-        None => any_line_says(place, line, said),
+        None => any_line_says(place, line, places, said),
     }
 }
