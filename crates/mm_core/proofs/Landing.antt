@@ -1,6 +1,7 @@
 -- What MM leaves is admitted, and its load files are there.
 use Rattle.std.proofs.Common.{◌≡◌, ℕ, ◌+◌, ◌<◌, ◌%◌, ◌^◌, Bool, true, false, cond, List, [], ◌∷◌, ◌++◌, length, Option, Some, None, refl, ◌∙◌, subst, arith, append-nil, length-append}
 use Rattle.std.specs.Prelude.{◌==◌, is_none, Result, Ok, Err, is_some}
+use Rattle.std.specs.List.{cons_option}
 use Rattle.std.proofs.lemmas.Grind.{common_steps}
 use Rattle.std.proofs.lemmas.List.Elements.{filter_map-append, All-append}
 use Rattle.std.proofs.lemmas.Nat.{pow_pos}
@@ -94,26 +95,26 @@ operation_lands seen (Dump at len) op can left = cc
 pub nothing_lands : (seen : Seen) (ops : List MemOp) → ops ≡ [] → CanLand seen 0 ops
 nothing_lands seen ops none = rw none (record { few = omega arith; admitted = none_fail (Admitted seen.image); backed = none_fail (IsBacked seen.loads) })
 
-pub one_more_lands : (seen : Seen) (n : ℕ) (before after : List MemOp) (instruction : Instruction) (op : MemOp) → CanLand seen n before → CanObey seen instruction → operation_of seen.loads instruction ≡ Some op
-    → after ≡ before ++ op ∷ [] → CanLand seen (n + 1) after
-one_more_lands seen n before after instruction op land can left is =
-    let few = land.few in
-    let long = length-append before (op ∷ []) in
-    let lands = operation_lands seen instruction op can left in
-    rw is (record {
-      few = omega (arith, long, few);
-      admitted = All-append (Admitted seen.image) before (op ∷ []) land.admitted (one_passes (Admitted seen.image) op lands.admitted);
-      backed = All-append (IsBacked seen.loads) before (op ∷ []) land.backed (one_passes (IsBacked seen.loads) op lands.backed);
-    })
+pub left_lands : (seen : Seen) (n : ℕ) (before after : List MemOp) (instruction : Instruction) → CanLand seen n before → CanObey seen instruction → after ≡ before ++ cons_option (operation_of seen.loads instruction) [] → CanLand seen (n + 1) after
+left_lands seen n before after instruction land can is = by_left (operation_of seen.loads instruction) refl is where
+  by_left : (left : Option MemOp) → operation_of seen.loads instruction ≡ left → after ≡ before ++ cons_option left [] → CanLand seen (n + 1) after
+  by_left None none same =
+      let few = land.few in
+      rw (same ∙ append-nil before) (record { few = omega (arith, few); admitted = land.admitted; backed = land.backed })
+  by_left (Some op) one more =
+      let few = land.few in
+      let long = length-append before (op ∷ []) in
+      let lands = operation_lands seen instruction op can one in
+      rw more (record {
+        few = omega (arith, long, few);
+        admitted = All-append (Admitted seen.image) before (op ∷ []) land.admitted (one_passes (Admitted seen.image) op lands.admitted);
+        backed = All-append (IsBacked seen.loads) before (op ∷ []) land.backed (one_passes (IsBacked seen.loads) op lands.backed);
+      })
 
--- the operations of these orders at one more
-pub operations_same : (loads : List (ℕ × List ℕ)) (orders : List Instruction) (instruction : Instruction) → operation_of loads instruction ≡ None → operations_of loads (orders ++ instruction ∷ []) ≡ operations_of loads orders
+-- the operations of these orders and one more
+pub operations_more : (loads : List (ℕ × List ℕ)) (orders : List Instruction) (instruction : Instruction) → operations_of loads (orders ++ instruction ∷ []) ≡ operations_of loads orders ++ cons_option (operation_of loads instruction) []
 unfolding operations_of
-operations_same loads orders instruction none = filter_map-append (operation_of loads) orders (instruction ∷ []) ∙ rw none (append-nil (operations_of loads orders))
-
-pub operations_more : (loads : List (ℕ × List ℕ)) (orders : List Instruction) (instruction : Instruction) (op : MemOp) → operation_of loads instruction ≡ Some op → operations_of loads (orders ++ instruction ∷ []) ≡ operations_of loads orders ++ op ∷ []
-unfolding operations_of
-operations_more loads orders instruction op some = filter_map-append (operation_of loads) orders (instruction ∷ []) ∙ rw some refl
+operations_more loads orders instruction = filter_map-append (operation_of loads) orders (instruction ∷ [])
 
 pub operations_none : (loads : List (ℕ × List ℕ)) → operations_of loads [] ≡ []
 unfolding operations_of

@@ -1,12 +1,13 @@
 //! What a command asks for.
-ghost use Rattle.std.specs.Prelude.{◌≡◌, true};
+ghost use Rattle.std.specs.Prelude.{◌≡◌, ◌<◌, ◌++◌, [], length, true};
+ghost use Rattle.std.specs.List.{cons_option};
 ghost use Rattle.table_files.specs.Files.{loads_of, nth};
 ghost use Rattle.mm_core.specs.Instructions.{file_operation, operation_of, is_fill_len, is_dump_len, is_sized};
 
 use crate::messages::{CODES, name};
 use crate::reading::low_bits;
 use commands::{Command, Terms};
-use memory_window::{Chunk, MemOp};
+use memory_window::{Chunk, MemOp, Ops};
 use packet_forms::message_ids::{MM_COMMAND, MM_REQUEST};
 use packet_forms::{Name, be16, be32};
 use table_files::Files;
@@ -98,44 +99,47 @@ impl Command for Instruction {
     }
 }
 
-/// The operation that a command leaves, with these files.
-pub(crate) fn operation_of(files: &Files, instruction: &Instruction) -> Option<MemOp>
-    requires { is_sized instruction.now ≡ true }
-    ensures { result ≡ operation_of (loads_of files.now) instruction.now }
+/// Puts the operation that a command leaves, with these files, behind the others, where there is one. Each is put there as it is
+/// made, since an operation may carry many bytes.
+pub(crate) fn leave_operation(files: &Files, instruction: &Instruction, ops: &mut Ops)
+    requires sized { is_sized instruction.now ≡ true }
+    requires room { length ops.old < 16 }
+    ensures { ops.new ≡ ops.old ++ cons_option (operation_of (loads_of files.now) instruction.now) [] }
 {
     match instruction {
-        Instruction::Plain => None,
-        Instruction::Peek { .. } => None,
-        Instruction::Poke { size, at, value } => Some(MemOp::Poke {
+        Instruction::Plain => {}
+        Instruction::Peek { .. } => {}
+        Instruction::Poke { size, at, value } => ops.push(MemOp::Poke {
             size: *size,
             at: *at,
             value: low_bits(*size, *value),
         }),
-        Instruction::Load { at, part, .. } => Some(MemOp::Bytes {
+        Instruction::Load { at, part, .. } => ops.push(MemOp::Bytes {
             at: *at,
             part: *part,
         }),
-        Instruction::LoadFile { load } => file_operation(files, *load),
-        Instruction::Fill { at, len, byte } => Some(MemOp::Fill {
+        Instruction::LoadFile { load } => leave_file(files, *load, ops),
+        Instruction::Fill { at, len, byte } => ops.push(MemOp::Fill {
             at: *at,
             len: *len,
             byte: *byte,
         }),
-        Instruction::Protect { region, on } => Some(MemOp::Protect {
+        Instruction::Protect { region, on } => ops.push(MemOp::Protect {
             region: u32::from(*region),
             on: *on,
         }),
-        Instruction::Dump { .. } => None,
+        Instruction::Dump { .. } => {}
     }
 }
 
-/// The operation that loads the file of a number, where there is one.
-pub(crate) fn file_operation(files: &Files, load: u16) -> Option<MemOp>
-    ensures { result ≡ file_operation load (nth (loads_of files.now) load) }
+// Puts the operation that loads the file of a number behind the others, where there is one.
+fn leave_file(files: &Files, load: u16, ops: &mut Ops)
+    requires room { length ops.old < 16 }
+    ensures { ops.new ≡ ops.old ++ cons_option (file_operation load (nth (loads_of files.now) load)) [] }
 {
     match files.load(u32::from(load)) {
-        None => None,
-        Some((at, bytes)) => Some(MemOp::FromFile {
+        None => {}
+        Some((at, bytes)) => ops.push(MemOp::FromFile {
             load: u32::from(load),
             at,
             len: bytes.len() as u32,

@@ -11,7 +11,7 @@ ghost use Rattle.mm_core.specs.State.{Stands};
 
 use crate::answers::reply;
 use crate::housekeeping::housekeeping;
-use crate::instructions::{Instruction, operation_of};
+use crate::instructions::{Instruction, leave_operation};
 use crate::reading::Reads;
 use crate::state::Mm;
 use crate::verdicts::{Refusal, own_refusal};
@@ -80,10 +80,7 @@ impl<'a> Commanded<Reads<'a>> for Hands {
         out: &mut Outbox,
     ) {
         reply(reads.window, instruction, now, out);
-        let Some(op) = operation_of(reads.files, instruction) else {
-            return;
-        };
-        left.push(op);
+        leave_operation(reads.files, instruction, left);
     }
 }
 
