@@ -105,7 +105,7 @@ fn land_in_turn<G: Gate>(gate: &G, at: u32, place: u32, landing: &Landing<'_, '_
     }
 }
 
-// The same in as many threads as there are workers, each of which lands a run of banks; one worker starts no thread.
+// The same in as many threads as there are workers, each of which lands a run of banks; one worker, and one bank, start no thread.
 fn land_beside<R: Threads + Sync, G: Gate>(
     rt: &R,
     workers: u32,
@@ -124,6 +124,10 @@ fn land_beside<R: Threads + Sync, G: Gate>(
     ensures { (k : ℕ) → k < length bytes.old → slice_index bytes.new k ≡ landed (loads_of landing.now.files.now) landing.now.ops.now (at + k) (slice_index bytes.old k) }
 {
     let banks = bytes.len().div_ceil(BANK_SIZE);
+    if workers == 1 || banks == 1 {
+        land_in_turn(gate, at, place, landing, bytes);
+        return;
+    }
     let share = banks.div_ceil(workers as usize) * BANK_SIZE;
     let land = |start: usize, part: &mut [u8]|
         requires { (place * bank_size ≤ at) × (0 < length part.old) × (at + start + length part.old ≤ 2 ^ 32) × All IsSound landing.now.ops.now × All (IsBacked (loads_of landing.now.files.now)) landing.now.ops.now }
