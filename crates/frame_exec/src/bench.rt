@@ -23,7 +23,7 @@ use md_dwell::Md;
 use memory_window::{Ops, Ram};
 use mm_core::Mm;
 use packet_forms::Counter;
-use packet_log::{Block, Log};
+use packet_log::{Block, Line, Log};
 use sc_sequences::Sc;
 use scenario::{App, FrameInput, Header, Upset};
 use std::alloc::Global;
@@ -61,6 +61,8 @@ pub struct Bench<'f> {
     bus: Bus,
     log: Log,
     ram: Ram,
+    // the line that was written last: a new one would be wiped in each frame
+    line: Line,
     // lines, until they are handed on
     block: Block,
     ghost drops_room: { drops.room ≡ 1525 },
@@ -146,6 +148,7 @@ impl<'f> Bench<'f> {
             bus: Bus::open(alloc)?,
             log: Log::start(),
             ram: Ram::new(alloc, header.map)?,
+            line: Line::new(),
             block: Block::open(alloc)?,
         })
     }
@@ -450,6 +453,7 @@ impl<'f> Bench<'f> {
         put_frame(
             &mut self.block,
             sink,
+            &mut self.line,
             self.number as u32,
             &lists,
             self.drops.items(),

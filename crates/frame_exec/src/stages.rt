@@ -227,10 +227,12 @@ fn put_drops<O: Sink>(
     Ok(())
 }
 
-/// Puts the lines of a frame behind those that wait: of what the applications sent, in their order, and of what was dropped.
+/// Puts the lines of a frame behind those that wait: of what the applications sent, in their order, and of what was dropped. Each
+/// is written into `line` first, whatever stood there.
 pub(crate) fn put_frame<O: Sink>(
     block: &mut Block,
     sink: &mut O,
+    line: &mut Line,
     number: u32,
     lists: &[&[Out]],
     drops: &[Dropped],
@@ -239,10 +241,9 @@ pub(crate) fn put_frame<O: Sink>(
     ensures left { OnErr result (0 < length block.new.bytes) }
     ensures cause { HasCause (O.held sink.new) (O.faults sink.old) (O.faults sink.new) result }
 {
-    let mut line = Line::new();
     let head = head_of(number);
-    let Ok(()) = put_lists(block, sink, &mut line, head.bytes(), lists) else {
+    let Ok(()) = put_lists(block, sink, line, head.bytes(), lists) else {
         return Err(Failed);
     };
-    put_drops(block, sink, &mut line, head.bytes(), drops)
+    put_drops(block, sink, line, head.bytes(), drops)
 }
