@@ -1,4 +1,5 @@
 pub mod WordsLemmas
+pub mod PairLemmas
 pub mod LineLemmas
 pub mod StandingLemmas
 pub mod NextLemmas

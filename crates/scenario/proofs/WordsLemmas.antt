@@ -1,5 +1,5 @@
 -- Lemmas on words, numbers and digits.
-use Rattle.std.proofs.Common.{◌≡◌, ℕ, ◌+◌, ◌*◌, ◌^◌, lit<, add-one, nat_lt, bit_or, ap₂, if◌then◌else◌, get_or, ◌&&◌, append_assoc, append-nil, drop-cons, take_all, length-drop, ◌<◌, ◌≤◌, suc, Bool, true, false, cond, not, eqb, List, [], ◌∷◌, ◌++◌, length, take, drop, Option, Some, None, refl, ap, sym, ◌∙◌, arith, length-take}
+use Rattle.std.proofs.Common.{◌%◌, ◌≡◌, ℕ, ◌+◌, ◌*◌, ◌^◌, lit<, add-one, nat_lt, bit_or, if◌then◌else◌, get_or, ◌&&◌, append_assoc, append-nil, drop-cons, take_all, length-drop, ◌<◌, ◌≤◌, suc, Bool, true, false, cond, not, eqb, List, [], ◌∷◌, ◌++◌, length, take, drop, Option, Some, None, refl, ap, sym, ◌∙◌, arith, length-take}
 use Rattle.std.specs.List.{position, position_or_len, slice_split, filter}
 use Rattle.std.proofs.lemmas.Bool.Decides.{nat_tests}
 use Rattle.std.proofs.lemmas.Nat.{or_lt, le_or_l, le_or_r}
@@ -222,51 +222,39 @@ hex_alone word bytes filled e =
     ∙ ap (λ (rest : List ℕ). word ∷ words rest) (drop_all (length word) word (omega arith))
     ∙ ap (λ (ws : List (List ℕ)). word ∷ ws) no_words
 
--- The first i pairs of digits are read: the bits of their values are over 15 where one of them is no digit.
+-- The first i pairs of digits are read: the bits of their values are over 255 where one of them is no digit.
 pub record IsRead (word front : List ℕ) (i bits : ℕ) : Type 0 where
-  pub good : bits < 16 → hex word ≡ onto front (hex (drop (2 * i) word))
-  pub bad : 16 ≤ bits → hex word ≡ None
-
-are_digits : (a b high low : ℕ) → high ≡ digit_value a → low ≡ digit_value b → high < 16 → low < 16 → (is_digit a 16 && is_digit b 16) ≡ true
-are_digits a b high low h l less also = grind (arith, nat_tests)
-
-digit_below : (a : ℕ) → is_digit a 16 ≡ true → digit_value a < 16
-digit_below a e = grind (arith, nat_tests)
-
--- where the values together are over 15, one of them is
-one_is_none : (a b bits high low : ℕ) → high ≡ digit_value a → low ≡ digit_value b → bits < 16 → 16 ≤ bit_or (bit_or bits high) low → (is_digit a 16 && is_digit b 16) ≡ false
-one_is_none a b bits high low h l small large = by_test (is_digit a 16 && is_digit b 16) refl where
-  by_test : (t : Bool) → (is_digit a 16 && is_digit b 16) ≡ t → (is_digit a 16 && is_digit b 16) ≡ false
-  by_test false e = e
-  by_test true e =
-      let digits = both_digits (is_digit a 16) (is_digit b 16) e in
-      let first : high < 16 = rw h (digit_below a digits.0) in
-      let second : low < 16 = rw l (digit_below b digits.1) in
-      let below : bit_or (bit_or bits high) low < 16 = or_lt 4 (bit_or bits high) low (or_lt 4 bits high small first) second in
-      absurd (omega (arith, below, large))
+  pub good : bits < 256 → hex word ≡ onto front (hex (drop (2 * i) word))
+  pub bad : 256 ≤ bits → hex word ≡ None
 
 -- one pair more is read
-pub read_more : (word front : List ℕ) (i bits high low byte : ℕ) → 2 * i + 1 < length word → high ≡ digit_value (get_or word (2 * i) 0) → low ≡ digit_value (get_or word (2 * i + 1) 0)
-    → (high < 16 → low < 16 → byte ≡ 16 * high + low) → IsRead word front i bits → IsRead word (front ++ byte ∷ []) (i + 1) (bit_or (bit_or bits high) low)
-read_more word front i bits high low byte within h l is read = record { good = good; bad = bad } where
-  good : bit_or (bit_or bits high) low < 16 → hex word ≡ onto (front ++ byte ∷ []) (hex (drop (2 * (i + 1)) word))
+pub read_more : (word front : List ℕ) (i bits value byte : ℕ) → 2 * i + 1 < length word
+    → (value < 256 → ((is_digit (get_or word (2 * i) 0) 16 && is_digit (get_or word (2 * i + 1) 0) 16) ≡ true) × (value ≡ 16 * digit_value (get_or word (2 * i) 0) + digit_value (get_or word (2 * i + 1) 0)))
+    → (256 ≤ value → (is_digit (get_or word (2 * i) 0) 16 && is_digit (get_or word (2 * i + 1) 0) 16) ≡ false)
+    → byte ≡ value % 256 → IsRead word front i bits → IsRead word (front ++ byte ∷ []) (i + 1) (bit_or bits value)
+read_more word front i bits value byte within digits none is read = record { good = good; bad = bad } where
+  good : bit_or bits value < 256 → hex word ≡ onto (front ++ byte ∷ []) (hex (drop (2 * (i + 1)) word))
   good small =
-      let old : bits < 16 = omega (arith, small, le_or_l bits high, le_or_l (bit_or bits high) low) in
-      let first : high < 16 = omega (arith, small, le_or_r bits high, le_or_l (bit_or bits high) low) in
-      let second : low < 16 = omega (arith, small, le_or_r (bit_or bits high) low) in
-      let byte_is : byte ≡ 16 * digit_value (get_or word (2 * i) 0) + digit_value (get_or word (2 * i + 1) 0) = is first second ∙ ap₂ (λ (x y : ℕ). 16 * x + y) h l in
+      let old : bits < 256 = omega (arith, small, le_or_l bits value) in
+      let new : value < 256 = omega (arith, small, le_or_r bits value) in
+      let same : value ≡ byte = omega (arith, new, is) in
       read.good old
-      ∙ hex_more word front i within (are_digits (get_or word (2 * i) 0) (get_or word (2 * i + 1) 0) high low h l first second)
-      ∙ ap (λ (n : ℕ). onto (front ++ n ∷ []) (hex (drop (2 * (i + 1)) word))) (sym byte_is)
+      ∙ hex_more word front i within (digits new).0
+      ∙ ap (λ (n : ℕ). onto (front ++ n ∷ []) (hex (drop (2 * (i + 1)) word))) (sym (digits new).1 ∙ same)
 
-  by_old : (t : Bool) → nat_lt bits 16 ≡ t → 16 ≤ bit_or (bit_or bits high) low → hex word ≡ None
-  by_old false e large = let over : 16 ≤ bits = grind (arith, nat_tests) in read.bad over
-  by_old true e large =
-      let old : bits < 16 = grind (arith, nat_tests) in
-      read.good old ∙ hex_bad word front i within (one_is_none (get_or word (2 * i) 0) (get_or word (2 * i + 1) 0) bits high low h l old large)
+  by_new : (t : Bool) → nat_lt value 256 ≡ t → bits < 256 → 256 ≤ bit_or bits value → hex word ≡ None
+  by_new false e old large = let over : 256 ≤ value = grind (arith, nat_tests) in read.good old ∙ hex_bad word front i within (none over)
+  by_new true e old large =
+      let new : value < 256 = grind (arith, nat_tests) in
+      let below : bit_or bits value < 256 = or_lt 8 bits value old new in
+      absurd (omega (arith, below, large))
 
-  bad : 16 ≤ bit_or (bit_or bits high) low → hex word ≡ None
-  bad large = by_old (nat_lt bits 16) refl large
+  by_old : (t : Bool) → nat_lt bits 256 ≡ t → 256 ≤ bit_or bits value → hex word ≡ None
+  by_old false e large = let over : 256 ≤ bits = grind (arith, nat_tests) in read.bad over
+  by_old true e large = let old : bits < 256 = grind (arith, nat_tests) in by_new (nat_lt value 256) refl old large
+
+  bad : 256 ≤ bit_or bits value → hex word ≡ None
+  bad large = by_old (nat_lt bits 256) refl large
 
 -- in front of none
 pub onto-nil : (o : Option (List ℕ)) → o ≡ onto [] o

@@ -1,4 +1,5 @@
 pub mod Words
+pub mod DigitPairs
 pub mod Reasons
 pub mod Sentences
 pub mod FrameLists

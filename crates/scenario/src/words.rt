@@ -4,6 +4,7 @@ ghost use Rattle.std.specs.List.{position, position_or_len, list_all, starts_wit
 ghost use Rattle.std.specs.Char.{is_digit, digit_value};
 ghost use Rattle.scenario.specs.Words.{words, digits, any_number, number, hex, name_said, app_of, kind_of};
 
+use crate::digit_pairs::pair_value;
 use crate::frame::App;
 use memory_window::Kind;
 use packet_forms::{Name, PACKET_BYTES};
@@ -135,28 +136,20 @@ pub(crate) fn number(most: u32, word: &[u8]) -> Option<u32>
     None
 }
 
-/// The byte that two hexadecimal digits write.
-fn pair(high: u8, low: u8) -> u8
-    ensures { high < 16 → low < 16 → result ≡ 16 * high + low }
-{
-    ((16 * u16::from(high) + u16::from(low)) % 256) as u8
-}
-
 /// Writes the bytes that pairs of hexadecimal digits write into the first places, and answers how many they are.
 pub(crate) fn hex(word: &[u8], places: &mut [u8; PACKET_BYTES]) -> Option<usize>
     requires { length word.now ≤ 2 * PACKET_BYTES }
     ensures bytes { option_map (λ count. take count places.new) result ≡ hex word.now }
     ensures few { IfSome result (λ count. count ≤ PACKET_BYTES) }
 {
-    // The bits of all digits together are asked once, at the end.
-    let mut bits: u8 = 0;
+    // The bits of all values together are asked once, at the end.
+    let mut bits: u16 = 0;
     'pairs: for i in 0..word.len() / 2 {
-        let high = digit(word[2 * i]);
-        let low = digit(word[2 * i + 1]);
-        bits = bits | high | low;
-        places[i] = pair(high, low);
+        let value = pair_value(word[2 * i], word[2 * i + 1]);
+        bits = bits | value;
+        places[i] = (value % 256) as u8;
     }
-    if bits >= 16 {
+    if bits >= 256 {
         return None;
     }
     if word.len() % 2 == 0 {
