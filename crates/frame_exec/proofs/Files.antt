@@ -5,8 +5,8 @@ use Rattle.table_files.specs.Files.{file_at}
 use Rattle.table_files.specs.Headers.{IsTableFile, IsLoadFile}
 use Rattle.table_files.specs.declared.kinds.TableKind.{TableKind}
 use Rattle.memory_window.specs.declared.regions.Region.{Region}
-use Rattle.table_files.specs.declared.fault.EntryFault.{EntryFault}
-use Rattle.frame_exec.specs.Tables.{first_said, entry_fault_in, fault_at, tables_fault, refused_in, region_fault, TableSet, blank_tables, by_file, with_file, tables_of}
+use Rattle.frame_exec.specs.declared.loading.TablesFault.{TablesFault}
+use Rattle.frame_exec.specs.Tables.{said_or, first_said, entry_fault_in, fault_at, tables_fault, refused_in, region_fault, TableSet, blank_tables, by_file, with_file, tables_of}
 
 -- the front of what is left
 front : {A : Type 0} (xs : List A) (i : ℕ) (d x : A) → i < length xs → x ≡ get_or xs i d → drop i xs ≡ x ∷ drop (i + 1) xs
@@ -40,15 +40,26 @@ pub region_is : (regions : List Region) (files : List (List ℕ)) (place : Optio
 unfolding region_fault
 region_is regions files place is = sym is
 
--- the fault of the entries
-pub tables_fault_is : (files : List (List ℕ)) (n : ℕ) (fault : EntryFault) → first_said entry_fault_in 1 files ≡ Some (n, fault) → tables_fault files ≡ Some (record { file = n; entry = fault.entry; reason = fault.reason })
-unfolding tables_fault
-tables_fault_is files n fault is = ap (option_map fault_at) is
+-- what is said of what is left, one file more
+said_step : {A : Type 0} (say : List ℕ → Option A) (files : List (List ℕ)) (i : ℕ) → i < length files
+    → first_said say (i + 1) (drop i files) ≡ said_or (i + 1) (say (file_at files (i + 1))) (first_said say (i + 1 + 1) (drop (i + 1) files))
+unfolding first_said
+said_step say files i within = rw (front files i [] (file_at files (i + 1)) within (file_back files i)) refl
 
--- or that they have none
-pub tables_well : (files : List (List ℕ)) → first_said entry_fault_in 1 files ≡ None → None ≡ tables_fault files
+-- what is said of the files from number n on, by what is said behind it
+pub said_before : {A : Type 0} (say : List ℕ → Option A) (files : List (List ℕ)) (n : ℕ) → 0 < n → n ≤ length files
+    → said_or n (say (file_at files n)) (first_said say (n + 1) (drop n files)) ≡ first_said say ((n - 1) + 1) (drop (n - 1) files)
+said_before say files n some within =
+    let back : (n - 1) + 1 ≡ n = omega arith in
+    ap (λ (k : ℕ). said_or k (say (file_at files k)) (first_said say (k + 1) (drop k files))) (sym back)
+    ∙ sym (said_step say files (n - 1) (omega arith))
+
+-- the fault of all files
+pub fault_of_all : (files : List (List ℕ)) (left : ℕ) (found : Option TablesFault) → left ≤ 0 → found ≡ option_map fault_at (first_said entry_fault_in (left + 1) (drop left files)) → found ≡ tables_fault files
 unfolding tables_fault
-tables_well files none = sym (ap (option_map fault_at) none)
+fault_of_all files left found none is =
+    let first : left ≡ 0 = omega (arith, none) in
+    is ∙ ap (λ (k : ℕ). option_map fault_at (first_said entry_fault_in (k + 1) (drop k files))) first
 
 -- the tables of what is left, one file more
 pub tables_on : (files : List (List ℕ)) (i : ℕ) → i < length files → tables_of (drop i files) ≡ with_file (tables_of (drop (i + 1) files)) (file_at files (i + 1))

@@ -1,15 +1,19 @@
-//! The first fault that the entries of files have.
+//! The fault of the entries of files, and the places that their tables are put in.
 
-ghost use Rattle.std.specs.Prelude.{◌≡◌, ℕ, ◌≤◌, List, length, IfSome};
-ghost use Rattle.table_files.specs.Headers.{Shows};
-ghost use Rattle.table_files.specs.Kinds.{IsTable};
-ghost use Rattle.frame_exec.specs.Tables.{entry_fault, entry_fault_in, tables_fault};
+ghost use Rattle.std.specs.Prelude.{◌≡◌, ℕ, ◌≤◌, length, Option, option_map, IfSome};
+ghost use Rattle.cs_slices.specs.Tables.{segments_of, segments_fault_of};
+ghost use Rattle.hs_tables.specs.Apps as apps;
+ghost use Rattle.hs_tables.specs.Events as events;
+ghost use Rattle.hs_tables.specs.Counters as counters;
+ghost use Rattle.hs_tables.specs.Actions as actions;
+ghost use Rattle.table_files.specs.declared.fault.EntryFault.{EntryFault};
+ghost use Rattle.frame_exec.specs.Tables.{where_well, said_or, fault_at};
 
-use cs_slices::load_segments;
-use hs_tables::{load_appmon, load_eventmon, load_execount, load_msgacts};
-use md_dwell::load_dwell;
-use sc_tables::{load_ats, load_rts};
-use table_files::{EntryFault, FileImage, Files, TableKind};
+use cs_slices::{Segments, load_segments};
+use hs_tables::{
+    AppMon, EventMon, ExeCount, MsgActs, load_appmon, load_eventmon, load_execount, load_msgacts,
+};
+use table_files::EntryFault;
 
 /// Why the entries of the files are refused: the first faulty file, counted from 1, and in it the entry and the reason that
 /// its loader answers.
@@ -20,50 +24,101 @@ pub struct TablesFault {
     pub reason: u8,
 }
 
-/// The fault of the entries of a file.
-fn fault_in(image: FileImage<'_>) -> Option<EntryFault>
-    requires { (file : List ℕ) × Shows file image }
-    ensures fault { (file : List ℕ) → Shows file image.entry → result ≡ entry_fault_in file }
-    ensures small { IfSome result (λ fault. fault.reason ≤ 5) }
+/// The first fault of a file and of the files behind it: the file's own, where it has one.
+pub(crate) fn earlier_fault(
+    file: u32,
+    fault: Option<EntryFault>,
+    behind: Option<TablesFault>,
+) -> Option<TablesFault>
+    ensures fault { (said : Option (ℕ × EntryFault)) → behind ≡ option_map fault_at said → result ≡ option_map fault_at (said_or file fault said) }
+    ensures small { IfSome fault (λ fault. fault.reason ≤ 5) → IfSome behind (λ fault. fault.reason ≤ 5) → IfSome result (λ fault. fault.reason ≤ 5) }
 {
-    match image {
-        FileImage::Load { .. } => None,
-        FileImage::Table { kind, payload } => fault_of(kind, payload),
+    match fault {
+        Some(fault) => Some(TablesFault {
+            file,
+            entry: fault.entry,
+            reason: fault.reason,
+        }),
+        None => behind,
     }
 }
 
-// The fault of the entries of a table.
-fn fault_of(kind: TableKind, payload: &[u8]) -> Option<EntryFault>
-    requires { IsTable kind (length payload.now) }
-    ensures fault { result ≡ entry_fault kind payload.now }
+/// Puts a checksum table in a place, unless its entries have a fault.
+pub(crate) fn put_segments(place: &mut Segments, payload: &[u8]) -> Option<EntryFault>
+    requires { length payload.now ≡ 192 }
+    ensures table { place.new ≡ where_well (segments_of payload.now) place.old (segments_fault_of payload.now) }
+    ensures fault { result ≡ segments_fault_of payload.now }
     ensures small { IfSome result (λ fault. fault.reason ≤ 5) }
 {
-    match kind {
-        TableKind::Dwell(_) => load_dwell(payload).err(),
-        TableKind::Eeprom => load_segments(payload).err(),
-        TableKind::Memory => load_segments(payload).err(),
-        TableKind::AppMon => load_appmon(payload).err(),
-        TableKind::EventMon => load_eventmon(payload).err(),
-        TableKind::ExeCount => load_execount(payload).err(),
-        TableKind::MsgActs => load_msgacts(payload).err(),
-        TableKind::Ats(_) => load_ats(payload).err(),
-        TableKind::Rts(_) => load_rts(payload).err(),
-    }
-}
-
-/// The first fault that the entries of the files have.
-pub(crate) fn first_fault(files: &Files) -> Option<TablesFault>
-    ensures fault { result ≡ tables_fault files.now }
-    ensures small { IfSome result (λ fault. fault.reason ≤ 5) }
-{
-    'files: for i in 0..files.len() {
-        if let Some(fault) = fault_in(files.get(i + 1)) {
-            return Some(TablesFault {
-                file: i + 1,
-                entry: fault.entry,
-                reason: fault.reason,
-            });
+    match load_segments(payload) {
+        Ok(table) => {
+            *place = table;
+            None
         }
+        Err(fault) => Some(fault),
     }
-    None
+}
+
+/// Puts an application monitor table in a place, unless its entries have a fault.
+pub(crate) fn put_apps(place: &mut AppMon, payload: &[u8]) -> Option<EntryFault>
+    requires { length payload.now ≡ 768 }
+    ensures table { place.new ≡ where_well (apps.rows_of payload.now) place.old (apps.rows_fault_of payload.now) }
+    ensures fault { result ≡ apps.rows_fault_of payload.now }
+    ensures small { IfSome result (λ fault. fault.reason ≤ 5) }
+{
+    match load_appmon(payload) {
+        Ok(table) => {
+            *place = table;
+            None
+        }
+        Err(fault) => Some(fault),
+    }
+}
+
+/// Puts an event monitor table in a place, unless its entries have a fault.
+pub(crate) fn put_events(place: &mut EventMon, payload: &[u8]) -> Option<EntryFault>
+    requires { length payload.now ≡ 384 }
+    ensures table { place.new ≡ where_well (events.rows_of payload.now) place.old (events.rows_fault_of payload.now) }
+    ensures fault { result ≡ events.rows_fault_of payload.now }
+    ensures small { IfSome result (λ fault. fault.reason ≤ 5) }
+{
+    match load_eventmon(payload) {
+        Ok(table) => {
+            *place = table;
+            None
+        }
+        Err(fault) => Some(fault),
+    }
+}
+
+/// Puts an execution counter table in a place, unless its entries have a fault.
+pub(crate) fn put_counts(place: &mut ExeCount, payload: &[u8]) -> Option<EntryFault>
+    requires { length payload.now ≡ 704 }
+    ensures table { place.new ≡ where_well (counters.rows_of payload.now) place.old (counters.rows_fault_of payload.now) }
+    ensures fault { result ≡ counters.rows_fault_of payload.now }
+    ensures small { IfSome result (λ fault. fault.reason ≤ 5) }
+{
+    match load_execount(payload) {
+        Ok(table) => {
+            *place = table;
+            None
+        }
+        Err(fault) => Some(fault),
+    }
+}
+
+/// Puts a message action table in a place, unless its entries have a fault.
+pub(crate) fn put_acts(place: &mut MsgActs, payload: &[u8]) -> Option<EntryFault>
+    requires { length payload.now ≡ 544 }
+    ensures table { place.new ≡ where_well (actions.rows_of payload.now) place.old (actions.rows_fault_of payload.now) }
+    ensures fault { result ≡ actions.rows_fault_of payload.now }
+    ensures small { IfSome result (λ fault. fault.reason ≤ 5) }
+{
+    match load_msgacts(payload) {
+        Ok(table) => {
+            *place = table;
+            None
+        }
+        Err(fault) => Some(fault),
+    }
 }

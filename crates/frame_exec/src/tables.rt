@@ -1,26 +1,20 @@
 //! The tables of the applications, by the files that name them.
 
-ghost use Rattle.std.specs.Prelude.{◌≡◌, ℕ, ◌≤◌, List, length, None, Some, IfOk, IfErr};
+ghost use Rattle.std.specs.Prelude.{◌≡◌, ℕ, ◌≤◌, List, length, None, Some, IfSome, IfOk, IfErr};
 ghost use Rattle.table_files.specs.Headers.{Shows};
 ghost use Rattle.table_files.specs.Kinds.{IsTable};
 ghost use Rattle.table_files.specs.declared.kinds.TableKind.{TableKind};
-ghost use Rattle.cs_slices.specs.Tables.{segments_of, segments_fault_of};
-ghost use Rattle.hs_tables.specs.Apps as apps;
-ghost use Rattle.hs_tables.specs.Events as events;
-ghost use Rattle.hs_tables.specs.Counters as counters;
-ghost use Rattle.hs_tables.specs.Actions as actions;
-ghost use Rattle.frame_exec.specs.Tables.{where_well, with_table, with_file, tables_fault};
+ghost use Rattle.frame_exec.specs.Tables.{with_table, with_file, entry_fault, entry_fault_in, tables_fault};
 
-use crate::loading::{TablesFault, first_fault};
-use cs_slices::{Segments, load_segments};
-use hs_tables::{
-    AppMon, EventMon, ExeCount, HsTables, MsgActs, load_appmon, load_eventmon, load_execount,
-    load_msgacts,
+use crate::loading::{
+    TablesFault, earlier_fault, put_acts, put_apps, put_counts, put_events, put_segments,
 };
+use cs_slices::Segments;
+use hs_tables::HsTables;
 use md_dwell::{Dwell, load_dwell};
 use sc_tables::{RtsSet, ScTables, load_ats, load_rts};
 use std::marker::Model;
-use table_files::{FileImage, Files, TableKind};
+use table_files::{EntryFault, FileImage, Files, TableKind};
 
 /// The tables of the applications. The sequences of SC borrow the files.
 #[derive(Drop)]
@@ -70,23 +64,18 @@ impl<'f> Tables<'f> {
         ensures fault { IfErr result (λ fault. tables_fault files.now ≡ Some fault) }
         ensures small { IfErr result (λ fault. fault.reason ≤ 5) }
     {
-        match first_fault(files) {
-            Some(fault) => Err(fault),
-            None => Ok(Tables::named(files)),
-        }
-    }
-
-    // The tables that the files name; the entries of none of them have a fault.
-    fn named(files: &'f Files) -> Tables<'f>
-        ensures { result ≡ tables_of files.now }
-    {
         let mut tables = Tables::blank();
+        let mut found = None;
         let mut left = files.len();
         'files: while left > 0 {
-            tables.put_file(files.get(left));
+            let fault = tables.put_file(files.get(left));
+            found = earlier_fault(left, fault, found);
             left -= 1;
         }
-        tables
+        match found {
+            Some(fault) => Err(fault),
+            None => Ok(tables),
+        }
     }
 
     /// The four dwell tables.
@@ -125,21 +114,25 @@ impl<'f> Tables<'f> {
         &self.sc
     }
 
-    // Puts the table of a file in its place, if it is one.
-    fn put_file(&mut self, image: FileImage<'f>)
+    // Puts the table of a file in its place, if it is one and its entries have no fault.
+    fn put_file(&mut self, image: FileImage<'f>) -> Option<EntryFault>
         requires { (file : List ℕ) × Shows file image }
-        ensures { (file : List ℕ) → Shows file image.entry → self.new ≡ with_file self.old file }
+        ensures table { (file : List ℕ) → Shows file image.entry → self.new ≡ with_file self.old file }
+        ensures fault { (file : List ℕ) → Shows file image.entry → result ≡ entry_fault_in file }
+        ensures small { IfSome result (λ fault. fault.reason ≤ 5) }
     {
         match image {
-            FileImage::Load { .. } => {}
+            FileImage::Load { .. } => None,
             FileImage::Table { kind, payload } => self.put(kind, payload),
         }
     }
 
-    // Puts a table in its place.
-    fn put(&mut self, kind: TableKind, payload: &'f [u8])
+    // Puts a table in its place, unless its entries have a fault.
+    fn put(&mut self, kind: TableKind, payload: &'f [u8]) -> Option<EntryFault>
         requires { IsTable kind (length payload.now) }
-        ensures { self.new ≡ with_table self.old kind payload.now }
+        ensures table { self.new ≡ with_table self.old kind payload.now }
+        ensures fault { result ≡ entry_fault kind payload.now }
+        ensures small { IfSome result (λ fault. fault.reason ≤ 5) }
     {
         match kind {
             TableKind::Dwell(n) => self.put_dwell(n, payload),
@@ -155,95 +148,53 @@ impl<'f> Tables<'f> {
     }
 
     // Puts dwell table n, from 1 to 4, in its place.
-    fn put_dwell(&mut self, n: u8, payload: &[u8])
+    fn put_dwell(&mut self, n: u8, payload: &[u8]) -> Option<EntryFault>
         requires number { (1 ≤ n) × (n ≤ 4) }
         requires size { length payload.now ≡ 204 }
-        ensures { self.new ≡ with_table self.old (TableKind.Dwell n) payload.now }
+        ensures table { self.new ≡ with_table self.old (TableKind.Dwell n) payload.now }
+        ensures fault { result ≡ entry_fault (TableKind.Dwell n) payload.now }
+        ensures small { IfSome result (λ fault. fault.reason ≤ 5) }
     {
         match load_dwell(payload) {
             Ok(table) => {
                 let dwells = &mut self.dwells[..];
                 dwells[n as usize - 1] = table;
+                None
             }
-            Err(_) => {}
+            Err(fault) => Some(fault),
         }
     }
 
     // Puts absolute sequence n, 1 or 2, in its place.
-    fn put_ats(&mut self, n: u8, payload: &'f [u8])
+    fn put_ats(&mut self, n: u8, payload: &'f [u8]) -> Option<EntryFault>
         requires { (1 ≤ n) × (n ≤ 2) }
-        ensures { self.new ≡ with_table self.old (TableKind.Ats n) payload.now }
+        ensures table { self.new ≡ with_table self.old (TableKind.Ats n) payload.now }
+        ensures fault { result ≡ entry_fault (TableKind.Ats n) payload.now }
+        ensures small { IfSome result (λ fault. fault.reason ≤ 5) }
     {
         match load_ats(payload) {
-            Ok(ats) => self.sc.put_ats(n, ats),
-            Err(_) => {}
+            Ok(ats) => {
+                self.sc.put_ats(n, ats);
+                None
+            }
+            Err(fault) => Some(fault),
         }
     }
 
     // Puts relative sequence n, from 1 to 64, in its place.
-    fn put_rts(&mut self, n: u8, payload: &'f [u8])
+    fn put_rts(&mut self, n: u8, payload: &'f [u8]) -> Option<EntryFault>
         requires number { (1 ≤ n) × (n ≤ 64) }
         requires size { length payload.now ≤ 2048 }
-        ensures { self.new ≡ with_table self.old (TableKind.Rts n) payload.now }
+        ensures table { self.new ≡ with_table self.old (TableKind.Rts n) payload.now }
+        ensures fault { result ≡ entry_fault (TableKind.Rts n) payload.now }
+        ensures small { IfSome result (λ fault. fault.reason ≤ 5) }
     {
         match load_rts(payload) {
-            Ok(rts) => self.sc.put_rts(n, rts),
-            Err(_) => {}
+            Ok(rts) => {
+                self.sc.put_rts(n, rts);
+                None
+            }
+            Err(fault) => Some(fault),
         }
-    }
-}
-
-// Puts a checksum table in a place.
-fn put_segments(place: &mut Segments, payload: &[u8])
-    requires { length payload.now ≡ 192 }
-    ensures { place.new ≡ where_well (segments_of payload.now) place.old (segments_fault_of payload.now) }
-{
-    match load_segments(payload) {
-        Ok(table) => *place = table,
-        Err(_) => {}
-    }
-}
-
-// Puts an application monitor table in a place.
-fn put_apps(place: &mut AppMon, payload: &[u8])
-    requires { length payload.now ≡ 768 }
-    ensures { place.new ≡ where_well (apps.rows_of payload.now) place.old (apps.rows_fault_of payload.now) }
-{
-    match load_appmon(payload) {
-        Ok(table) => *place = table,
-        Err(_) => {}
-    }
-}
-
-// Puts an event monitor table in a place.
-fn put_events(place: &mut EventMon, payload: &[u8])
-    requires { length payload.now ≡ 384 }
-    ensures { place.new ≡ where_well (events.rows_of payload.now) place.old (events.rows_fault_of payload.now) }
-{
-    match load_eventmon(payload) {
-        Ok(table) => *place = table,
-        Err(_) => {}
-    }
-}
-
-// Puts an execution counter table in a place.
-fn put_counts(place: &mut ExeCount, payload: &[u8])
-    requires { length payload.now ≡ 704 }
-    ensures { place.new ≡ where_well (counters.rows_of payload.now) place.old (counters.rows_fault_of payload.now) }
-{
-    match load_execount(payload) {
-        Ok(table) => *place = table,
-        Err(_) => {}
-    }
-}
-
-// Puts a message action table in a place.
-fn put_acts(place: &mut MsgActs, payload: &[u8])
-    requires { length payload.now ≡ 544 }
-    ensures { place.new ≡ where_well (actions.rows_of payload.now) place.old (actions.rows_fault_of payload.now) }
-{
-    match load_msgacts(payload) {
-        Ok(table) => *place = table,
-        Err(_) => {}
     }
 }
