@@ -8,6 +8,8 @@ pub mod Histories
 pub mod Housekeeping
 pub mod Step
 pub mod Cursors
+pub mod Kept
+pub mod KeptLaws
 pub mod State
 pub mod Rows
 pub mod Laws

@@ -1,8 +1,9 @@
 //! Where each sequence stands, and which comes next.
-ghost use Rattle.std.specs.Prelude.{◌≡◌, ◌+◌, ◌<◌, ℕ, List, Option, None, length, slice_index_or, slice_set};
+ghost use Rattle.std.specs.Prelude.{◌≡◌, ◌+◌, ◌<◌, ℕ, List, Option, None, false, length, slice_index_or, slice_set, replicate, IfSome};
 ghost use Rattle.sc_sequences.specs.Cursors.{next_times, time_in, SoonestOf};
 ghost use Rattle.sc_sequences.specs.Turns.{soonest, place_due};
 
+use crate::kept::KeptCursor;
 use std::marker::Model;
 
 /// How many sequences there are: two absolute and 64 relative ones. Absolute sequence n stands in place n - 1, relative sequence n in place
@@ -30,7 +31,7 @@ pub(crate) struct Due {
 /// The cursors of all sequences, seen as their list. Which comes next is kept, so that a wakeup in which none is due asks for one time.
 #[derive(Clone, Copy, Debug, PartialEq, Eq)]
 pub(crate) struct Cursors {
-    all: [Cursor; PLACES],
+    all: [KeptCursor; PLACES],
     due: Option<Due>,
 }
 
@@ -49,22 +50,14 @@ impl Model for Cursors {
     ghost inverse = { λ all. record { all = all; due = soonest (next_times all) } };
 }
 
-impl Cursor {
-    /// That of a sequence that doesn't run and may not be started.
-    pub(crate) const WAITING: Cursor = Cursor {
-        next: None,
-        at: 0,
-        enabled: false,
-    };
-}
-
 impl Cursors {
     ghost use Rattle.sc_sequences.specs.Cursors.{cursor_in};
 
-    /// These cursors.
-    pub(crate) fn of(all: [Cursor; PLACES]) -> Cursors
-        ensures { result ≡ all }
+    /// The cursors of sequences that don't run and may not be started.
+    pub(crate) fn waiting() -> Cursors
+        ensures { result ≡ replicate 66 (record { next = None; at = 0; enabled = false }) }
     {
+        let all = [KeptCursor::waiting(); PLACES];
         Cursors {
             all,
             due: soonest(&all),
@@ -75,17 +68,22 @@ impl Cursors {
     #[inline(always)]
     pub(crate) fn get(&self, place: usize) -> Cursor
         requires { place < 66 }
-        ensures { result ≡ cursor_in self.now place }
+        ensures cursor { result ≡ cursor_in self.now place }
+        ensures at { result.at < 65536 }
+        ensures time { IfSome result.next (λ time. time < 8589934592) }
     {
-        self.all[place]
+        let kept = self.all[place];
+        kept.cursor()
     }
 
     /// Changes the cursor in a place.
     pub(crate) fn set(&mut self, place: usize, cursor: Cursor)
-        requires { place < 66 }
+        requires place { place < 66 }
+        requires at { cursor.at < 65536 }
+        requires time { IfSome cursor.next (λ time. time < 8589934592) }
         ensures { self.new ≡ slice_set self.old place cursor }
     {
-        self.all[place] = cursor;
+        self.all[place] = KeptCursor::of(cursor);
         self.due = soonest(&self.all);
     }
 
@@ -105,13 +103,14 @@ impl Cursors {
 }
 
 // The soonest of the times of these cursors, the first where several have it.
-fn soonest(all: &[Cursor]) -> Option<Due>
+fn soonest(all: &[KeptCursor]) -> Option<Due>
     requires { length all.now ≡ 66 }
     ensures { result ≡ soonest (next_times all.now) }
 {
     let mut best = None;
     for place in 0..PLACES as u8 {
-        best = sooner(best, all[usize::from(place)].next, place);
+        let kept = all[usize::from(place)];
+        best = sooner(best, kept.next(), place);
     }
     best
 }

@@ -5,6 +5,7 @@ mod cursors;
 mod heads;
 mod housekeeping;
 mod instructions;
+mod kept;
 pub mod laws;
 mod messages;
 mod orders;

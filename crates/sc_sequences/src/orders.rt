@@ -1,5 +1,5 @@
 //! What accepted commands make of the cursors.
-ghost use Rattle.std.specs.Prelude.{◌≡◌, ◌<◌, ℕ, List, slice_set, drop};
+ghost use Rattle.std.specs.Prelude.{◌≡◌, ◌<◌, ◌≤◌, ℕ, List, slice_set, drop};
 ghost use Rattle.sc_tables.specs.Commands.{TimedCommand, commands_in};
 ghost use Rattle.sc_sequences.specs.Sequences.{Sequence, with_at, going_on, stopped, started_with, started_at, ats_place, rts_place, running_ats};
 ghost use Rattle.sc_sequences.specs.Orders.{where_placed, allowed, switched, jumped, obeyed};
@@ -69,7 +69,8 @@ pub(crate) fn start(cursors: &mut Cursors, tables: &ScTables<'_>, place: usize, 
 // The command with which the sequence in a place begins.
 fn first_at(tables: &ScTables<'_>, place: usize, now: u32) -> u32
     requires { place < 66 }
-    ensures { drop result (commands_in tables.now place) ≡ started_with place now (commands_in tables.now place) }
+    ensures left { drop result (commands_in tables.now place) ≡ started_with place now (commands_in tables.now place) }
+    ensures few { result ≤ 1000 }
 {
     if is_relative(place) {
         return 0;
@@ -79,7 +80,8 @@ fn first_at(tables: &ScTables<'_>, place: usize, now: u32) -> u32
 
 /// Lets the sequence in a place go on with command `at` at the time `now`.
 pub(crate) fn go_on(cursors: &mut Cursors, tables: &ScTables<'_>, place: usize, at: u32, now: u32)
-    requires { place < 66 }
+    requires place { place < 66 }
+    requires few { at ≤ 1000 }
     ensures { (all : List Sequence) → CursorsStand tables.now all cursors.old
         → CursorsStand tables.now (with_at place (going_on place now (drop at (commands_in tables.now place))) all) cursors.new }
 {

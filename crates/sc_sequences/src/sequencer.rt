@@ -3,7 +3,7 @@ ghost use Rattle.std.specs.Prelude.{◌≡◌, ◌+◌, ◌%◌, ℕ, if◌then�
 ghost use Rattle.sc_sequences.specs.Histories.{begun_at, at_start};
 ghost use Rattle.sc_sequences.specs.State.{CursorsStand, SequencerStands};
 
-use crate::cursors::{Cursor, Cursors, PLACES};
+use crate::cursors::Cursors;
 use crate::heads::cursor_at;
 use sc_tables::ScTables;
 
@@ -48,10 +48,10 @@ impl Sequencer {
 fn begin(tables: &ScTables<'_>, now: u32) -> Cursors
     ensures { CursorsStand tables.now (at_start (begun_at now tables.now)).all result }
 {
-    let mut all = [Cursor::WAITING; PLACES];
+    let mut cursors = Cursors::waiting();
     if tables.len(FIRST_RTS) > 0 {
-        all[FIRST_RTS] = cursor_at(tables, FIRST_RTS, 0, now, true);
-        return Cursors::of(all);
+        cursors.set(FIRST_RTS, cursor_at(tables, FIRST_RTS, 0, now, true));
+        return cursors;
     }
-    Cursors::of(all)
+    cursors
 }

@@ -65,7 +65,8 @@ impl Sequencer {
 fn next_behind(tables: &ScTables<'_>, place: usize, at: u32, right: bool) -> u32
     requires place { place < 66 }
     requires within { at < length (commands_in tables.now place) }
-    ensures { drop result (commands_in tables.now place) ≡ left_behind place right (drop (at + 1) (commands_in tables.now place)) }
+    ensures left { drop result (commands_in tables.now place) ≡ left_behind place right (drop (at + 1) (commands_in tables.now place)) }
+    ensures few { result ≤ 1000 }
 {
     let count = tables.len(place);
     if right || !is_relative(place) {

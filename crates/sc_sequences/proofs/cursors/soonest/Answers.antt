@@ -10,7 +10,7 @@ loop-place-preserved c =
     let all = c.args.all.now in
     let at : c.from.result ≡ c.loop-place.place = c.from.ensures in
     c.sooner-best.ensures (next_times all)
-    (ap (λ (k : ℕ). time_in (next_times all) k) (sym at) ∙ get_or-map (λ (k : Cursor). k.next) all c.from.result (record { next = None; at = 0; enabled = false }) None (omega arith))
+    (ap (λ (k : ℕ). time_in (next_times all) k) (sym at) ∙ get_or-map (λ (k : Cursor). k.next) all c.from.result c.index-all-from.result None (omega arith) ∙ ap (λ (k : Cursor). k.next) (sym c.index-all-from.is) ∙ sym c.next.ensures.next)
     c.loop-place.invariant
 
 pub returns : goal.returns

@@ -6,4 +6,4 @@ use Rattle.sc_sequences.proofs.Nexts.{left_is}
 use Rattle.sc_sequences.proofs.heads.remains_from.Goals as goal
 
 pub returns : goal.returns
-returns c = ap (nat_lt c.first_from.result) c.len.ensures.count ∙ left_is (commands_in c.args.tables.now c.args.place) c.first_from.result ∙ ap has_some c.first_from.ensures
+returns c = ap (nat_lt c.first_from.result) c.len.ensures.count ∙ left_is (commands_in c.args.tables.now c.args.place) c.first_from.result ∙ ap has_some c.first_from.ensures.left

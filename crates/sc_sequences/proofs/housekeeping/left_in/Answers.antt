@@ -12,5 +12,5 @@ returns-in-Some c = λ all stood.
     let tables = c.args.tables.now in
     let place = c.in-Some.place in
     let inside : place < 66 = (let two = c.in-Some.ensures.within in omega arith) in
-    c.saturating_sub.ensures ∙ ap (λ (k : Cursor). c.len.result - k.at) c.get.ensures
+    c.saturating_sub.ensures ∙ ap (λ (k : Cursor). c.len.result - k.at) c.get.ensures.cursor
     ∙ left_is_shown tables all c.args.cursors.now place c.len.result stood inside (sym (c.running_ats.ensures.place tables all stood) ∙ c.in-Some.is) c.len.ensures.count

@@ -20,11 +20,11 @@ loop-k-preserved c =
       enabled_long = length-set c.loop-k.enabled k c.get-cursor.result.enabled ∙ held.enabled_long;
       running = λ tables all stood.
           flags_more is_running all c.loop-k.running k c.is_some.result (let long = held.running_long in omega arith) (held.running tables all stood)
-          (c.is_some.ensures ∙ ap (λ (cursor : Cursor). is_some cursor.next) c.get-cursor.ensures
+          (c.is_some.ensures ∙ ap (λ (cursor : Cursor). is_some cursor.next) c.get-cursor.ensures.cursor
           ∙ runs_is (commands_in tables (k + 2)) (at_place all (k + 2)) (cursor_in c.args.cursors.now (k + 2)) (stood.each (k + 2) (omega arith)));
       enabled = λ tables all stood.
           flags_more (λ (s : Sequence). s.enabled) all c.loop-k.enabled k c.get-cursor.result.enabled (let long = held.enabled_long in omega arith) (held.enabled tables all stood)
-          (ap (λ (cursor : Cursor). cursor.enabled) c.get-cursor.ensures ∙ (stood.each (k + 2) (omega arith)).enabled);
+          (ap (λ (cursor : Cursor). cursor.enabled) c.get-cursor.ensures.cursor ∙ (stood.each (k + 2) (omega arith)).enabled);
     }
 
 pub returns-clause-running : goal.returns-clause-running

@@ -11,8 +11,8 @@ returns c = λ all stood.
     let tables = c.args.tables.now in
     let place = c.args.place in
     let s = at_place all place in
-    let here = stood.each place c.requires in
+    let here = stood.each place c.requires.place in
     let new = going_on place c.args.now (drop c.args.at (commands_in tables place)) s in
     subst (λ (cursors : List Cursor). CursorsStand tables (set all place new) cursors) (sym c.set.ensures)
-    (set_stands tables all c.args.cursors.now place new c.cursor_at.result c.requires stood
-    (c.cursor_at.ensures s here.loaded (sym here.enabled ∙ ap (λ (k : Cursor). k.enabled) (sym c.get-cursor.ensures))))
+    (set_stands tables all c.args.cursors.now place new c.cursor_at.result c.requires.place stood
+    (c.cursor_at.ensures.stands s here.loaded (sym here.enabled ∙ ap (λ (k : Cursor). k.enabled) (sym c.get-cursor.ensures.cursor))))

@@ -15,7 +15,7 @@ returns-then-not-remains_from c = λ all stood.
     let place = c.in-Some.place in
     let found : running_ats all ≡ Some place = sym (c.running_ats.ensures.place tables all stood) ∙ c.in-Some.is in
     let inside : place < 66 = (let two = c.in-Some.ensures.within in omega arith) in
-    let is = sym c.if-not-remains_from.true ∙ c.remains_from.ensures ∙ ap (λ (k : Cursor). has_some (from_time c.args.time (drop k.at (commands_in tables place)))) c.get.ensures in
+    let is = sym c.if-not-remains_from.true ∙ c.remains_from.ensures ∙ ap (λ (k : Cursor). has_some (from_time c.args.time (drop k.at (commands_in tables place)))) c.get.ensures.cursor in
     sym (jump_by c.args.time place all false found (left_remains tables all c.args.cursors.now stood place inside c.args.time false (running_runs all place found) is))
 
 pub returns : goal.returns
@@ -24,5 +24,5 @@ returns c = λ all stood.
     let place = c.in-Some.place in
     let found : running_ats all ≡ Some place = sym (c.running_ats.ensures.place tables all stood) ∙ c.in-Some.is in
     let inside : place < 66 = (let two = c.in-Some.ensures.within in omega arith) in
-    let is = sym c.if-not-remains_from.false ∙ c.remains_from.ensures ∙ ap (λ (k : Cursor). has_some (from_time c.args.time (drop k.at (commands_in tables place)))) c.get.ensures in
+    let is = sym c.if-not-remains_from.false ∙ c.remains_from.ensures ∙ ap (λ (k : Cursor). has_some (from_time c.args.time (drop k.at (commands_in tables place)))) c.get.ensures.cursor in
     sym (jump_by c.args.time place all true found (left_remains tables all c.args.cursors.now stood place inside c.args.time true (running_runs all place found) is))
