@@ -13,8 +13,8 @@ use crate::messages::{ATS_ENDED, RTS_ENDED, WRONG_IN_ATS, WRONG_IN_RTS, name};
 use crate::orders::go_on;
 use crate::places::is_relative;
 use crate::sequencer::Sequencer;
-use bus_pipes::{Out, Outbox};
-use packet_forms::{Packet, event};
+use bus_pipes::{Out, Outbox, push_event};
+use packet_forms::Packet;
 use sc_tables::ScTables;
 
 /// How many commands leave in a wakeup at most.
@@ -90,10 +90,10 @@ fn send_head(place: usize, right: bool, packet: &Packet, ends: bool, now: u32, o
         return;
     }
     if is_relative(place) {
-        out.push(Out::Made(event(name(), WRONG_IN_RTS, 3, now)));
+        push_event(out, name(), WRONG_IN_RTS, 3, now);
         return;
     }
-    out.push(Out::Made(event(name(), WRONG_IN_ATS, 3, now)));
+    push_event(out, name(), WRONG_IN_ATS, 3, now);
     send_end(place, ends, now, out);
 }
 
@@ -110,8 +110,8 @@ fn send_end(place: usize, ends: bool, now: u32, out: &mut Outbox)
         return;
     }
     if is_relative(place) {
-        out.push(Out::Made(event(name(), RTS_ENDED, 2, now)));
+        push_event(out, name(), RTS_ENDED, 2, now);
         return;
     }
-    out.push(Out::Made(event(name(), ATS_ENDED, 2, now)));
+    push_event(out, name(), ATS_ENDED, 2, now);
 }
