@@ -20,6 +20,7 @@ use Rattle.mm_core.specs.Step.{Input as MmInput, mm_items}
 use Rattle.mm_core.specs.State.{Stands as MmStands}
 use Rattle.mm_core.specs.declared.state.Mm.{Mm}
 use Rattle.md_dwell.specs.Orders.{Input as MdInput}
+use Rattle.md_dwell.specs.Histories.{MdEntry}
 use Rattle.md_dwell.specs.Step.{md_items}
 use Rattle.md_dwell.specs.State.{Stands as MdStands}
 use Rattle.md_dwell.specs.declared.state.Md.{Md}
@@ -37,6 +38,10 @@ hs_entries history = map Woken history
 abbrev pub sc_entries : List ScInput → List ScEntry
 sc_entries history = map Woken history
 
+-- the entries of a history of MD: all are wakeups
+abbrev pub md_entries : List MdInput → List MdEntry
+md_entries history = map Woken history
+
 -- when a state stands for a history: of SC, by its start and the sequences
 abbrev pub hs_stands : TableSet → List HsInput → Hs → Type 0
 hs_stands tables history hs = HsStands (hs_setup tables) (hs_entries history) hs
@@ -51,7 +56,7 @@ abbrev pub mm_stands : TableSet → List MmInput → Mm → Type 0
 mm_stands tables history mm = MmStands history mm
 
 abbrev pub md_stands : TableSet → List MdInput → Md → Type 0
-md_stands tables history md = MdStands tables.dwells history md
+md_stands tables history md = MdStands tables.dwells (md_entries history) md
 
 -- what a wakeup gives behind a history
 abbrev pub hs_gives : TableSet → List HsInput → HsInput → List Out
@@ -67,7 +72,7 @@ abbrev pub mm_gives : TableSet → List MmInput → MmInput → List Out
 mm_gives tables history input = mm_items history input
 
 abbrev pub md_gives : TableSet → List MdInput → MdInput → List Out
-md_gives tables history input = md_items tables.dwells history input
+md_gives tables history input = md_items tables.dwells (md_entries history) input
 
 -- what a wakeup of HS reads, by its time, the packets of both pipes, and the frame's execution counters
 abbrev pub hs_reads : ℕ → List (List ℕ) → List (List ℕ) → List Counter → HsInput

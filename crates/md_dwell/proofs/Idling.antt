@@ -1,17 +1,19 @@
 -- A wakeup in which MD does nothing.
-use Rattle.std.proofs.Common.{◌≡◌, ℕ, ◌<◌, Bool, true, false, not, ◌&&◌, ◌||◌, List, [], ◌∷◌, ◌++◌, length, map, None, refl, sym, ap, ◌∙◌, lt-ltb, append-nil}
+use Rattle.std.proofs.Common.{◌≡◌, ℕ, ◌<◌, Bool, true, false, not, ◌&&◌, ◌||◌, List, [], ◌∷◌, ◌++◌, length, None, refl, sym, ap, ◌∙◌, lt-ltb, append-nil}
 use Rattle.std.specs.Prelude.{nat_lt, ◌==◌}
+use Rattle.histories.specs.Entries.Entry.{Woken}
 use Rattle.commands.specs.Verdicts.{orders_in, verdicts_on}
 use Rattle.commands.specs.Counting.{counts_of}
 use Rattle.commands.specs.declared.verdicts.Verdict.{Verdict}
-use Rattle.commands.proofs.Heard.{no_packets, no_answers, verdicts_none, heard_idle}
+use Rattle.commands.proofs.Heard.{no_packets, no_answers, verdicts_none}
 use Rattle.memory_window.specs.Memory.{Memory}
 use Rattle.md_dwell.specs.Messages.{md_name}
 use Rattle.md_dwell.specs.Tables.{DwellTable}
 use Rattle.md_dwell.specs.Lists.{list_of, delays}
 use Rattle.md_dwell.specs.Rounds.{dwell_at}
 use Rattle.md_dwell.specs.Verdicts.{md_protocol}
-use Rattle.md_dwell.specs.Orders.{Input, heard_at, orders_at, orders_of}
+use Rattle.md_dwell.specs.Orders.{Input, heard_at, ordered_at}
+use Rattle.md_dwell.specs.Histories.{MdEntry, started_by, images_of}
 use Rattle.md_dwell.specs.Housekeeping.{entries_now, is_on, dwells}
 use Rattle.md_dwell.specs.Step.{md_heard, md_answers, turn_of, dwell_items, table_items, md_items}
 use Rattle.md_dwell.specs.State.{TableStands, StandsAt, Stands, is_idle_on}
@@ -20,23 +22,23 @@ use Rattle.md_dwell.specs.declared.streams.Stream.{Stream}
 use Rattle.md_dwell.specs.declared.state.Streams.{Streams}
 use Rattle.md_dwell.specs.declared.state.Md.{Md}
 use Rattle.md_dwell.proofs.Courses.{idle}
+use Rattle.md_dwell.proofs.Following.{heard_woken}
 use Rattle.md_dwell.proofs.Turns.{table_wakeup, table_gives}
 
 -- what is kept of a table tells whether it dwells
 abbrev pub kept : Stream → Bool
 kept s = s.enabled && nat_lt 0 (delays (list_of s.plan))
 
-pub dwells_is : (tables : List DwellTable) (history : List Input) (n : ℕ) (s : Stream) → TableStands tables history [] n s → kept s ≡ dwells tables (orders_of history) n
-dwells_is tables history n s stood =
-    rw (stood.enabled, stood.plan) (ap (λ (orders : List Instruction). dwells tables orders n) (append-nil (orders_of history)))
+pub dwells_is : (tables : List DwellTable) (history : List MdEntry) (n : ℕ) (s : Stream) → TableStands tables history [] n s → kept s ≡ dwells tables history n
+dwells_is tables history n s stood = rw (stood.enabled, stood.plan) refl
 
 -- by all four
-pub idle_is : (tables : List DwellTable) (history : List Input) (commands : List (List ℕ)) (empty any : Bool) (s : Streams) → StandsAt tables history [] s → empty ≡ (length commands == 0)
+pub idle_is : (tables : List DwellTable) (history : List MdEntry) (commands : List (List ℕ)) (empty any : Bool) (s : Streams) → StandsAt tables history [] s → empty ≡ (length commands == 0)
     → any ≡ (kept s.first || kept s.second || kept s.third || kept s.fourth) → (empty && not any) ≡ is_idle_on tables history commands
 unfolding is_idle_on
 idle_is tables history commands empty any s stood none is =
     rw (none, is, dwells_is tables history 1 s.first stood.first, dwells_is tables history 2 s.second stood.second, dwells_is tables history 3 s.third stood.third, dwells_is tables history 4 s.fourth stood.fourth)
-    (ap (λ (b : Bool). (length commands == 0) && not b) (of_list (dwells tables (orders_of history) 1) (dwells tables (orders_of history) 2) (dwells tables (orders_of history) 3) (dwells tables (orders_of history) 4)))
+    (ap (λ (b : Bool). (length commands == 0) && not b) (of_list (dwells tables history 1) (dwells tables history 2) (dwells tables history 3) (dwells tables history 4)))
   where
     of_list : (a b c d : Bool) → (a || b || c || d) ≡ (a || (b || (c || (d || false))))
     of_list true b c d = refl
@@ -49,7 +51,7 @@ idle_is tables history commands empty any s stood none is =
 none_heard : (input : Input) → input.commands ≡ [] → heard_at input ≡ []
 none_heard input none = ap (verdicts_on md_protocol input.seen) none ∙ verdicts_none md_protocol input.seen
 
-pub none_ordered : (input : Input) → input.commands ≡ [] → orders_at input ≡ []
+pub none_ordered : (input : Input) → input.commands ≡ [] → ordered_at input ≡ []
 unfolding orders_in
 none_ordered input none = ap (λ (heard : List (Verdict Instruction)). orders_in heard) (none_heard input none)
 
@@ -65,13 +67,13 @@ dwells_not : (on : Bool) (entries : List _) (since : ℕ) (images : List Memory)
 unfolding dwell_at
 dwells_not on entries since images off = rw off refl
 
-pub table_asleep : (tables : List DwellTable) (history : List Input) (input : Input) (n : ℕ) (s : Stream) → input.commands ≡ [] → kept s ≡ false → TableStands tables history [] n s → TableStands tables (history ++ input ∷ []) [] n s
+pub table_asleep : (tables : List DwellTable) (history : List MdEntry) (input : Input) (n : ℕ) (s : Stream) → input.commands ≡ [] → kept s ≡ false → TableStands tables history [] n s → TableStands tables (history ++ Woken input ∷ []) [] n s
 table_asleep tables history input n s none off stood =
     table_wakeup tables history input n s
     (rw (none_ordered input none)
-    (idle _ _ _ (map (λ (i : Input). i.seen) history) _ s (λ active some. still (is_on tables (orders_of history ++ []) n) (delays (list_of (entries_now tables (orders_of history ++ []) n))) (rw (← stood.enabled, ← stood.plan) off) active some) stood))
+    (idle _ _ _ (images_of history) _ s (λ active some. still (is_on tables history [] n) (delays (list_of (entries_now tables history [] n))) (rw (← stood.enabled, ← stood.plan) off) active some) stood))
 
-gives_nothing : (tables : List DwellTable) (history : List Input) (input : Input) (time n : ℕ) (s : Stream) → input.commands ≡ [] → kept s ≡ false → TableStands tables history [] n s → table_items tables (history ++ input ∷ []) time n ≡ []
+gives_nothing : (tables : List DwellTable) (history : List MdEntry) (input : Input) (time n : ℕ) (s : Stream) → input.commands ≡ [] → kept s ≡ false → TableStands tables history [] n s → table_items tables (history ++ Woken input ∷ []) time n ≡ []
 gives_nothing tables history input time n s none off stood =
     sym (table_gives tables history input time n)
     ∙ rw (none_ordered input none) (ap (dwell_items time n) (dwells_not _ _ _ _ (rw (← stood.enabled, ← stood.plan) off)))
@@ -88,15 +90,15 @@ of_both true false both = (refl, refl)
 of_both true true both = cc
 of_both false b both = cc
 
-pub stands_asleep : (tables : List DwellTable) (history : List Input) (input : Input) (commands : List (List ℕ)) (empty any : Bool) (md : Md) → (empty && not any) ≡ true → empty ≡ (length commands == 0)
-    → any ≡ (kept md.streams.first || kept md.streams.second || kept md.streams.third || kept md.streams.fourth) → input.commands ≡ commands → Stands tables history md → Stands tables (history ++ input ∷ []) md
-unfolding Stands md_heard
+pub stands_asleep : (tables : List DwellTable) (history : List MdEntry) (input : Input) (commands : List (List ℕ)) (empty any : Bool) (md : Md) → (empty && not any) ≡ true → empty ≡ (length commands == 0)
+    → any ≡ (kept md.streams.first || kept md.streams.second || kept md.streams.third || kept md.streams.fourth) → input.commands ≡ commands → Stands tables history md → Stands tables (history ++ Woken input ∷ []) md
+unfolding Stands
 stands_asleep tables history input commands empty any md both is_empty is_any these stood =
     let parts = of_both empty any both in
     let none : input.commands ≡ [] = these ∙ no_packets commands (sym is_empty ∙ parts.0) in
     let off = of_four (kept md.streams.first) (kept md.streams.second) (kept md.streams.third) (kept md.streams.fourth) (sym is_any ∙ parts.1) in
     record {
-      counts = stood.counts ∙ ap counts_of (sym (heard_idle md_protocol (λ (earlier : List Input) (i : Input). i.seen) (λ (i : Input). i.commands) history input none));
+      counts = stood.counts ∙ ap counts_of (sym (heard_woken history input ∙ ap (λ (heard : List (Verdict Instruction)). md_heard history ++ heard) (none_heard input none) ∙ append-nil (md_heard history)));
       streams = record {
         first = table_asleep tables history input 1 md.streams.first none off.0 stood.streams.first;
         second = table_asleep tables history input 2 md.streams.second none off.1 stood.streams.second;
@@ -105,7 +107,7 @@ stands_asleep tables history input commands empty any md both is_empty is_any th
       };
     }
 
-pub items_asleep : (tables : List DwellTable) (history : List Input) (input : Input) (commands : List (List ℕ)) (empty any : Bool) (md : Md) → (empty && not any) ≡ true → empty ≡ (length commands == 0)
+pub items_asleep : (tables : List DwellTable) (history : List MdEntry) (input : Input) (commands : List (List ℕ)) (empty any : Bool) (md : Md) → (empty && not any) ≡ true → empty ≡ (length commands == 0)
     → any ≡ (kept md.streams.first || kept md.streams.second || kept md.streams.third || kept md.streams.fourth) → input.commands ≡ commands → Stands tables history md → md_items tables history input ≡ []
 unfolding Stands md_items
 items_asleep tables history input commands empty any md both is_empty is_any these stood =

@@ -3,5 +3,7 @@ pub mod Rounds
 pub mod Courses
 pub mod Counts
 pub mod Gifts
+pub mod Following
 pub mod Turns
 pub mod Idling
+pub mod Activating

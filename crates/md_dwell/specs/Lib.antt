@@ -8,6 +8,7 @@ pub mod Readings
 pub mod Instructions
 pub mod Verdicts
 pub mod Orders
+pub mod Histories
 pub mod Housekeeping
 pub mod Step
 pub mod Streams

@@ -1,7 +1,7 @@
--- What the accepted commands make of a table.
-use Rattle.std.specs.Prelude.{ℕ, ◌-◌, ◌/◌, ◌%◌, ◌^◌, ◌==◌, Bool, true, false, if◌then◌else◌, List, flat_map, filter_map, slice_set, Option, Some, None}
+-- What the accepted commands of a wakeup order, and what orders make of a table.
+use Rattle.std.specs.Prelude.{ℕ, ◌-◌, ◌/◌, ◌%◌, ◌^◌, ◌==◌, Bool, true, false, if◌then◌else◌, List, filter_map, slice_set, Option, Some, None}
 use Rattle.std.specs.List.{fold, list_any}
-use Rattle.histories.specs.Words.{last_or, last_place}
+use Rattle.histories.specs.Words.{last_or}
 use Rattle.commands.specs.Verdicts.{orders_in, verdicts_on}
 use Rattle.commands.specs.Inputs.{Input as CommandInput}
 use Rattle.commands.specs.declared.verdicts.Verdict.{Verdict}
@@ -25,12 +25,8 @@ input_of now commands window = record { time = now; commands = commands; seen = 
 abbrev pub heard_at : Input → List (Verdict Instruction)
 heard_at input = verdicts_on md_protocol input.seen input.commands
 
-abbrev pub orders_at : Input → List Instruction
-orders_at input = orders_in (heard_at input)
-
--- What was ordered in all wakeups of a history.
-unfoldable pub orders_of : List Input → List Instruction
-orders_of history = flat_map orders_at history
+abbrev pub ordered_at : Input → List Instruction
+ordered_at input = orders_in (heard_at input)
 
 -- Whether a mask names a table: bit n - 1 is table n.
 abbrev pub names : ℕ → ℕ → Bool
@@ -70,14 +66,10 @@ starts table (Jam t number e) = t == table
 unfoldable pub entries_after : ℕ → List DwellEntry → List Instruction → List DwellEntry
 entries_after table entries orders = fold (jammed table) entries orders
 
--- Whether a table is enabled: by the last order that enables or disables it, or else by its file.
+-- Whether a table is enabled that was enabled or not: by the last order that enables or disables it, where there is one.
 unfoldable pub is_on_after : ℕ → Bool → List Instruction → Bool
 is_on_after table enabled orders = last_or enabled (filter_map (switch_of table) orders)
 
 -- Whether one of these orders starts the stream of a table.
 unfoldable pub starts_in : ℕ → List Instruction → Bool
 starts_in table orders = list_any (starts table) orders
-
--- The wakeup in which the stream of a table last started: the last one with an order that starts it, or else the first.
-unfoldable pub started_at : ℕ → List Input → ℕ
-started_at table history = last_place (λ input. starts_in table (orders_at input)) history

@@ -1,6 +1,7 @@
 //! What the definitions give in small cases, and the sentence that they make of rounds. The functions do nothing: their contracts are
 //! the laws.
 ghost use Rattle.std.specs.Prelude.{◌≡◌, ◌≢◌, ◌+◌, ◌*◌, ◌-◌, ◌<◌, ◌++◌, ℕ, List, [], ◌∷◌, length, replicate, true, false, None, Some};
+ghost use Rattle.histories.specs.Entries.Entry.{Woken};
 ghost use Rattle.bus_pipes.specs.declared.names.Out.TheVariants as outs;
 ghost use Rattle.commands.specs.Verdicts.{verdict_at};
 ghost use Rattle.commands.specs.declared.verdicts.Verdict.TheVariants.{Other, Request, Refused, Accepted};
@@ -12,9 +13,10 @@ ghost use Rattle.md_dwell.specs.Lists.{delays, delays_to_last};
 ghost use Rattle.md_dwell.specs.Rounds.{round_bytes, round_at};
 ghost use Rattle.md_dwell.specs.Verdicts.{md_protocol};
 ghost use Rattle.md_dwell.specs.Orders.{names};
-ghost use Rattle.md_dwell.specs.Housekeeping.{enabled_bits, housekeeping_of};
+ghost use Rattle.md_dwell.specs.Histories.{table_after, tables_after, started_at};
+ghost use Rattle.md_dwell.specs.Housekeeping.{entries_now, is_on, enabled_bits, housekeeping_of};
 ghost use Rattle.md_dwell.specs.Step.{dwell_packet, md_items};
-ghost use Rattle.md_dwell.specs.Rows.{bytes_in_wakeup, quiet, three_bytes, three_bytes_once, enabled_alone};
+ghost use Rattle.md_dwell.specs.Rows.{bytes_in_wakeup, quiet, three_entries, three_bytes, three_bytes_once, enabled_alone, turned_round, woken, woken_with, active, request, start_first, stop_first, jam_third, two_read, three_read, enabled_shown, sent_along};
 
 /// A payload of zero bytes has no fault, and spells the table without entries.
 pub fn blank_dwell()
@@ -45,13 +47,13 @@ pub fn rounds_end_by_number()
 /// wakeup 2. With all delays 0 there is none.
 pub fn dwell_rounds()
     ensures first { md_items (three_bytes 2) [] (quiet 0) ≡ [] }
-    ensures second { md_items (three_bytes 2) (quiet 0 ∷ []) (quiet 1) ≡ [] }
-    ensures third { md_items (three_bytes 2) (quiet 0 ∷ quiet 1 ∷ []) (quiet 2)
+    ensures second { md_items (three_bytes 2) (Woken (quiet 0) ∷ []) (quiet 1) ≡ [] }
+    ensures third { md_items (three_bytes 2) (Woken (quiet 0) ∷ Woken (quiet 1) ∷ []) (quiet 2)
         ≡ outs.Made (0x08 ∷ 0x91 ∷ 0xC0 ∷ 0 ∷ 0 ∷ 0x0C ∷ 0 ∷ 0 ∷ 3 ∷ 0xEA ∷ 0 ∷ 0 ∷ 0 ∷ 1 ∷ 0 ∷ 3 ∷ 0xA0 ∷ 0xB0 ∷ 0xC2 ∷ []) ∷ [] }
-    ensures fourth { md_items (three_bytes 2) (quiet 0 ∷ quiet 1 ∷ quiet 2 ∷ []) (quiet 3) ≡ [] }
-    ensures fifth { md_items (three_bytes 2) (quiet 0 ∷ quiet 1 ∷ quiet 2 ∷ quiet 3 ∷ []) (quiet 4)
+    ensures fourth { md_items (three_bytes 2) (Woken (quiet 0) ∷ Woken (quiet 1) ∷ Woken (quiet 2) ∷ []) (quiet 3) ≡ [] }
+    ensures fifth { md_items (three_bytes 2) (Woken (quiet 0) ∷ Woken (quiet 1) ∷ Woken (quiet 2) ∷ Woken (quiet 3) ∷ []) (quiet 4)
         ≡ outs.Made (0x08 ∷ 0x91 ∷ 0xC0 ∷ 0 ∷ 0 ∷ 0x0C ∷ 0 ∷ 0 ∷ 3 ∷ 0xEC ∷ 0 ∷ 0 ∷ 0 ∷ 1 ∷ 0 ∷ 3 ∷ 0xA2 ∷ 0xB2 ∷ 0xC2 ∷ []) ∷ [] }
-    ensures no_delay { md_items (three_bytes 0) (quiet 0 ∷ quiet 1 ∷ quiet 2 ∷ []) (quiet 3) ≡ [] }
+    ensures no_delay { md_items (three_bytes 0) (Woken (quiet 0) ∷ Woken (quiet 1) ∷ Woken (quiet 2) ∷ []) (quiet 3) ≡ [] }
 {}
 
 /// A command of each code, a request, and a packet of another id.
@@ -82,16 +84,16 @@ pub fn refusal_rows()
 pub fn mask_rows()
     ensures names_first { names 1 1 ≡ true }
     ensures names_not_first { names 14 1 ≡ false }
-    ensures enabled_first { enabled_bits (enabled_alone 1) [] ≡ 1 }
+    ensures enabled_first { enabled_bits (enabled_alone 1) [] [] ≡ 1 }
     ensures names_second { names 2 2 ≡ true }
     ensures names_not_second { names 13 2 ≡ false }
-    ensures enabled_second { enabled_bits (enabled_alone 2) [] ≡ 2 }
+    ensures enabled_second { enabled_bits (enabled_alone 2) [] [] ≡ 2 }
     ensures names_third { names 4 3 ≡ true }
     ensures names_not_third { names 11 3 ≡ false }
-    ensures enabled_third { enabled_bits (enabled_alone 3) [] ≡ 4 }
+    ensures enabled_third { enabled_bits (enabled_alone 3) [] [] ≡ 4 }
     ensures names_fourth { names 8 4 ≡ true }
     ensures names_not_fourth { names 7 4 ≡ false }
-    ensures enabled_fourth { enabled_bits (enabled_alone 4) [] ≡ 8 }
+    ensures enabled_fourth { enabled_bits (enabled_alone 4) [] [] ≡ 8 }
 {}
 
 /// Each packet, its fields all different.
@@ -103,4 +105,36 @@ pub fn packet_rows()
 /// A wakeup with a start, a refused stop and a request, and a round of three bytes that are read at once.
 pub fn wakeup_rows()
     ensures items { md_items three_bytes_once [] (record { time = 1001; commands = (0x18 ∷ 0x90 ∷ 0xC0 ∷ 0 ∷ 0 ∷ 3 ∷ 2 ∷ 0xB4 ∷ 0 ∷ 2 ∷ []) ∷ (0x18 ∷ 0x90 ∷ 0xC0 ∷ 0 ∷ 0 ∷ 3 ∷ 3 ∷ 0xA7 ∷ 0 ∷ 0x10 ∷ []) ∷ (0x18 ∷ 0x91 ∷ 0xC0 ∷ 0 ∷ 0 ∷ 1 ∷ 0 ∷ 0xB7 ∷ []) ∷ []; seen = bytes_in_wakeup 0 }) ≡ outs.Made (8 ∷ 8 ∷ 0xC0 ∷ 0 ∷ 0 ∷ 0x25 ∷ 0 ∷ 0 ∷ 3 ∷ 0xE9 ∷ 0 ∷ 0 ∷ 0x4D ∷ 0x44 ∷ 0 ∷ 0 ∷ 0 ∷ 0 ∷ 0 ∷ 0 ∷ 0 ∷ 0 ∷ 0 ∷ 0 ∷ 0 ∷ 0 ∷ 0 ∷ 0 ∷ 0 ∷ 0 ∷ 0 ∷ 0 ∷ 0 ∷ 0x12 ∷ 0 ∷ 2 ∷ 0 ∷ 0 ∷ 0 ∷ 0x42 ∷ 0 ∷ 0 ∷ 0 ∷ 1 ∷ []) ∷ outs.Made (8 ∷ 8 ∷ 0xC0 ∷ 0 ∷ 0 ∷ 0x25 ∷ 0 ∷ 0 ∷ 3 ∷ 0xE9 ∷ 0 ∷ 0 ∷ 0x4D ∷ 0x44 ∷ 0 ∷ 0 ∷ 0 ∷ 0 ∷ 0 ∷ 0 ∷ 0 ∷ 0 ∷ 0 ∷ 0 ∷ 0 ∷ 0 ∷ 0 ∷ 0 ∷ 0 ∷ 0 ∷ 0 ∷ 0 ∷ 0 ∷ 4 ∷ 0 ∷ 3 ∷ 0 ∷ 0 ∷ 0 ∷ 0x42 ∷ 0 ∷ 0 ∷ 0 ∷ 1 ∷ []) ∷ outs.Made (8 ∷ 0x90 ∷ 0xC0 ∷ 0 ∷ 0 ∷ 9 ∷ 0 ∷ 0 ∷ 3 ∷ 0xE9 ∷ 0 ∷ 0 ∷ 1 ∷ 1 ∷ 3 ∷ 0 ∷ []) ∷ outs.Made (8 ∷ 0x91 ∷ 0xC0 ∷ 0 ∷ 0 ∷ 0x0C ∷ 0 ∷ 0 ∷ 3 ∷ 0xE9 ∷ 0 ∷ 0 ∷ 0 ∷ 1 ∷ 0 ∷ 3 ∷ 0xA0 ∷ 0xB0 ∷ 0xC0 ∷ []) ∷ [] }
+{}
+
+/// An activation in the middle of a round begins a round in the next wakeup, and nothing that was read before is sent. So it does before
+/// the first wakeup; of two between two wakeups the last counts. One of another table leaves the rounds of this one as they are.
+pub fn activations_begin_rounds()
+    ensures in_round { sent_along (three_bytes 2) (woken 0 ∷ woken 1 ∷ active 1 (three_entries true 2) ∷ woken 2 ∷ woken 3 ∷ woken 4 ∷ []) ≡ [] ∷ [] ∷ [] ∷ [] ∷ [] ∷ (three_read 1 0xEC 0xA2 0xB2 0xC4 ∷ []) ∷ [] }
+    ensures other { sent_along (three_bytes 2) (woken 0 ∷ active 2 (three_entries true 2) ∷ woken 1 ∷ woken 2 ∷ woken 3 ∷ []) ≡ [] ∷ [] ∷ [] ∷ (three_read 1 0xEA 0xA0 0xB0 0xC2 ∷ []) ∷ (three_read 2 0xEB 0xA1 0xB1 0xC3 ∷ []) ∷ [] }
+    ensures last_counts { sent_along (three_bytes 2) (woken 0 ∷ active 1 (three_entries false 3) ∷ active 1 turned_round ∷ woken 1 ∷ woken 2 ∷ []) ≡ [] ∷ [] ∷ [] ∷ [] ∷ (two_read 1 0xEA 0xC1 0xA2 ∷ []) ∷ [] }
+    ensures before_all { sent_along (three_bytes 2) (active 1 turned_round ∷ woken 0 ∷ woken 1 ∷ woken 2 ∷ []) ≡ [] ∷ [] ∷ (two_read 1 0xE9 0xC0 0xA1 ∷ []) ∷ (two_read 1 0xEA 0xC1 0xA2 ∷ []) ∷ [] }
+{}
+
+/// What an activation gives a table: its entries without what was jammed into the one before, and its enabled flag, whatever was started
+/// or stopped. Each table has its own.
+pub fn activations_forget()
+    ensures jammed { entries_now (three_bytes 2) (woken_with 0 (jam_third ∷ []) ∷ []) [] 1 ≡ (record { len = 1; delay = 0; at = 0x1000 }) ∷ (record { len = 1; delay = 2; at = 0x1001 }) ∷ (record { len = 1; delay = 1; at = 0x1000 }) ∷ replicate 22 blank_entry }
+    ensures jam_forgotten { entries_now (three_bytes 2) (woken_with 0 (jam_third ∷ []) ∷ active 1 (three_entries true 3) ∷ []) [] 1 ≡ (record { len = 1; delay = 0; at = 0x1000 }) ∷ (record { len = 1; delay = 3; at = 0x1001 }) ∷ (record { len = 1; delay = 0; at = 0x1002 }) ∷ replicate 22 blank_entry }
+    ensures jammed_later { entries_now (three_bytes 2) (active 1 (three_entries true 3) ∷ woken_with 0 (jam_third ∷ []) ∷ []) [] 1 ≡ (record { len = 1; delay = 0; at = 0x1000 }) ∷ (record { len = 1; delay = 3; at = 0x1001 }) ∷ (record { len = 1; delay = 1; at = 0x1000 }) ∷ replicate 22 blank_entry }
+    ensures jam_kept { entries_now (three_bytes 2) (woken_with 0 (jam_third ∷ []) ∷ active 2 turned_round ∷ []) [] 1 ≡ entries_now (three_bytes 2) (woken_with 0 (jam_third ∷ []) ∷ []) [] 1 }
+    ensures stop_forgotten { is_on (three_bytes 2) (woken_with 0 (stop_first ∷ []) ∷ active 1 (three_entries true 2) ∷ []) [] 1 ≡ true }
+    ensures start_forgotten { is_on (three_bytes 2) (woken_with 0 (start_first ∷ []) ∷ active 1 (three_entries false 2) ∷ []) [] 1 ≡ false }
+    ensures stopped_later { is_on (three_bytes 2) (active 1 (three_entries true 2) ∷ woken_with 0 (stop_first ∷ []) ∷ []) [] 1 ≡ false }
+    ensures stop_kept { is_on (three_bytes 2) (woken_with 0 (stop_first ∷ []) ∷ active 2 turned_round ∷ []) [] 1 ≡ false }
+    ensures in_force { tables_after (three_bytes 2) (active 4 turned_round ∷ woken 0 ∷ active 2 (three_entries false 5) ∷ active 2 (three_entries true 6) ∷ []) ≡ three_entries true 2 ∷ three_entries true 6 ∷ blank_table ∷ turned_round ∷ [] }
+    ensures started { started_at 1 (woken 0 ∷ woken_with 1 (start_first ∷ []) ∷ woken 2 ∷ active 1 turned_round ∷ active 3 turned_round ∷ []) ≡ 3 }
+    ensures started_before { started_at 1 (woken 0 ∷ woken_with 1 (start_first ∷ []) ∷ woken 2 ∷ active 3 turned_round ∷ []) ≡ 1 }
+{}
+
+/// A rehearsal in which two tables are exchanged while they run.
+pub fn tables_are_exchanged()
+    ensures { sent_along (three_bytes 2) (woken 0 ∷ active 2 turned_round ∷ woken_with 1 (request ∷ []) ∷ woken 2 ∷ active 1 (three_entries false 2) ∷ woken_with 3 (request ∷ []) ∷ active 1 (three_entries true 2) ∷ woken 4 ∷ woken 5 ∷ woken 6 ∷ [])
+        ≡ [] ∷ [] ∷ (enabled_shown 0xE9 3 ∷ []) ∷ (three_read 1 0xEA 0xA0 0xB0 0xC2 ∷ two_read 2 0xEA 0xC1 0xA2 ∷ []) ∷ [] ∷ (enabled_shown 0xEB 2 ∷ two_read 2 0xEB 0xC2 0xA3 ∷ [])
+        ∷ [] ∷ (two_read 2 0xEC 0xC3 0xA4 ∷ []) ∷ (two_read 2 0xED 0xC4 0xA5 ∷ []) ∷ (three_read 1 0xEE 0xA4 0xB4 0xC6 ∷ two_read 2 0xEE 0xC5 0xA6 ∷ []) ∷ [] }
 {}

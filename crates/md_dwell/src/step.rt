@@ -1,11 +1,13 @@
 //! A wakeup of MD.
 ghost use Rattle.std.specs.Prelude.{◌≡◌, ◌≤◌, List, [], ◌∷◌, ◌++◌, length};
 ghost use Rattle.std.specs.List.{AllPass};
+ghost use Rattle.histories.specs.Entries.Entry.{Woken};
 ghost use Rattle.bus_pipes.specs.Counted.{is_item_counted};
 ghost use Rattle.memory_window.specs.Memory.{regions_of};
 ghost use Rattle.memory_window.specs.Window.{seen};
 ghost use Rattle.md_dwell.specs.Tables.{DwellTable};
-ghost use Rattle.md_dwell.specs.Orders.{Input, input_of};
+ghost use Rattle.md_dwell.specs.Orders.{input_of};
+ghost use Rattle.md_dwell.specs.Histories.{MdEntry};
 ghost use Rattle.md_dwell.specs.Step.{md_items};
 ghost use Rattle.md_dwell.specs.State.{Stands, AllGiven};
 
@@ -105,8 +107,8 @@ impl Md {
         requires empty { out.old.items ≡ [] }
         requires room { 20 ≤ out.old.room }
         requires gives { AllGiven (regions_of (seen window).areas) self.now }
-        ensures stands { (tables : List DwellTable) (history : List Input) → Stands tables history self.now → Stands tables (history ++ input_of now commands.now window.entry ∷ []) next.new }
-        ensures items { (tables : List DwellTable) (history : List Input) → Stands tables history self.now → out.new.items ≡ md_items tables history (input_of now commands.now window.entry) }
+        ensures stands { (tables : List DwellTable) (history : List MdEntry) → Stands tables history self.now → Stands tables (history ++ Woken (input_of now commands.now window.entry) ∷ []) next.new }
+        ensures items { (tables : List DwellTable) (history : List MdEntry) → Stands tables history self.now → out.new.items ≡ md_items tables history (input_of now commands.now window.entry) }
         ensures gives { AllGiven (regions_of (seen window.entry).areas) next.new }
         ensures counted { AllPass is_item_counted out.new.items }
         ensures few { length out.new.items ≤ 20 }
@@ -122,8 +124,8 @@ impl Md {
         requires empty { out.old.items ≡ [] }
         requires room { 20 ≤ out.old.room }
         requires gives { AllGiven (regions_of (seen window).areas) self.old }
-        ensures stands { (tables : List DwellTable) (history : List Input) → Stands tables history self.old → Stands tables (history ++ input_of now commands.now window.entry ∷ []) self.new }
-        ensures items { (tables : List DwellTable) (history : List Input) → Stands tables history self.old → out.new.items ≡ md_items tables history (input_of now commands.now window.entry) }
+        ensures stands { (tables : List DwellTable) (history : List MdEntry) → Stands tables history self.old → Stands tables (history ++ Woken (input_of now commands.now window.entry) ∷ []) self.new }
+        ensures items { (tables : List DwellTable) (history : List MdEntry) → Stands tables history self.old → out.new.items ≡ md_items tables history (input_of now commands.now window.entry) }
         ensures gives { AllGiven (regions_of (seen window.entry).areas) self.new }
         ensures counted { AllPass is_item_counted out.new.items }
         ensures few { length out.new.items ≤ 20 }

@@ -65,6 +65,16 @@ impl Stream {
         self.enabled
     }
 
+    /// Takes another table, with whose first entry it begins in the next wakeup.
+    pub(crate) fn activate(&mut self, table: &Dwell)
+        ensures stands { (images : List Memory) → StreamStands table.now.entries table.now.enabled (length images) images self.new }
+        ensures plan { self.new.plan ≡ table.now.entries }
+    {
+        self.restart();
+        self.plan = table.plan();
+        self.enabled = table.enabled();
+    }
+
     // Begins with the first entry of the list in the next wakeup.
     fn restart(&mut self)
         ensures plan { self.new.plan ≡ self.old.plan }

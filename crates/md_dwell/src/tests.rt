@@ -139,6 +139,9 @@ fn definitions_give_the_rows() {
     laws::mask_rows();
     laws::packet_rows();
     laws::wakeup_rows();
+    laws::activations_begin_rounds();
+    laws::activations_forget();
+    laws::tables_are_exchanged();
 }
 
 #[test]
@@ -187,6 +190,124 @@ fn jam_and_start_begin_anew(rt: HostRuntime) -> Result<(), Fail> {
     assert!(rt; out.items().is_empty());
     let _ = frame(&md, &ram, &[], 1008, &mut out);
     assert_eq!(rt; out.items(), [dwell(1, 1008, &[0, 1, 0, 1, 2])].as_slice());
+    Ok(())
+}
+
+// Makes a table active whose entries memory gives.
+fn activate(md: &mut Md, map: &Map, n: u8, table: &Dwell)
+    requires number { (1 ≤ n) × (n ≤ 4) }
+    requires gives { AllGiven map.now md.old }
+    ensures { AllGiven map.now md.new }
+{
+    if table.first_refused(map).is_none() {
+        md.activate(n, table);
+    }
+}
+
+// Sets the first three bytes to what wakeup k of the worked rows reads.
+fn show(ram: &mut Ram, map: &Map, k: u8)
+    requires few { k ≤ 9 }
+    requires map { regions_of ram.old.areas ≡ map.now }
+    ensures { regions_of ram.new.areas ≡ map.now }
+{
+    set(ram, map, 0x1000, 0xA0 + k);
+    set(ram, map, 0x1001, 0xB0 + k);
+    set(ram, map, 0x1002, 0xC0 + k);
+}
+
+#[test]
+fn tables_are_exchanged(rt: HostRuntime) -> Result<(), Fail> {
+    let map = Map::new(&[one_region()])?;
+    let mut ram = Ram::new(rt.alloc(), map)?;
+    let mut out = Outbox::open(rt.alloc(), 20)?;
+    let end = DwellEntry::BLANK;
+    let first = entry(1, 0, 0x1000);
+    let second = entry(1, 2, 0x1001);
+    let third = entry(1, 0, 0x1002);
+    let on = table(true, first, second, third);
+    let off = table(false, first, second, third);
+    let turned = table(true, entry(1, 1, 0x1002), entry(1, 0, 0x1000), end);
+    let tables = [on, Dwell::blank(), Dwell::blank(), Dwell::blank()];
+    let request = command(0x1891, 0, &[]);
+    let md = start(&map, &tables).expect(&rt, "entries that memory gives");
+    show(&mut ram, &map, 0);
+    let mut md = frame(&md, &ram, &[], 1000, &mut out);
+    activate(&mut md, &map, 2, &turned);
+    show(&mut ram, &map, 1);
+    let md = frame(&md, &ram, &[request], 1001, &mut out);
+    let want = [Out::Made(telemetry(0x0890, 1001, &[0, 0, 3, 0]))];
+    assert_eq!(rt; out.items(), want.as_slice());
+    show(&mut ram, &map, 2);
+    let mut md = frame(&md, &ram, &[], 1002, &mut out);
+    let want = [
+        dwell(1, 1002, &[0, 1, 0, 3, 0xA0, 0xB0, 0xC2]),
+        dwell(2, 1002, &[0, 2, 0, 2, 0xC1, 0xA2]),
+    ];
+    assert_eq!(rt; out.items(), want.as_slice());
+    activate(&mut md, &map, 1, &off);
+    show(&mut ram, &map, 3);
+    let mut md = frame(&md, &ram, &[request], 1003, &mut out);
+    let want = [
+        Out::Made(telemetry(0x0890, 1003, &[0, 0, 2, 0])),
+        dwell(2, 1003, &[0, 2, 0, 2, 0xC2, 0xA3]),
+    ];
+    assert_eq!(rt; out.items(), want.as_slice());
+    activate(&mut md, &map, 1, &on);
+    show(&mut ram, &map, 4);
+    let md = frame(&md, &ram, &[], 1004, &mut out);
+    let want = [dwell(2, 1004, &[0, 2, 0, 2, 0xC3, 0xA4])];
+    assert_eq!(rt; out.items(), want.as_slice());
+    show(&mut ram, &map, 5);
+    let md = frame(&md, &ram, &[], 1005, &mut out);
+    let want = [dwell(2, 1005, &[0, 2, 0, 2, 0xC4, 0xA5])];
+    assert_eq!(rt; out.items(), want.as_slice());
+    show(&mut ram, &map, 6);
+    let _ = frame(&md, &ram, &[], 1006, &mut out);
+    let want = [
+        dwell(1, 1006, &[0, 1, 0, 3, 0xA4, 0xB4, 0xC6]),
+        dwell(2, 1006, &[0, 2, 0, 2, 0xC5, 0xA6]),
+    ];
+    assert_eq!(rt; out.items(), want.as_slice());
+    Ok(())
+}
+
+#[test]
+fn jams_and_stops_are_forgotten(rt: HostRuntime) -> Result<(), Fail> {
+    let map = Map::new(&[one_region()])?;
+    let mut ram = Ram::new(rt.alloc(), map)?;
+    let mut out = Outbox::open(rt.alloc(), 20)?;
+    let end = DwellEntry::BLANK;
+    let turned = table(true, entry(1, 1, 0x1002), entry(1, 0, 0x1000), end);
+    let tables = [Dwell::blank(), Dwell::blank(), turned, turned];
+    let md = start(&map, &tables).expect(&rt, "entries that memory gives");
+    show(&mut ram, &map, 0);
+    let commands = [
+        jam(3, 2, 1, 5, 0x1001),
+        jam(4, 2, 1, 0, 0x1001),
+        command(MD, 3, &[0, 12]),
+    ];
+    let mut md = frame(&md, &ram, &commands, 1000, &mut out);
+    activate(&mut md, &map, 3, &turned);
+    show(&mut ram, &map, 1);
+    let md = frame(&md, &ram, &[], 1001, &mut out);
+    assert!(rt; out.items().is_empty());
+    show(&mut ram, &map, 2);
+    let mut md = frame(&md, &ram, &[], 1002, &mut out);
+    let want = [dwell(3, 1002, &[0, 3, 0, 2, 0xC1, 0xA2])];
+    assert_eq!(rt; out.items(), want.as_slice());
+    activate(&mut md, &map, 4, &Dwell::blank());
+    activate(&mut md, &map, 4, &turned);
+    show(&mut ram, &map, 3);
+    let md = frame(&md, &ram, &[], 1003, &mut out);
+    let want = [dwell(3, 1003, &[0, 3, 0, 2, 0xC2, 0xA3])];
+    assert_eq!(rt; out.items(), want.as_slice());
+    show(&mut ram, &map, 4);
+    let _ = frame(&md, &ram, &[], 1004, &mut out);
+    let want = [
+        dwell(3, 1004, &[0, 3, 0, 2, 0xC3, 0xA4]),
+        dwell(4, 1004, &[0, 4, 0, 2, 0xC3, 0xA4]),
+    ];
+    assert_eq!(rt; out.items(), want.as_slice());
     Ok(())
 }
 
