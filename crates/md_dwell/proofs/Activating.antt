@@ -1,13 +1,12 @@
 -- The streams once a table became active.
-use Rattle.std.proofs.Common.{◌≡◌, ℕ, Bool, true, false, eqb, List, [], ◌∷◌, ◌++◌, length, refl, sym, subst, ◌∙◌, append-nil}
+use Rattle.std.proofs.Common.{◌≡◌, ℕ, true, false, eqb, List, [], ◌∷◌, ◌++◌, length, subst}
 use Rattle.histories.specs.Entries.{wakeups}
 use Rattle.histories.specs.Entries.Entry.{Activated}
 use Rattle.memory_window.specs.Memory.{Memory}
 use Rattle.md_dwell.specs.Tables.{DwellTable}
-use Rattle.md_dwell.specs.Histories.{MdEntry, activation_of, images_of, orders_since}
+use Rattle.md_dwell.specs.Histories.{MdEntry, activation_of, images_of}
 use Rattle.md_dwell.specs.Streams.{StreamStands}
 use Rattle.md_dwell.specs.State.{TableStands}
-use Rattle.md_dwell.specs.declared.instructions.Instruction.{Instruction}
 use Rattle.md_dwell.specs.declared.streams.Stream.{Stream}
 use Rattle.md_dwell.proofs.Following.{table_activated, orders_activated, started_activated, started_unordered, images_activated}
 use Rattle.md_dwell.proofs.Turns.{unordered, images_count}

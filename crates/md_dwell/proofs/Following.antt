@@ -1,5 +1,5 @@
 -- A history at one more entry.
-use Rattle.std.proofs.Common.{◌≡◌, ℕ, Bool, true, false, cond, eqb, List, [], ◌∷◌, ◌++◌, length, map, Option, Some, None, refl, sym, ap, ◌∙◌, append-nil}
+use Rattle.std.proofs.Common.{◌≡◌, ℕ, Bool, true, false, cond, eqb, List, [], ◌∷◌, ◌++◌, length, map, Some, None, refl, ap, ◌∙◌, append-nil}
 use Rattle.std.proofs.lemmas.List.{map_push}
 use Rattle.histories.specs.Words.{from_last}
 use Rattle.histories.specs.Entries.{wakeups, replaced_by}
@@ -8,16 +8,13 @@ use Rattle.histories.proofs.Lasts.{from_last_more, from_last_none}
 use Rattle.histories.proofs.Fronts.{flat_map_more}
 use Rattle.histories.proofs.Entries.{wakeups_woken, wakeups_activated, wakeups_none, in_force_woken, in_force_activated, in_force_none, wakeups_before_more, wakeups_before_none}
 use Rattle.std.specs.List.{flat_map}
-use Rattle.commands.specs.declared.verdicts.Verdict.{Verdict}
 use Rattle.commands.specs.Inputs.{heard_of}
 use Rattle.commands.proofs.Heard.{heard_more, heard_none}
-use Rattle.memory_window.specs.Memory.{Memory}
 use Rattle.md_dwell.specs.Tables.{DwellTable}
 use Rattle.md_dwell.specs.Verdicts.{md_protocol}
 use Rattle.md_dwell.specs.Orders.{Input, heard_at, ordered_at, starts_in}
 use Rattle.md_dwell.specs.Histories.{Activation, MdEntry, table_of, table_in, table_after, activates, orders_at, orders_since, restarts, started_at, started_by, images_of}
 use Rattle.md_dwell.specs.Step.{md_heard}
-use Rattle.md_dwell.specs.declared.instructions.Instruction.{Instruction}
 
 -- the tables in force
 pub table_begun : (tables : List DwellTable) (n : ℕ) → table_after tables [] n ≡ table_of tables n

@@ -13,7 +13,7 @@ use Rattle.md_dwell.specs.Lists.{list_of, delays}
 use Rattle.md_dwell.specs.Rounds.{dwell_at}
 use Rattle.md_dwell.specs.Verdicts.{md_protocol}
 use Rattle.md_dwell.specs.Orders.{Input, heard_at, ordered_at}
-use Rattle.md_dwell.specs.Histories.{MdEntry, started_by, images_of}
+use Rattle.md_dwell.specs.Histories.{MdEntry, images_of}
 use Rattle.md_dwell.specs.Housekeeping.{entries_now, is_on, dwells}
 use Rattle.md_dwell.specs.Step.{md_heard, md_answers, turn_of, dwell_items, table_items, md_items}
 use Rattle.md_dwell.specs.State.{TableStands, StandsAt, Stands, is_idle_on}

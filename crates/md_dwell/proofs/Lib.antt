@@ -7,3 +7,4 @@ pub mod Following
 pub mod Turns
 pub mod Idling
 pub mod Activating
+pub mod Beginnings

@@ -1,14 +1,15 @@
 -- When a state of MD stands for the tables with which its history began and for its entries, and when it has nothing to do.
-use Rattle.std.specs.Prelude.{◌≡◌, ℕ, ◌==◌, Bool, not, ◌&&◌, List, [], length}
+use Rattle.std.specs.Prelude.{◌≡◌, ℕ, ◌==◌, Bool, true, not, ◌&&◌, List, [], length}
 use Rattle.std.specs.List.{AllPass, list_any, range_with_len}
+use Rattle.histories.specs.Entries.{wakeups}
 use Rattle.commands.specs.Counting.{counts_of}
 use Rattle.memory_window.specs.declared.regions.Region.{Region}
 use Rattle.md_dwell.specs.Tables.{DwellTable}
 use Rattle.md_dwell.specs.Given.{is_given}
-use Rattle.md_dwell.specs.Histories.{MdEntry, started_by, images_of}
+use Rattle.md_dwell.specs.Histories.{MdEntry, started_at, started_by, images_of}
 use Rattle.md_dwell.specs.Housekeeping.{entries_now, is_on, dwells}
 use Rattle.md_dwell.specs.Step.{md_heard}
-use Rattle.md_dwell.specs.Streams.{StreamStands}
+use Rattle.md_dwell.specs.Streams.{StreamStands, IsAtBeginning}
 use Rattle.md_dwell.specs.declared.instructions.Instruction.{Instruction}
 use Rattle.md_dwell.specs.declared.streams.Stream.{Stream}
 use Rattle.md_dwell.specs.declared.state.Streams.{Streams}
@@ -32,6 +33,17 @@ pub record StandsFor (tables : List DwellTable) (history : List MdEntry) (md : M
 
 unfoldable pub Stands : List DwellTable → List MdEntry → Md → Type 0
 Stands tables history md = StandsFor tables history md
+
+-- Where the stream of table n starts in the next wakeup, and the table dwells, it is at its beginning.
+abbrev pub Begins : List DwellTable → List MdEntry → ℕ → Stream → Type 0
+Begins tables history n stream = started_at n history ≡ length (wakeups history) → dwells tables history n ≡ true → IsAtBeginning stream
+
+-- The same of all four.
+pub record AllBegin (tables : List DwellTable) (history : List MdEntry) (md : Md) : Type 0 where
+  pub first : Begins tables history 1 md.streams.first
+  pub second : Begins tables history 2 md.streams.second
+  pub third : Begins tables history 3 md.streams.third
+  pub fourth : Begins tables history 4 md.streams.fourth
 
 -- All entries of the streams are given.
 pub record StreamsGiven (regions : List Region) (streams : Streams) : Type 0 where

@@ -1,5 +1,5 @@
 -- When the state of a dwell stream stands for its table and the images of the wakeups so far.
-use Rattle.std.specs.Prelude.{◌≡◌, ℕ, ◌<◌, Bool, true, List}
+use Rattle.std.specs.Prelude.{◌≡◌, ℕ, ◌<◌, Bool, true, List, []}
 use Rattle.memory_window.specs.Memory.{Memory}
 use Rattle.md_dwell.specs.Lists.{list_of, delays}
 use Rattle.md_dwell.specs.Readings.{IsInRound}
@@ -18,3 +18,9 @@ pub record StreamStands (entries : List DwellEntry) (on : Bool) (since : ℕ) (i
   pub plan : s.plan ≡ entries
   pub enabled : s.enabled ≡ on
   pub runs : on ≡ true → 0 < delays (list_of entries) → Runs (list_of entries) since images s
+
+-- A stream is at its beginning: its first entry is read in the next wakeup, and it has no bytes.
+pub record IsAtBeginning (s : Stream) : Type 0 where
+  pub next : s.next ≡ 0
+  pub wait : s.wait ≡ 1
+  pub bytes : s.bytes ≡ []

@@ -1,21 +1,24 @@
 //! What the definitions give in small cases, and the sentence that they make of rounds. The functions do nothing: their contracts are
 //! the laws.
 ghost use Rattle.std.specs.Prelude.{◌≡◌, ◌≢◌, ◌+◌, ◌*◌, ◌-◌, ◌<◌, ◌++◌, ℕ, List, [], ◌∷◌, length, replicate, true, false, None, Some};
-ghost use Rattle.histories.specs.Entries.Entry.{Woken};
+ghost use Rattle.histories.specs.Entries.{wakeups};
+ghost use Rattle.histories.specs.Entries.Entry.{Woken, Activated};
 ghost use Rattle.bus_pipes.specs.declared.names.Out.TheVariants as outs;
 ghost use Rattle.commands.specs.Verdicts.{verdict_at};
 ghost use Rattle.commands.specs.declared.verdicts.Verdict.TheVariants.{Other, Request, Refused, Accepted};
 ghost use Rattle.memory_window.specs.Memory.{Memory};
 ghost use Rattle.md_dwell.specs.declared.tables.DwellEntry.{DwellEntry};
 ghost use Rattle.md_dwell.specs.declared.instructions.Instruction.TheVariants.{Plain, Start, Stop, Jam};
-ghost use Rattle.md_dwell.specs.Tables.{dwell_of, dwell_fault_of, blank_entry, blank_table};
+ghost use Rattle.md_dwell.specs.Tables.{DwellTable, dwell_of, dwell_fault_of, blank_entry, blank_table};
 ghost use Rattle.md_dwell.specs.Lists.{delays, delays_to_last};
 ghost use Rattle.md_dwell.specs.Rounds.{round_bytes, round_at};
 ghost use Rattle.md_dwell.specs.Verdicts.{md_protocol};
-ghost use Rattle.md_dwell.specs.Orders.{names};
-ghost use Rattle.md_dwell.specs.Histories.{table_after, tables_after, started_at};
+ghost use Rattle.md_dwell.specs.Orders.{Input, names};
+ghost use Rattle.md_dwell.specs.Histories.{Activation, MdEntry, activation_of, tables_after, started_at};
 ghost use Rattle.md_dwell.specs.Housekeeping.{entries_now, is_on, enabled_bits, housekeeping_of};
 ghost use Rattle.md_dwell.specs.Step.{dwell_packet, md_items};
+ghost use Rattle.md_dwell.specs.State.{Stands, AllBegin};
+ghost use Rattle.md_dwell.specs.declared.state.Md.{Md};
 ghost use Rattle.md_dwell.specs.Rows.{bytes_in_wakeup, quiet, three_entries, three_bytes, three_bytes_once, enabled_alone, turned_round, woken, woken_with, active, request, start_first, stop_first, jam_third, two_read, three_read, enabled_shown, sent_along};
 
 /// A payload of zero bytes has no fault, and spells the table without entries.
@@ -41,6 +44,15 @@ pub fn rounds_end_by_number()
         → round_at list since images ≡ Some (round_bytes list since images r) }
     ensures none { (list : List DwellEntry) (since : ℕ) (images : List Memory) → 0 < delays list → ((r : ℕ) → length images - 1 ≢ since + r * delays list + delays_to_last list)
         → round_at list since images ≡ None }
+{}
+
+/// A table that is enabled and has a delay, and whose stream starts in the next wakeup, begins there with its first entry and has no bytes.
+/// A stream starts there before all wakeups, and where no wakeup followed the table's last activation.
+pub fn streams_begin_in_the_next_wakeup()
+    ensures begin { (tables : List DwellTable) (history : List MdEntry) (md : Md) → Stands tables history md → AllBegin tables history md }
+    ensures before_all { (n : ℕ) → started_at n [] ≡ length (wakeups {W = Input} {A = Activation} []) }
+    ensures activated { (history : List MdEntry) (n : ℕ) (table : DwellTable) → started_at n (history ++ Activated (activation_of n table) ∷ []) ≡ length (wakeups (history ++ Activated (activation_of n table) ∷ [])) }
+    ensures kept { (history : List MdEntry) (n : ℕ) (a : Activation) → started_at n history ≡ length (wakeups history) → started_at n (history ++ Activated a ∷ []) ≡ length (wakeups (history ++ Activated a ∷ [])) }
 {}
 
 /// Three entries of a byte with the delays 0, 2 and 0: packets come in wakeups 2 and 4, the second with two bytes that were read in

@@ -70,9 +70,10 @@ impl Stream {
         ensures stands { (images : List Memory) → StreamStands table.now.entries table.now.enabled (length images) images self.new }
         ensures plan { self.new.plan ≡ table.now.entries }
     {
+        let enabled = table.enabled();
         self.restart();
         self.plan = table.plan();
-        self.enabled = table.enabled();
+        self.enabled = enabled;
     }
 
     // Begins with the first entry of the list in the next wakeup.

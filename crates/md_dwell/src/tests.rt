@@ -25,6 +25,25 @@ fn table(enabled: bool, first: DwellEntry, second: DwellEntry, third: DwellEntry
     Dwell::of(enabled, entries)
 }
 
+// The two tables of the worked rows.
+fn three_bytes(enabled: bool) -> Dwell {
+    table(
+        enabled,
+        entry(1, 0, 0x1000),
+        entry(1, 2, 0x1001),
+        entry(1, 0, 0x1002),
+    )
+}
+
+fn turned_round() -> Dwell {
+    table(
+        true,
+        entry(1, 1, 0x1002),
+        entry(1, 0, 0x1000),
+        DwellEntry::BLANK,
+    )
+}
+
 fn one_region() -> Region {
     Region {
         kind: Kind::Ram,
@@ -100,13 +119,8 @@ fn dwell_rounds(rt: HostRuntime) -> Result<(), Fail> {
     let map = Map::new(&[one_region()])?;
     let mut ram = Ram::new(rt.alloc(), map)?;
     let mut out = Outbox::open(rt.alloc(), 20)?;
-    let three = table(
-        true,
-        entry(1, 0, 0x1000),
-        entry(1, 2, 0x1001),
-        entry(1, 0, 0x1002),
-    );
-    let tables = [three, Dwell::blank(), Dwell::blank(), Dwell::blank()];
+    let blank = Dwell::blank();
+    let tables = [three_bytes(true), blank, blank, blank];
     let md = start(&map, &tables).expect(&rt, "entries that memory gives");
     set(&mut ram, &map, 0x1000, 0xA0);
     set(&mut ram, &map, 0x1001, 0xB0);
@@ -132,6 +146,7 @@ fn dwell_rounds(rt: HostRuntime) -> Result<(), Fail> {
 fn definitions_give_the_rows() {
     laws::blank_dwell();
     laws::rounds_end_by_number();
+    laws::streams_begin_in_the_next_wakeup();
     laws::dwell_rounds();
     laws::table_rows();
     laws::command_rows();
@@ -204,15 +219,21 @@ fn activate(md: &mut Md, map: &Map, n: u8, table: &Dwell)
     }
 }
 
-// Sets the first three bytes to what wakeup k of the worked rows reads.
-fn show(ram: &mut Ram, map: &Map, k: u8)
+// Wakeup k of the worked rows: the first three bytes are set to what it reads.
+fn wakeup(md: &Md, ram: &mut Ram, map: &Map, k: u8, commands: &[Packet], out: &mut Outbox) -> Md
     requires few { k ≤ 9 }
+    requires commands { length commands.now ≤ 16 }
+    requires room { 20 ≤ out.old.room }
     requires map { regions_of ram.old.areas ≡ map.now }
-    ensures { regions_of ram.new.areas ≡ map.now }
+    requires gives { AllGiven map.now md.now }
+    ensures map { regions_of ram.new.areas ≡ map.now }
+    ensures gives { AllGiven map.now result }
+    ensures room { out.new.room ≡ out.old.room }
 {
     set(ram, map, 0x1000, 0xA0 + k);
     set(ram, map, 0x1001, 0xB0 + k);
     set(ram, map, 0x1002, 0xC0 + k);
+    frame(md, ram, commands, 1000 + u32::from(k), out)
 }
 
 #[test]
@@ -220,49 +241,34 @@ fn tables_are_exchanged(rt: HostRuntime) -> Result<(), Fail> {
     let map = Map::new(&[one_region()])?;
     let mut ram = Ram::new(rt.alloc(), map)?;
     let mut out = Outbox::open(rt.alloc(), 20)?;
-    let end = DwellEntry::BLANK;
-    let first = entry(1, 0, 0x1000);
-    let second = entry(1, 2, 0x1001);
-    let third = entry(1, 0, 0x1002);
-    let on = table(true, first, second, third);
-    let off = table(false, first, second, third);
-    let turned = table(true, entry(1, 1, 0x1002), entry(1, 0, 0x1000), end);
-    let tables = [on, Dwell::blank(), Dwell::blank(), Dwell::blank()];
+    let blank = Dwell::blank();
+    let tables = [three_bytes(true), blank, blank, blank];
     let request = command(0x1891, 0, &[]);
     let md = start(&map, &tables).expect(&rt, "entries that memory gives");
-    show(&mut ram, &map, 0);
-    let mut md = frame(&md, &ram, &[], 1000, &mut out);
-    activate(&mut md, &map, 2, &turned);
-    show(&mut ram, &map, 1);
-    let md = frame(&md, &ram, &[request], 1001, &mut out);
+    let mut md = wakeup(&md, &mut ram, &map, 0, &[], &mut out);
+    activate(&mut md, &map, 2, &turned_round());
+    let md = wakeup(&md, &mut ram, &map, 1, &[request], &mut out);
     let want = [Out::Made(telemetry(0x0890, 1001, &[0, 0, 3, 0]))];
     assert_eq!(rt; out.items(), want.as_slice());
-    show(&mut ram, &map, 2);
-    let mut md = frame(&md, &ram, &[], 1002, &mut out);
+    let mut md = wakeup(&md, &mut ram, &map, 2, &[], &mut out);
     let want = [
         dwell(1, 1002, &[0, 1, 0, 3, 0xA0, 0xB0, 0xC2]),
         dwell(2, 1002, &[0, 2, 0, 2, 0xC1, 0xA2]),
     ];
     assert_eq!(rt; out.items(), want.as_slice());
-    activate(&mut md, &map, 1, &off);
-    show(&mut ram, &map, 3);
-    let mut md = frame(&md, &ram, &[request], 1003, &mut out);
+    activate(&mut md, &map, 1, &three_bytes(false));
+    let mut md = wakeup(&md, &mut ram, &map, 3, &[request], &mut out);
     let want = [
         Out::Made(telemetry(0x0890, 1003, &[0, 0, 2, 0])),
         dwell(2, 1003, &[0, 2, 0, 2, 0xC2, 0xA3]),
     ];
     assert_eq!(rt; out.items(), want.as_slice());
-    activate(&mut md, &map, 1, &on);
-    show(&mut ram, &map, 4);
-    let md = frame(&md, &ram, &[], 1004, &mut out);
-    let want = [dwell(2, 1004, &[0, 2, 0, 2, 0xC3, 0xA4])];
-    assert_eq!(rt; out.items(), want.as_slice());
-    show(&mut ram, &map, 5);
-    let md = frame(&md, &ram, &[], 1005, &mut out);
+    activate(&mut md, &map, 1, &three_bytes(true));
+    let md = wakeup(&md, &mut ram, &map, 4, &[], &mut out);
+    let md = wakeup(&md, &mut ram, &map, 5, &[], &mut out);
     let want = [dwell(2, 1005, &[0, 2, 0, 2, 0xC4, 0xA5])];
     assert_eq!(rt; out.items(), want.as_slice());
-    show(&mut ram, &map, 6);
-    let _ = frame(&md, &ram, &[], 1006, &mut out);
+    let _ = wakeup(&md, &mut ram, &map, 6, &[], &mut out);
     let want = [
         dwell(1, 1006, &[0, 1, 0, 3, 0xA4, 0xB4, 0xC6]),
         dwell(2, 1006, &[0, 2, 0, 2, 0xC5, 0xA6]),
@@ -276,33 +282,27 @@ fn jams_and_stops_are_forgotten(rt: HostRuntime) -> Result<(), Fail> {
     let map = Map::new(&[one_region()])?;
     let mut ram = Ram::new(rt.alloc(), map)?;
     let mut out = Outbox::open(rt.alloc(), 20)?;
-    let end = DwellEntry::BLANK;
-    let turned = table(true, entry(1, 1, 0x1002), entry(1, 0, 0x1000), end);
+    let turned = turned_round();
     let tables = [Dwell::blank(), Dwell::blank(), turned, turned];
     let md = start(&map, &tables).expect(&rt, "entries that memory gives");
-    show(&mut ram, &map, 0);
     let commands = [
         jam(3, 2, 1, 5, 0x1001),
         jam(4, 2, 1, 0, 0x1001),
         command(MD, 3, &[0, 12]),
     ];
-    let mut md = frame(&md, &ram, &commands, 1000, &mut out);
+    let mut md = wakeup(&md, &mut ram, &map, 0, &commands, &mut out);
     activate(&mut md, &map, 3, &turned);
-    show(&mut ram, &map, 1);
-    let md = frame(&md, &ram, &[], 1001, &mut out);
+    let md = wakeup(&md, &mut ram, &map, 1, &[], &mut out);
     assert!(rt; out.items().is_empty());
-    show(&mut ram, &map, 2);
-    let mut md = frame(&md, &ram, &[], 1002, &mut out);
+    let mut md = wakeup(&md, &mut ram, &map, 2, &[], &mut out);
     let want = [dwell(3, 1002, &[0, 3, 0, 2, 0xC1, 0xA2])];
     assert_eq!(rt; out.items(), want.as_slice());
     activate(&mut md, &map, 4, &Dwell::blank());
     activate(&mut md, &map, 4, &turned);
-    show(&mut ram, &map, 3);
-    let md = frame(&md, &ram, &[], 1003, &mut out);
+    let md = wakeup(&md, &mut ram, &map, 3, &[], &mut out);
     let want = [dwell(3, 1003, &[0, 3, 0, 2, 0xC2, 0xA3])];
     assert_eq!(rt; out.items(), want.as_slice());
-    show(&mut ram, &map, 4);
-    let _ = frame(&md, &ram, &[], 1004, &mut out);
+    let _ = wakeup(&md, &mut ram, &map, 4, &[], &mut out);
     let want = [
         dwell(3, 1004, &[0, 3, 0, 2, 0xC3, 0xA4]),
         dwell(4, 1004, &[0, 4, 0, 2, 0xC3, 0xA4]),
