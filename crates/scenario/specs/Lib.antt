@@ -15,3 +15,6 @@ pub mod GrowthLaws
 pub mod GoodLaws
 pub mod TextLaws
 pub mod Drill
+pub mod DrillWordLaws
+pub mod DrillLineLaws
+pub mod DrillLaws

@@ -4,7 +4,7 @@
 ghost use Rattle.std.specs.Prelude.{◌≡◌, ◌≤◌, ◌<◌, ◌+◌, ◌++◌, ◌∷◌, [], ℕ, Bool, List, false, true, codes, length, slice_index};
 ghost use Rattle.scenario.specs.Texts.{Text, Given, Head, Whole, Reading, Bad, Ended, Unended, Open, Grows, AreGood, reading};
 ghost use Rattle.scenario.specs.Standing.{Stands, is_finished};
-ghost use Rattle.scenario.specs.Drill.{drawn, upper, draws_of, frame_lines, drill_header};
+ghost use Rattle.scenario.specs.Drill.{drawn, upper, draws_of, frame_lines, drill_header, drill_text};
 ghost use Rattle.scenario.specs.declared.reader.Reader.{Reader};
 ghost use Rattle.scenario.specs.declared.reason.Reason.{Reason};
 ghost use Rattle.scenario.specs.declared.reason.Reason.TheVariants as reasons;
@@ -81,4 +81,10 @@ pub fn worked_drills()
     ensures peek { frame_lines (draws_of 7) ≡ codes "app LOAD 0\nsend 1888C00000060200080000ED4E\ntick\n" }
     ensures fill { frame_lines (draws_of 4) ≡ codes "app LOAD 0\nsend 1888C000000A080F000050E0000000F2E0\ntick\n" }
     ensures upset { frame_lines (draws_of 1) ≡ codes "app LOAD 0\nupset 33046 136\nsend 1888C000000A03210800000CF000000073\ntick\n" }
+{}
+
+/// A generated scenario is a header and 2,000 frames, and ends well.
+pub fn drills_read_well()
+    ensures ended { (k : ℕ) → (reading (record { bytes = drill_text k; closed = true })).ending ≡ Ended }
+    ensures items { (k : ℕ) → length (reading (record { bytes = drill_text k; closed = true })).items ≡ 2001 }
 {}

@@ -1,4 +1,4 @@
-use Rattle.std.proofs.Common.{◌≡◌, ◌∷◌, [], List, ℕ, get_or, length, append-nil, length-append, ap, sym, ◌∙◌, arith}
+use Rattle.std.proofs.Common.{◌≡◌, ◌∷◌, [], get_or, length, append-nil, length-append, ap, sym, ◌∙◌, arith}
 use Rattle.scenario.specs.Drill.{upper_pair}
 use Rattle.scenario.proofs.DrillLemmas.{hex_none, hex_step}
 use Rattle.scenario.proofs.drill.append_hex.Goals as goal

@@ -1,4 +1,4 @@
-use Rattle.std.proofs.Common.{◌≡◌, ◌++◌, List, ℕ, ap, ◌∙◌, arith}
+use Rattle.std.proofs.Common.{◌∙◌, arith}
 use Rattle.scenario.proofs.DrillLemmas.{last_made, next_made}
 use Rattle.scenario.proofs.drill.make_lines.Goals as goal
 
