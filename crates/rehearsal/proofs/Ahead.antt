@@ -30,7 +30,7 @@ bad_ahead now whole gave pending same all bytes few stops line reason bad =
     omega (arith, stop, index, size, few)
 
 -- as many frames as items behind the header
-frames_behind : (regions : List Region) (frames : List Given) → AllByRecursion (IsGoodFrame regions) frames → length (frames_of frames) ≡ length frames
+pub frames_behind : (regions : List Region) (frames : List Given) → AllByRecursion (IsGoodFrame regions) frames → length (frames_of frames) ≡ length frames
 unfolding frames_of
 frames_behind regions [] all = refl
 frames_behind regions (Head epoch others ∷ frames) all = absurd all.0

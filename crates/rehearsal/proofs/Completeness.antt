@@ -13,10 +13,10 @@ use Rattle.scenario.specs.Answers.{answer_at_end}
 use Rattle.rehearsal.specs.declared.report.Status.{Status}
 use Rattle.rehearsal.specs.declared.report.Status.TheVariants as statuses
 use Rattle.rehearsal.specs.declared.report.Report.{Report}
-use Rattle.rehearsal.specs.Words.{Asked}
+use Rattle.rehearsal.specs.Words.{Asked, drill_in}
 use Rattle.rehearsal.specs.Files.{refusal_behind, refusal_after, first_refusal, AreTaken, RefusesFile, EndsAtFileBy}
 use Rattle.frame_exec.specs.Tables.{tables_fault}
-use Rattle.rehearsal.specs.Outcome.{IsText, refused_read, GivesReads, OutcomeOf, Outcome, Seen, Rehearses, Completes}
+use Rattle.rehearsal.specs.Outcome.{IsText, refused_read, GivesReads, OutcomeOf, Outcome, Seen, ReadsScenario, RunsBy, Rehearses, Completes}
 use Rattle.rehearsal.proofs.Gathered.{none_before}
 use Rattle.rehearsal.proofs.Outcomes.{tells_some, reading_whole, items_whole, refused_append, refused_some}
 use Rattle.rehearsal.proofs.Endings.{not_open_at_bad}
@@ -39,7 +39,7 @@ pub same_bytes : (a b : List ℕ) → Some a ≡ Some b → a ≡ b
 same_bytes a b same = cc
 
 -- the file's text, read to its end, is read as what was handed out of it, where that isn't open
-file_reads : (before faults : ℕ) (bytes rest : List ℕ) (text : Text) → IsText true before faults (Some bytes) rest text → ((reading text).ending ≡ Open → ⊥)
+pub file_reads : (before faults : ℕ) (bytes rest : List ℕ) (text : Text) → IsText true before faults (Some bytes) rest text → ((reading text).ending ≡ Open → ⊥)
     → reading (record { bytes = bytes; closed = true }) ≡ reading text
 file_reads before faults bytes rest text is not_open =
     let parts = same_bytes bytes (text.bytes ++ rest) (is.front refl) in
@@ -53,15 +53,20 @@ ended_not_bad ending line reason ended bad =
     cc
 
 -- an entry whose read the map of a first part refuses is refused by the map of the whole file
-refused_given : (files : List (List ℕ)) (before faults : ℕ) (bytes rest : List ℕ) (text : Text) (file entry : ℕ) → IsText true before faults (Some bytes) rest text → refused_read files (reading text).items ≡ Some (file, entry)
-    → GivesReads files (reading (record { bytes = bytes; closed = true })) → ⊥
-refused_given files before faults bytes rest text file entry is refused given =
+pub refused_of_all : (files : List (List ℕ)) (before faults : ℕ) (bytes rest : List ℕ) (text : Text) (file entry : ℕ) → IsText true before faults (Some bytes) rest text → refused_read files (reading text).items ≡ Some (file, entry)
+    → refused_read files (reading (record { bytes = bytes; closed = true })).items ≡ Some (file, entry)
+refused_of_all files before faults bytes rest text file entry is refused =
     let parts = same_bytes bytes (text.bytes ++ rest) (is.front refl) in
     let grown = items_whole text rest true (λ closed. (rest_empty rest _ (sym is.closed ∙ closed), refl)) in
     let some = refused_some files (reading text).items (file, entry) refused in
-    let whole : refused_read files (reading (record { bytes = bytes; closed = true })).items ≡ Some (file, entry) =
     ap (λ (b : List ℕ). refused_read files (reading (record { bytes = b; closed = true })).items) parts
-    ∙ ap (refused_read files) grown.1 ∙ refused_append files (reading text).items grown.0 some ∙ refused in
+    ∙ ap (refused_read files) grown.1 ∙ refused_append files (reading text).items grown.0 some ∙ refused
+
+-- what is refused isn't given
+refused_given : (files : List (List ℕ)) (before faults : ℕ) (bytes rest : List ℕ) (text : Text) (file entry : ℕ) → IsText true before faults (Some bytes) rest text → refused_read files (reading text).items ≡ Some (file, entry)
+    → GivesReads files (reading (record { bytes = bytes; closed = true })) → ⊥
+refused_given files before faults bytes rest text file entry is refused given =
+    let whole = refused_of_all files before faults bytes rest text file entry is refused in
     cc
 
 -- what each status comes to
@@ -148,31 +153,33 @@ refused_taken report stored names files rest refuses taken =
     cc
 
 -- an end at a FILE is want of memory, where the files are taken and the shelf didn't fail
-ends_complete : (status : Status) (report : Report) (stored : List Stored) (names files : List (List ℕ)) (count : ℕ) (is_open : Bool) (rest : List ℕ) (text : Text) (old new : List ℕ) → report.status ≡ status → EndsAtFileBy status report stored names count is_open rest
-    → AreTaken stored names files → (status ≡ statuses.ReadFailed → ⊥) → new ≡ old → Completes report files text old new
-ends_complete statuses.Done report stored names files count is_open rest text old new same ends taken read unwritten = absurd ends
-ends_complete statuses.WordsRefused report stored names files count is_open rest text old new same ends taken read unwritten = absurd ends
-ends_complete statuses.FileRefused report stored names files count is_open rest text old new same ends taken read unwritten = absurd (refused_taken report stored names files rest ends.0 taken)
-ends_complete statuses.ScenarioRefused report stored names files count is_open rest text old new same ends taken read unwritten = absurd ends
-ends_complete statuses.ReadFailed report stored names files count is_open rest text old new same ends taken read unwritten = absurd (read refl)
-ends_complete statuses.WriteFailed report stored names files count is_open rest text old new same ends taken read unwritten = absurd ends
-ends_complete statuses.NoMemory report stored names files count is_open rest text old new same ends taken read unwritten = inr (same, ends.frames, unwritten)
+pub ends_complete : (status : Status) (report : Report) (stored : List Stored) (names files : List (List ℕ)) (count : ℕ) (is_open : Bool) (rest : List ℕ) → report.status ≡ status → EndsAtFileBy status report stored names count is_open rest
+    → AreTaken stored names files → (status ≡ statuses.ReadFailed → ⊥) → (report.status ≡ statuses.NoMemory) × (report.frames ≡ 0)
+ends_complete statuses.Done report stored names files count is_open rest same ends taken read = absurd ends
+ends_complete statuses.WordsRefused report stored names files count is_open rest same ends taken read = absurd ends
+ends_complete statuses.FileRefused report stored names files count is_open rest same ends taken read = absurd (refused_taken report stored names files rest ends.0 taken)
+ends_complete statuses.ScenarioRefused report stored names files count is_open rest same ends taken read = absurd ends
+ends_complete statuses.ReadFailed report stored names files count is_open rest same ends taken read = absurd (read refl)
+ends_complete statuses.WriteFailed report stored names files count is_open rest same ends taken read = absurd ends
+ends_complete statuses.NoMemory report stored names files count is_open rest same ends taken read = (same, ends.frames)
 
 -- A rehearsal without faults of files that can be taken and of a scenario that ends well is complete.
 pub rehearses_complete : (report : Report) (asked : Asked) (seen : Seen) (start after : Content) (files : List (List ℕ)) (bytes : List ℕ)
-    → Rehearses report asked seen start after → AreTaken start.files asked.files files → file_named start.files asked.scenario ≡ Some bytes
+    → Rehearses report asked seen start after → drill_in asked.scenario ≡ None → AreTaken start.files asked.files files → file_named start.files asked.scenario ≡ Some bytes
     → tables_fault files ≡ None → (reading (record { bytes = bytes; closed = true })).ending ≡ Ended → GivesReads files (reading (record { bytes = bytes; closed = true })) → (report.status ≡ statuses.ReadFailed → ⊥)
     → ((report.status ≡ statuses.ReadFailed → ⊥) → (report.status ≡ statuses.NoMemory → ⊥) → IsTrue seen.is_open) → ((new : List ℕ) → seen.held_now ≡ Some new → report.status ≡ statuses.WriteFailed → ⊥)
     → WhereTold seen.held_before seen.held_now (Completes report files (record { bytes = bytes; closed = true }))
-rehearses_complete report asked seen start after files bytes (inl ends) taken file loaded ended given read opened write =
-    told_map ends.unwritten (λ old new unwritten. ends_complete report.status report start.files asked.files files ends.count seen.is_open after.rest (record { bytes = bytes; closed = true }) old new refl ends.ends taken read unwritten)
-rehearses_complete report asked seen start after files bytes (inr (inl ends)) taken file loaded ended given read opened write =
+rehearses_complete report asked seen start after files bytes (inl ends) plain taken file loaded ended given read opened write =
+    let out = ends_complete report.status report start.files asked.files files ends.count seen.is_open after.rest refl ends.ends taken read in
+    told_map ends.unwritten (λ old new unwritten. inr (out.0, out.1, unwritten))
+rehearses_complete report asked seen start after files bytes (inr (inl ends)) plain taken file loaded ended given read opened write =
     let same : ends.files ≡ files = same_named start.files asked.files ends.files files ends.taken.named taken.named in
     let none : tables_fault ends.files ≡ None = ap tables_fault same ∙ loaded in
     let is = ends.refuses.is in
     let wrong : ⊥ = cc in
     absurd wrong
-rehearses_complete report asked seen start after files bytes (inr (inr reads)) taken file loaded ended given read opened write = λ new tells.
+rehearses_complete report asked seen start after files bytes (inr (inr runs)) plain taken file loaded ended given read opened write = λ new tells.
+    let reads : ReadsScenario report asked seen start after = subst (λ (d : Option ℕ). RunsBy d report asked seen start after) plain runs in
     let inner = reads.outcome new tells in
     let same : reads.files ≡ files = same_named start.files asked.files reads.files files reads.taken.named taken.named in (
       inner.0,

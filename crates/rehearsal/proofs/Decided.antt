@@ -10,10 +10,10 @@ use Rattle.frame_exec.specs.declared.loading.TablesFault.{TablesFault}
 use Rattle.rehearsal.specs.declared.report.Report.{Report}
 use Rattle.rehearsal.specs.declared.report.Status.{Status}
 use Rattle.rehearsal.specs.declared.report.Status.TheVariants as statuses
-use Rattle.rehearsal.specs.Words.{Asked}
+use Rattle.rehearsal.specs.Words.{Asked, drill_in}
 use Rattle.rehearsal.specs.Files.{Refusal, refused_or, refusal_behind, refusal_after, first_refusal, AreTaken, EndsAtFileBy, RefusesFile, FailsAtFile}
-use Rattle.rehearsal.specs.Lines.{Rehearsed, FailsOn, Refuses, ReadsText}
-use Rattle.rehearsal.specs.Outcome.{frames_of, IsText, IsCut, refused_read, GivesReads, IsRefusedAt, OutcomeOf, Outcome, Seen, Rehearses}
+use Rattle.rehearsal.specs.Lines.{Rehearsed, FailsOn, Refuses, ReadsText, IsDrill}
+use Rattle.rehearsal.specs.Outcome.{frames_of, IsText, IsCut, refused_read, GivesReads, IsRefusedAt, OutcomeOf, Outcome, DrillOutcomeOf, DrillOutcome, Seen, RunsDrill, RunsBy, Rehearses}
 use Rattle.rehearsal.proofs.Outcomes.{refused_none}
 use Rattle.rehearsal.proofs.Endings.{not_open_at_bad}
 use Rattle.rehearsal.proofs.Completeness.{ended_not_bad, same_bytes, same_named, front_named, none_of_front, refused_taken}
@@ -77,7 +77,11 @@ unread report asked seen wrote_before wrote_now before after file run fails =
       | inr fails_at ↦ omega (arith, fails_at.2, fails.last, ends.asked.openings)
     ]
     by_stage failed (inr (inl ends)) = let wrong : ⊥ = cc (ends.refuses.status) in absurd wrong
-    by_stage failed (inr (inr reads)) = absurd (omega (arith, fails.last, fails.within, reads.asked.openings))
+    by_stage failed (inr (inr runs)) = by_source (drill_in asked.scenario) runs
+      where
+        by_source : (d : Option ℕ) → RunsBy d report asked seen before after → report.file ≡ file
+        by_source None reads = absurd (omega (arith, fails.last, fails.within, reads.asked.openings))
+        by_source (Some k) drill = absurd (drill.well.0 failed)
 
 -- a refusal stays where more files follow
 or_kept : (n : ℕ) (reason : Option ℕ) (few more : Option Refusal) (refusal : Refusal) → (few ≡ Some refusal → more ≡ Some refusal) → refused_or n reason few ≡ Some refusal → refused_or n reason more ≡ Some refusal
@@ -122,6 +126,11 @@ none_refused asked seen before refusal files taken refuses =
     let is = refuses.refused in
     cc
 
+-- all FILEs were taken and their tables loaded, before the scenario was read or generated
+taken_by : (report : Report) (asked : Asked) (seen : Seen) (before after : Content) (d : Option ℕ) → RunsBy d report asked seen before after → (files : List (List ℕ)) × AreTaken before.files asked.files files × (tables_fault files ≡ None)
+taken_by report asked seen before after None reads = (reads.files, reads.taken, reads.loaded)
+taken_by report asked seen before after (Some k) drill = (drill.files, drill.taken, drill.loaded)
+
 -- A FILE is refused.
 pub refused : (report : Report) (asked : Asked) (seen : Seen) (wrote_before wrote_now : ℕ) (before after : Content) (refusal : Refusal) → Rehearsed report asked seen wrote_before wrote_now before after
     → (report.status ≡ statuses.NoMemory → ⊥) → Refuses refusal asked seen before → (report.status ≡ statuses.FileRefused) × (report.file ≡ refusal.file) × (report.line ≡ 0) × (report.reason ≡ refusal.reason)
@@ -135,7 +144,7 @@ refused report asked seen wrote_before wrote_now before after refusal run some r
       | inr fails_at ↦ absurd (not_failed report asked seen wrote_before wrote_now before after run refuses.well fails_at.0)
     ]
     by_stage (inr (inl ends)) = absurd (none_refused asked seen before refusal ends.files ends.taken refuses)
-    by_stage (inr (inr reads)) = absurd (none_refused asked seen before refusal reads.files reads.taken refuses)
+    by_stage (inr (inr runs)) = let all = taken_by report asked seen before after (drill_in asked.scenario) runs in absurd (none_refused asked seen before refusal all.0 all.1 refuses)
 
 same_fault : (a b : TablesFault) → ◌≡◌ {A = Option TablesFault} (Some a) (Some b) → a ≡ b
 same_fault a b same = cc
@@ -155,9 +164,10 @@ faulty report asked seen wrote_before wrote_now before after files fault run som
         let same = same_named before.files asked.files ends.files files ends.taken.named taken.named in
         let one = same_fault ends.refuses.fault fault (sym ends.refuses.is ∙ ap tables_fault same ∙ is) in
         (ends.refuses.status, ends.refuses.file ∙ ap (λ (f : TablesFault). f.file) one, ends.refuses.line ∙ ap (λ (f : TablesFault). f.entry) one, ends.refuses.reason ∙ ap (λ (f : TablesFault). f.reason + 10) one)
-    by_stage (inr (inr reads)) =
-        let same = same_named before.files asked.files reads.files files reads.taken.named taken.named in
-        let none : tables_fault files ≡ None = ap tables_fault (sym same) ∙ reads.loaded in
+    by_stage (inr (inr runs)) =
+        let all = taken_by report asked seen before after (drill_in asked.scenario) runs in
+        let same = same_named before.files asked.files all.0 files all.1.named taken.named in
+        let none : tables_fault files ≡ None = ap tables_fault (sym same) ∙ all.2 in
         let wrong : ⊥ = cc in
         absurd wrong
 
@@ -185,11 +195,15 @@ reads_it report asked seen wrote_before wrote_now before after files text new ru
         let is = ends.refuses.is in
         let wrong : ⊥ = cc in
         absurd wrong
-    by_stage (inr (inr reads)) =
-        let inner = reads.outcome new tells in
-        let same : reads.files ≡ files = same_named before.files asked.files reads.files files reads.taken.named reads_text.taken.named in
-        let one : reads.text ≡ text = text_is_one seen.is_open seen.faults_before seen.faults_now (file_named before.files asked.scenario) after.rest reads.text text reads.is_text reads_text.is_text in
-        (inner.0, subst (λ (t : Text). Outcome report files t inner.0 new) one (subst (λ (fs : List (List ℕ)). Outcome report fs reads.text inner.0 new) same inner.2))
+    by_stage (inr (inr runs)) = by_source (drill_in asked.scenario) runs
+      where
+        by_source : (d : Option ℕ) → RunsBy d report asked seen before after → (old : List ℕ) × Outcome report files text old new
+        by_source (Some k) drill = absurd (omega (arith, drill.asked.openings, reads_text.last))
+        by_source None reads =
+            let inner = reads.outcome new tells in
+            let same : reads.files ≡ files = same_named before.files asked.files reads.files files reads.taken.named reads_text.taken.named in
+            let one : reads.text ≡ text = text_is_one seen.is_open seen.faults_before seen.faults_now (file_named before.files asked.scenario) after.rest reads.text text reads.is_text reads_text.is_text in
+            (inner.0, subst (λ (t : Text). Outcome report files t inner.0 new) one (subst (λ (fs : List (List ℕ)). Outcome report fs reads.text inner.0 new) same inner.2))
 
 -- the same place
 bad_same : (a b c d : ℕ) → answers.Bad a b ≡ answers.Bad c d → (a ≡ c) × (b ≡ d)
@@ -258,3 +272,50 @@ by_unmapped statuses.ScenarioRefused report files read old new file entry at som
 by_unmapped statuses.ReadFailed report files read old new file entry at some outcome is = let given = outcome.1 in let wrong : ⊥ = cc in absurd wrong
 by_unmapped statuses.WriteFailed report files read old new file entry at some outcome is = let given = outcome.1 in let wrong : ⊥ = cc in absurd wrong
 by_unmapped statuses.NoMemory report files read old new file entry at some outcome is = absurd (some at)
+
+-- ---- a generated scenario
+
+-- what the report says of it
+pub drills_it : (report : Report) (asked : Asked) (seen : Seen) (wrote_before wrote_now : ℕ) (before after : Content) (files : List (List ℕ)) (k : ℕ) (new : List ℕ) → Rehearsed report asked seen wrote_before wrote_now before after
+    → (report.status ≡ statuses.NoMemory → ⊥) → IsDrill k files asked seen before → seen.held_now ≡ Some new → (old : List ℕ) × DrillOutcome report files k old new
+drills_it report asked seen wrote_before wrote_now before after files k new run some drill tells = by_stage run.rehearses
+  where
+    by_stage : Rehearses report asked seen before after → (old : List ℕ) × DrillOutcome report files k old new
+    by_stage (inl ends) = elim (ends_by report.status report before.files asked.files ends.count seen.is_open after.rest refl some ends.ends) [
+      | inl refuses ↦ absurd (refused_taken report before.files asked.files files after.rest refuses.1 drill.taken)
+      | inr fails_at ↦ absurd (not_failed report asked seen wrote_before wrote_now before after run drill.well fails_at.0)
+    ]
+    by_stage (inr (inl ends)) =
+        let same : ends.files ≡ files = same_named before.files asked.files ends.files files ends.taken.named drill.taken.named in
+        let none : tables_fault ends.files ≡ None = ap tables_fault same ∙ drill.loaded in
+        let is = ends.refuses.is in
+        let wrong : ⊥ = cc in
+        absurd wrong
+    by_stage (inr (inr runs)) =
+        let ran : RunsDrill k report asked seen before after = subst (λ (d : Option ℕ). RunsBy d report asked seen before after) drill.drill runs in
+        let inner = ran.outcome new tells in
+        let same : ran.files ≡ files = same_named before.files asked.files ran.files files ran.taken.named drill.taken.named in
+        (inner.0, subst (λ (fs : List (List ℕ)). DrillOutcome report fs k inner.0 new) same inner.2)
+
+-- The text ended well.
+pub drill_ended : (status : Status) (report : Report) (files : List (List ℕ)) (read : Reading) (old new : List ℕ) → report.status ≡ status → (report.status ≡ statuses.NoMemory → ⊥) → DrillOutcomeOf status report files read old new
+    → GivesReads files read → (report.status ≡ statuses.WriteFailed → ⊥) → report.status ≡ statuses.Done
+drill_ended statuses.Done report files read old new at some outcome given written = at
+drill_ended statuses.WordsRefused report files read old new at some outcome given written = absurd outcome
+drill_ended statuses.FileRefused report files read old new at some outcome given written = let is = outcome.0.is in let wrong : ⊥ = cc in absurd wrong
+drill_ended statuses.ScenarioRefused report files read old new at some outcome given written = absurd outcome
+drill_ended statuses.ReadFailed report files read old new at some outcome given written = absurd outcome
+drill_ended statuses.WriteFailed report files read old new at some outcome given written = absurd (written at)
+drill_ended statuses.NoMemory report files read old new at some outcome given written = absurd (some at)
+
+-- The map refuses the read of an entry.
+pub drill_unmapped : (status : Status) (report : Report) (files : List (List ℕ)) (read : Reading) (old new : List ℕ) (file entry : ℕ) → report.status ≡ status → (report.status ≡ statuses.NoMemory → ⊥) → DrillOutcomeOf status report files read old new
+    → refused_read files read.items ≡ Some (file, entry) → (report.status ≡ statuses.FileRefused) × (report.file ≡ file) × (report.line ≡ entry) × (report.reason ≡ 10)
+unfolding file_in entry_in
+drill_unmapped statuses.Done report files read old new file entry at some outcome is = let given = outcome.1 in let wrong : ⊥ = cc in absurd wrong
+drill_unmapped statuses.WordsRefused report files read old new file entry at some outcome is = absurd outcome
+drill_unmapped statuses.FileRefused report files read old new file entry at some outcome is = let same = sym outcome.0.is ∙ is in (at, ap file_in same, ap entry_in same, outcome.0.reason)
+drill_unmapped statuses.ScenarioRefused report files read old new file entry at some outcome is = absurd outcome
+drill_unmapped statuses.ReadFailed report files read old new file entry at some outcome is = absurd outcome
+drill_unmapped statuses.WriteFailed report files read old new file entry at some outcome is = let given = outcome.1 in let wrong : ⊥ = cc in absurd wrong
+drill_unmapped statuses.NoMemory report files read old new file entry at some outcome is = absurd (some at)

@@ -107,17 +107,17 @@ asks_more words count name before middle after within is asked opens = record {
     count_is : (n : ℕ) → n ≡ n + 1 - 1
     count_is n = omega arith
 
--- the words before the last were asked for
-pub asks_front : (names : List (List ℕ)) (last : List ℕ) (count : ℕ) (before after : Content) → AsksFor names count before after → AsksFor (names ++ last ∷ []) count before after
-asks_front names last count before after asked = record {
+-- a front of the words was asked for
+pub asks_front : (names more : List (List ℕ)) (count : ℕ) (before after : Content) → AsksFor names count before after → AsksFor (names ++ more) count before after
+asks_front names more count before after asked = record {
   files = asked.files;
-  within = omega (arith, asked.within, length-append names (last ∷ []));
+  within = omega (arith, asked.within, length-append names more);
   openings = asked.openings;
-  name = λ some. asked.name some ∙ ap (noted_name before.files) (sym (get_or-append names (last ∷ []) [] (count - 1) (omega (arith, some, asked.within))));
+  name = λ some. asked.name some ∙ ap (noted_name before.files) (sym (get_or-append names more [] (count - 1) (omega (arith, some, asked.within))));
   nothing = asked.nothing;
 }
 
--- and then the last of them
+-- and then the one behind it
 pub asks_all : (names : List (List ℕ)) (last : List ℕ) (before middle after : Content) → AsksFor names (length names) before middle → OpensOnce last middle after → AsksFor (names ++ last ∷ []) (length names + 1) before after
 asks_all names last before middle after asked opens =
-    asks_more (names ++ last ∷ []) (length names) last before middle after (omega (arith, length-append names (last ∷ []))) (sym (get_or-append_seam names last [] [])) (asks_front names last (length names) before middle asked) opens
+    asks_more (names ++ last ∷ []) (length names) last before middle after (omega (arith, length-append names (last ∷ []))) (sym (get_or-append_seam names last [] [])) (asks_front names (last ∷ []) (length names) before middle asked) opens

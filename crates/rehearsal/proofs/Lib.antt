@@ -11,3 +11,5 @@ pub mod Fetched
 pub mod Gathered
 pub mod Stages
 pub mod Decided
+pub mod Drilled
+pub mod Numbers

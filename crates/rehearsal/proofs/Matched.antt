@@ -1,6 +1,6 @@
 -- What matches ask for, and what the command's errors come to.
-use Rattle.std.proofs.Common.{◌≡◌, ◌≢◌, ◌⊎◌, inl, inr, ℕ, ◌<◌, ◌≤◌, Bool, true, false, List, [], ◌∷◌, length, map, codes, Option, Some, None, Result, Ok, Err, refl, sym, ◌∙◌, ap, ap₂, subst, arith}
-use Rattle.std.specs.Prelude.{not, nat_le, unwrap_or, option_map, IfOk, MatchResult}
+use Rattle.std.proofs.Common.{◌≡◌, ◌≢◌, ◌⊎◌, inl, inr, ℕ, ◌<◌, ◌≤◌, true, false, List, [], ◌∷◌, length, codes, Option, Some, None, Result, Ok, Err, refl, sym, ◌∙◌, ap, ap₂, subst, arith}
+use Rattle.std.specs.Prelude.{nat_le, unwrap_or, option_map, IfOk, MatchResult}
 use Rattle.std.proofs.lemmas.Bool.Decides.{nat_tests}
 use Rattle.clap.specs.Matches.{first_value, matched_of, raw_values}
 use Rattle.clap.specs.Walk.{Row, first_of, all_of, rows_of}
@@ -12,7 +12,7 @@ use Rattle.clap.specs.declared.error.kind.ErrorKind.{ErrorKind}
 use Rattle.clap.specs.declared.error.kind.ErrorKind.TheVariants.{OutOfMemory}
 use Rattle.clap.proofs.WalkLemmas.{first_value-rows, raw_values-rows}
 use Rattle.fsw_outside.specs.declared.traits.NoMemory.{NoMemory}
-use Rattle.rehearsal.specs.Words.{Asked, workers_said, is_drill, vigil_command, files_in, few_files, asked_with, asked_by, faults_at, matches_at, unless_faulty, accepted_words}
+use Rattle.rehearsal.specs.Words.{Asked, workers_said, vigil_command, files_in, few_files, asked_with, asked_by, faults_at, matches_at, unless_faulty, accepted_words}
 
 -- a scenario is given
 pub with_scenario : (f : Found) (given : Option (List ℕ)) → given ≡ first_value f (codes "scenario")
@@ -28,17 +28,6 @@ workers_are f word said is value = ap workers_said (sym (is ∙ first_value-rows
 -- the FILEs that were found
 pub files_are : (f : Found) (found : Option (List (List ℕ))) → found ≡ option_map raw_values (matched_of f (codes "files")) → files_in (rows_of f) ≡ unwrap_or found []
 files_are f found is = ap (λ (o : Option (List (List ℕ))). unwrap_or o []) (sym (is ∙ raw_values-rows f (codes "files")))
-
--- a generated scenario is refused
-pub drill_is_refused : (scenario : List ℕ) (workers : Option ℕ) (files : Option (List (List ℕ))) → is_drill scenario ≡ true → asked_with (Some scenario) workers files ≡ None
-drill_is_refused scenario None files drill = refl
-drill_is_refused scenario (Some n) None drill = refl
-drill_is_refused scenario (Some n) (Some files) drill = rw drill refl
-
--- all else is asked for
-pub all_is_asked : (scenario : List ℕ) (workers : ℕ) (files : List (List ℕ)) → is_drill scenario ≡ false
-    → asked_with (Some scenario) (Some workers) (Some files) ≡ Some (record { workers = workers; scenario = scenario; files = files })
-all_is_asked scenario workers files plain = rw plain refl
 
 -- at most 100 FILEs, and more
 pub few_are_taken : (files : List (List ℕ)) → length files ≤ 100 → few_files files ≡ Some files

@@ -3,7 +3,7 @@ use Rattle.std.specs.Prelude.{◌≡◌, ◌≢◌, ℕ, ◌+◌, ◌<◌, ◌�
 use Rattle.fsw_outside.specs.Files.{Content, file_named}
 use Rattle.scenario.specs.Texts.{Text}
 use Rattle.frame_exec.specs.Tables.{tables_fault}
-use Rattle.rehearsal.specs.Words.{Asked}
+use Rattle.rehearsal.specs.Words.{Asked, drill_in}
 use Rattle.rehearsal.specs.Files.{Refusal, first_refusal, AreTaken}
 use Rattle.rehearsal.specs.Outcome.{IsText, Seen, Rehearses}
 use Rattle.rehearsal.specs.declared.report.Report.{Report}
@@ -39,3 +39,10 @@ pub record ReadsText (files : List (List ℕ)) (text : Text) (asked : Asked) (se
   pub loaded : tables_fault files ≡ None
   pub last : after.openings ≡ before.openings + (length asked.files + 1)
   pub is_text : IsText seen.is_open seen.faults_before seen.faults_now (file_named before.files asked.scenario) after.rest text
+
+-- All FILEs can be taken and their tables load, the scenario is generated and drawn from k, and the shelf didn't fail.
+pub record IsDrill (k : ℕ) (files : List (List ℕ)) (asked : Asked) (seen : Seen) (before : Content) : Type 0 where
+  pub drill : drill_in asked.scenario ≡ Some k
+  pub well : seen.faults_now ≡ seen.faults_before
+  pub taken : AreTaken before.files asked.files files
+  pub loaded : tables_fault files ≡ None

@@ -1,10 +1,13 @@
 -- What a report says of the scenario's text and of the bytes of the output.
-use Rattle.std.specs.Prelude.{◌≡◌, ◌≢◌, ℕ, ◌+◌, ◌==◌, ◌&&◌, ◌<◌, ◌≤◌, List, [], ◌∷◌, ◌++◌, length, slice_index, Bool, IsTrue, IsFalse, Option, Some, None, ◌⊎◌}
+use Rattle.std.specs.Prelude.{◌≡◌, ◌≢◌, ℕ, ◌+◌, ◌==◌, ◌&&◌, ◌<◌, ◌≤◌, List, [], ◌∷◌, ◌++◌, length, slice_index, Bool, true, IsTrue, IsFalse, Option, Some, None, ◌⊎◌}
 use Rattle.std.specs.List.{flat_map}
 use Rattle.fsw_outside.specs.Told.{WhereTold}
 use Rattle.fsw_outside.specs.Causes.{HasRisen}
 use Rattle.fsw_outside.specs.Files.{Content, file_named}
 use Rattle.fsw_outside.specs.Written.{AppendsPart}
+use Rattle.fsw_outside.specs.Tally.{tally_of}
+use Rattle.packet_log.specs.Summaries.{summary_text}
+use Rattle.scenario.specs.Drill.{drill_text}
 use Rattle.scenario.specs.declared.item.Item.TheVariants as answers
 use Rattle.scenario.specs.FrameLists.{Frame}
 use Rattle.scenario.specs.declared.reason.Reason.{Reason}
@@ -18,7 +21,7 @@ use Rattle.frame_exec.specs.declared.giving.OpenFault.TheVariants as faults
 use Rattle.rehearsal.specs.declared.report.Status.{Status}
 use Rattle.rehearsal.specs.declared.report.Status.TheVariants as statuses
 use Rattle.rehearsal.specs.declared.report.Report.{Report}
-use Rattle.rehearsal.specs.Words.{Asked, words_to_open}
+use Rattle.rehearsal.specs.Words.{Asked, drill_in, words_to_open}
 use Rattle.rehearsal.specs.Files.{IsSameOpening, AsksFor, AreTaken, EndsAtFile}
 
 -- the frame that an item of a text is
@@ -122,6 +125,38 @@ OutcomeOf statuses.NoMemory report files read old new = HasNoPlace report × (re
 abbrev pub Outcome : Report → List (List ℕ) → Text → List ℕ → List ℕ → Type 0
 Outcome report files text old new = OutcomeOf report.status report files (reading text) old new
 
+-- the whole text of the generated scenario that is drawn from k
+abbrev pub drill_of : ℕ → Text
+drill_of k = record { bytes = drill_text k; closed = true }
+
+-- the summary of the log of 2,000 frames, which a generated scenario has
+unfoldable pub summary_in : List (List ℕ) → List Given → List ℕ
+summary_in files items = summary_text 2000 (tally_of (log_in files items))
+
+-- all frames were run, and the summary was written in place of their log
+pub record IsSummed (frames : ℕ) (files : List (List ℕ)) (read : Reading) (old new : List ℕ) : Type 0 where
+  pub number : frames ≡ 2000
+  pub written : new ≡ old ++ summary_in files read.items
+
+-- all frames were run, and a proper first part of the summary was written
+pub record IsCutSummary (frames : ℕ) (files : List (List ℕ)) (read : Reading) (old new : List ℕ) : Type 0 where
+  pub number : frames ≡ 2000
+  pub written : AppendsPart (summary_in files read.items) old new
+
+-- what each status says of the text of a generated scenario, which always ends well, and of the bytes of the output; no read of that text fails
+abbrev pub DrillOutcomeOf : Status → Report → List (List ℕ) → Reading → List ℕ → List ℕ → Type 0
+DrillOutcomeOf statuses.Done report files read old new = HasNoPlace report × GivesReads files read × IsSummed report.frames files read old new
+DrillOutcomeOf statuses.WordsRefused report files read old new = ⊥
+DrillOutcomeOf statuses.FileRefused report files read old new = RefusesRead report files read × (new ≡ old)
+DrillOutcomeOf statuses.ScenarioRefused report files read old new = ⊥
+DrillOutcomeOf statuses.ReadFailed report files read old new = ⊥
+DrillOutcomeOf statuses.WriteFailed report files read old new = HasNoPlace report × GivesReads files read × IsCutSummary report.frames files read old new
+DrillOutcomeOf statuses.NoMemory report files read old new = HasNoPlace report × (report.frames ≡ 0) × (new ≡ old)
+
+-- what a report says of the files that were taken, of the generated scenario that is drawn from k, and of the bytes of the output
+abbrev pub DrillOutcome : Report → List (List ℕ) → ℕ → List ℕ → List ℕ → Type 0
+DrillOutcome report files k old new = DrillOutcomeOf report.status report files (reading (drill_of k)) old new
+
 -- How far reading went ahead: where the output failed, at most 4,096 bytes past the end of the `tick` line of the frame whose lines were cut,
 -- where a line is bad, at most 4,096 bytes past the end of that line, and where a read is refused or memory ran out, at most as many past the header's end.
 abbrev pub ReadsAheadBy : Status → Report → Text → Type 0
@@ -186,11 +221,35 @@ pub record ReadsScenario (report : Report) (asked_for : Asked) (seen : Seen) (be
   pub ahead : ReadsAhead report text
   pub outcome : WhereTold seen.held_before seen.held_now (Outcome report files text)
 
+-- All FILEs were taken and their tables loaded, the scenario is generated, and the shelf was asked for nothing else.
+pub record RunsDrill (k : ℕ) (report : Report) (asked_for : Asked) (seen : Seen) (before after : Content) : Type 0 where
+  pub asked : AsksFor (words_to_open asked_for) (length asked_for.files) before after
+  pub read : 0 < length asked_for.files → after.rest ≡ []
+  pub files : List (List ℕ)
+  pub taken : AreTaken before.files asked_for.files files
+  pub loaded : tables_fault files ≡ None
+  pub well : (report.status ≢ statuses.ReadFailed) × (report.status ≢ statuses.ScenarioRefused)
+  pub outcome : WhereTold seen.held_before seen.held_now (DrillOutcome report files k)
+
+-- the scenario is read from its file, or it is generated
+abbrev pub RunsBy : Option ℕ → Report → Asked → Seen → Content → Content → Type 0
+RunsBy None report asked seen before after = ReadsScenario report asked seen before after
+RunsBy (Some k) report asked seen before after = RunsDrill k report asked seen before after
+
 -- what a rehearsal comes to, by what its words ask for, what was seen of the outside, and what the shelf told before and after
 abbrev pub Rehearses : Report → Asked → Seen → Content → Content → Type 0
-Rehearses report asked seen before after = EndsBefore report asked seen before after ⊎ EndsAtTables report asked seen before after ⊎ ReadsScenario report asked seen before after
+Rehearses report asked seen before after = EndsBefore report asked seen before after ⊎ EndsAtTables report asked seen before after ⊎ RunsBy (drill_in asked.scenario) report asked seen before after
 
 -- the whole log of a text was written, or memory ran out before the first frame
 abbrev pub Completes : Report → List (List ℕ) → Text → List ℕ → List ℕ → Type 0
 Completes report files text old new =
     ((report.status ≡ statuses.Done) × IsWhole report.frames files (reading text) old new) ⊎ ((report.status ≡ statuses.NoMemory) × (report.frames ≡ 0) × (new ≡ old))
+
+-- the summary of the whole log of a generated scenario was written, or memory ran out before the first frame
+abbrev pub SumsUp : Report → List (List ℕ) → ℕ → List ℕ → List ℕ → Type 0
+SumsUp report files k old new =
+    ((report.status ≡ statuses.Done) × IsSummed report.frames files (reading (drill_of k)) old new) ⊎ ((report.status ≡ statuses.NoMemory) × (report.frames ≡ 0) × (new ≡ old))
+
+-- there was no word to open, or memory ran out before the first
+abbrev pub MayAskNothing : Status → Asked → Type 0
+MayAskNothing status asked = (status ≡ statuses.NoMemory) ⊎ (words_to_open asked ≡ [])

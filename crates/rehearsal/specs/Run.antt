@@ -1,6 +1,7 @@
 -- What the run of the frames begins with, and what it hands on.
 use Rattle.std.specs.Prelude.{◌≡◌, ℕ, ◌<◌, ◌≤◌, List, [], ◌++◌, length, Option, None, ◌⊎◌}
 use Rattle.fsw_outside.specs.Told.{WhereTold}
+use Rattle.fsw_outside.specs.Written.{AppendsPart}
 use Rattle.packet_log.specs.Blocks.{empty_block}
 use Rattle.scenario.specs.FrameLists.{Frame}
 use Rattle.scenario.specs.Texts.{Given}
@@ -33,3 +34,11 @@ pub record IsCutShort (report : Report) (setup : Setup) (added frames : List Fra
 abbrev pub HandsOn : Report → Report → Setup → List Frame → List Frame → Option (List ℕ) → Option (List ℕ) → Type 0
 HandsOn result report setup earlier later before after =
     ((result ≡ report) × WhereTold before after (λ old new. new ≡ old)) ⊎ IsCutShort result setup (earlier ++ later) (earlier ++ later) (length earlier) before after
+
+-- the output failed behind so many frames
+abbrev pub failed_at : ℕ → Report
+failed_at frames = record { status = statuses.WriteFailed; file = 0; line = 0; reason = 0; frames = frames }
+
+-- the summary was written and the report stays, or the output failed in it
+abbrev pub Sums : Report → Report → List ℕ → List ℕ → List ℕ → Type 0
+Sums result report text old new = ((result ≡ report) × (new ≡ old ++ text)) ⊎ ((result ≡ failed_at report.frames) × AppendsPart text old new)

@@ -1,5 +1,5 @@
 -- Which words the program accepts.
-use Rattle.std.specs.Prelude.{ℕ, List, [], ◌∷◌, ◌++◌, length, Bool, true, ◌&&◌, Option, Some, None, option_and_then, unwrap_or, nat_le, nat_eq, if◌then◌else◌, is_some, codes, drop}
+use Rattle.std.specs.Prelude.{ℕ, List, [], ◌∷◌, ◌++◌, length, true, ◌&&◌, Option, Some, None, option_and_then, unwrap_or, nat_le, nat_eq, if◌then◌else◌, codes, drop}
 use Rattle.std.specs.List.{starts_with}
 use Rattle.clap.specs.Walk.{Row, Rule, first_of, all_of}
 use Rattle.clap.specs.Simple.{App, new_app, new_rule, with_rule, matches_of}
@@ -8,7 +8,7 @@ use Rattle.clap.specs.Kinds.{Kinds}
 use Rattle.clap.specs.declared.builder.action.ArgAction.TheVariants as actions
 use Rattle.scenario.specs.Words.{digits}
 
--- what accepted words ask for: a number of workers, the name of the scenario's file, and the names of the FILEs
+-- what accepted words ask for: a number of workers, the scenario's word, and the names of the FILEs
 pub record Asked : Type 0 where
   pub workers : ℕ
   pub scenario : List ℕ
@@ -27,9 +27,9 @@ abbrev pub workers_said : Option (List ℕ) → Option ℕ
 workers_said None = Some 1
 workers_said (Some word) = workers_in word
 
--- the word is `drill:` and one to six decimal digits
-unfoldable pub is_drill : List ℕ → Bool
-is_drill word = starts_with nat_eq word (codes "drill:") && is_some (digits 10 6 (drop 6 word))
+-- the number of the generated scenario that a word asks for: `drill:` and one to six decimal digits; any other word is a file's name
+unfoldable pub drill_in : List ℕ → Option ℕ
+drill_in word = if starts_with nat_eq word (codes "drill:") then digits 10 6 (drop 6 word) else None
 
 -- the option with a value
 abbrev pub workers_rule : Rule
@@ -55,12 +55,12 @@ files_in rows = unwrap_or (all_of (codes "files") rows) []
 abbrev pub few_files : List (List ℕ) → Option (List (List ℕ))
 few_files files = if nat_le (length files) 100 then Some files else None
 
--- what a scenario that isn't generated, a number of workers and FILEs ask for
+-- what a scenario, a number of workers and FILEs ask for
 abbrev pub asked_with : Option (List ℕ) → Option ℕ → Option (List (List ℕ)) → Option Asked
 asked_with None workers files = None
 asked_with (Some scenario) None files = None
 asked_with (Some scenario) (Some workers) None = None
-asked_with (Some scenario) (Some workers) (Some files) = if is_drill scenario then None else Some (record { workers = workers; scenario = scenario; files = files })
+asked_with (Some scenario) (Some workers) (Some files) = Some (record { workers = workers; scenario = scenario; files = files })
 
 -- what the matches of the three ask for
 unfoldable pub asked_by : List Row → Option Asked
@@ -82,6 +82,11 @@ unless_faulty (kind ∷ more) rows = None
 unfoldable pub accepted_words : List (List ℕ) → Option Asked
 accepted_words words = unless_faulty (faults_at words) (matches_at words)
 
--- the words to open: the FILEs in order, and then SCENARIO
+-- the file that a scenario's word names, unless the scenario is generated
+abbrev pub file_unless : Option ℕ → List ℕ → List (List ℕ)
+file_unless None word = word ∷ []
+file_unless (Some k) word = []
+
+-- the words to open: the FILEs in order, and then SCENARIO; of a generated scenario the FILEs alone
 unfoldable pub words_to_open : Asked → List (List ℕ)
-words_to_open asked = asked.files ++ asked.scenario ∷ []
+words_to_open asked = asked.files ++ file_unless (drill_in asked.scenario) asked.scenario

@@ -5,10 +5,10 @@ ghost use Rattle.fsw_outside.specs.Files.{Content};
 ghost use Rattle.scenario.specs.Texts.{Text, Ended, Open, reading};
 ghost use Rattle.frame_exec.specs.Tables.{tables_fault};
 ghost use Rattle.frame_exec.specs.declared.loading.TablesFault.{TablesFault};
-ghost use Rattle.rehearsal.specs.Words.{Asked, accepted_words};
+ghost use Rattle.rehearsal.specs.Words.{Asked, drill_in, accepted_words};
 ghost use Rattle.rehearsal.specs.Files.{Refusal, AreTaken};
-ghost use Rattle.rehearsal.specs.Lines.{Rehearsed, FailsOn, Refuses, ReadsText};
-ghost use Rattle.rehearsal.specs.Outcome.{refused_read, HasCauses, Seen, GivesReads, IsRefusedAt, Rehearses};
+ghost use Rattle.rehearsal.specs.Lines.{Rehearsed, FailsOn, Refuses, ReadsText, IsDrill};
+ghost use Rattle.rehearsal.specs.Outcome.{drill_of, refused_read, HasCauses, Seen, GivesReads, IsRefusedAt, Rehearses};
 ghost use Rattle.rehearsal.specs.declared.report.Report.{Report};
 ghost use Rattle.rehearsal.specs.declared.report.Status.TheVariants as statuses;
 
@@ -75,6 +75,21 @@ pub fn first_line_decides()
         → (report.status ≡ statuses.ReadFailed) × (report.file ≡ 0) }
 {}
 
+/// The same of a generated scenario, which is drawn from k, where the shelf didn't fail. The first of these lines that holds decides,
+/// behind those of the FILEs and of their tables, and that of the output, which are said above of both kinds of scenario.
+pub fn drill_is_decided()
+    // The map refuses the read of an entry.
+    ensures unmapped { (report : Report) (asked : Asked) (seen : Seen) (wrote_before wrote_now : ℕ) (before after : Content) (files : List (List ℕ)) (k : ℕ) (new : List ℕ)
+        (file entry : ℕ) → Rehearsed report asked seen wrote_before wrote_now before after → report.status ≢ statuses.NoMemory → IsDrill k files asked seen before
+        → seen.held_now ≡ Some new → refused_read files (reading (drill_of k)).items ≡ Some (file, entry)
+        → (report.status ≡ statuses.FileRefused) × (report.file ≡ file) × (report.line ≡ entry) × (report.reason ≡ 10) }
+
+    // All went well.
+    ensures ended { (report : Report) (asked : Asked) (seen : Seen) (wrote_before wrote_now : ℕ) (before after : Content) (files : List (List ℕ)) (k : ℕ) (new : List ℕ)
+        → Rehearsed report asked seen wrote_before wrote_now before after → report.status ≢ statuses.NoMemory → IsDrill k files asked seen before
+        → seen.held_now ≡ Some new → GivesReads files (reading (drill_of k)) → wrote_now ≡ wrote_before → report.status ≡ statuses.Done }
+{}
+
 /// What some words ask for, computed from the definitions: the option anywhere before `--`, names behind it, the words that
 /// are refused.
 pub fn worked_words()
@@ -100,5 +115,13 @@ pub fn worked_words()
     ensures help { accepted_words (codes "--help" ∷ []) ≡ None }
     ensures short_help { accepted_words (codes "s" ∷ codes "-h" ∷ []) ≡ None }
     ensures version { accepted_words (codes "--version" ∷ []) ≡ None }
-    ensures drill { accepted_words (codes "drill:000007" ∷ []) ≡ None }
+    ensures drill { accepted_words (codes "drill:000007" ∷ []) ≡ Some (record { workers = 1; scenario = codes "drill:000007"; files = [] }) }
+    ensures drilled { drill_in (codes "drill:7") ≡ Some 7 }
+    ensures drilled_zeros { drill_in (codes "drill:000007") ≡ Some 7 }
+    ensures drilled_least { drill_in (codes "drill:0") ≡ Some 0 }
+    ensures drilled_most { drill_in (codes "drill:999999") ≡ Some 999999 }
+    ensures undrilled { drill_in (codes "drill:") ≡ None }
+    ensures undrilled_long { drill_in (codes "drill:1234567") ≡ None }
+    ensures undrilled_sign { drill_in (codes "drill:+7") ≡ None }
+    ensures undrilled_case { drill_in (codes "Drill:7") ≡ None }
 {}

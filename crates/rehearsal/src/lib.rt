@@ -1,6 +1,7 @@
 //! A rehearsal: the words, the scenario's text piece by piece, the run of its frames, and the report.
 #![tactic(auto)]
 
+mod drill;
 mod files;
 pub mod laws;
 mod rehearsing;

@@ -1,15 +1,16 @@
 //! A whole rehearsal, from the words to the report.
 
-ghost use Rattle.std.specs.Prelude.{◌≡◌, ◌≢◌, ℕ, ◌⊎◌, List, true, Some, None, IsTrue};
+ghost use Rattle.std.specs.Prelude.{◌≡◌, ◌≢◌, ℕ, ◌⊎◌, List, [], true, Some, None, IsTrue};
 ghost use Rattle.fsw_outside.specs.Told.{WhereTold};
 ghost use Rattle.fsw_outside.specs.Files.{file_named};
 ghost use Rattle.scenario.specs.Texts.{Ended, reading};
 ghost use Rattle.frame_exec.specs.Tables.{tables_fault};
-ghost use Rattle.rehearsal.specs.Words.{Asked, accepted_words, words_to_open};
+ghost use Rattle.rehearsal.specs.Words.{Asked, drill_in, accepted_words, words_to_open};
 ghost use Rattle.rehearsal.specs.Files.{AsksFor, AreTaken};
-ghost use Rattle.rehearsal.specs.Outcome.{GivesReads, HasCauses, Seen, Rehearses, Completes};
+ghost use Rattle.rehearsal.specs.Outcome.{drill_of, GivesReads, HasCauses, Seen, Rehearses, Completes, SumsUp, MayAskNothing};
 ghost use Rattle.rehearsal.specs.Report.{error_line, Tells};
 
+use crate::drill::run_drill;
 use crate::files::take_files;
 use crate::report::{Report, Status, tell};
 use crate::run::run_scenario;
@@ -20,7 +21,7 @@ use std::alloc::Global;
 use std::thread::Threads;
 use table_files::Files;
 
-/// Takes the FILEs in, and runs the scenario.
+/// Takes the FILEs in, and runs the scenario of the file that is named, or the generated one.
 fn carry_out<R: Threads + Sync, S: Shelf, O: Sink, G: Gate>(
     rt: &R,
     alloc: Global,
@@ -38,8 +39,8 @@ fn carry_out<R: Threads + Sync, S: Shelf, O: Sink, G: Gate>(
       held_now = O.held out.new;
     })) }
     ensures opening { WhereTold (S.told shelf.old) (S.told shelf.new) (λ before after. (count : ℕ) × AsksFor (words_to_open plan.now) count before after) }
-    ensures mark { S.mark shelf.new ≡ S.faults shelf.old }
-    ensures opened { result.status ≢ Status.ReadFailed → IsTrue (S.is_open shelf.new) }
+    ensures mark { (S.mark shelf.new ≡ S.faults shelf.old) ⊎ ((shelf.new ≡ shelf.old) × (words_to_open plan.now ≡ [])) }
+    ensures opened { result.status ≢ Status.ReadFailed → IsTrue (S.is_open shelf.new) ⊎ ((shelf.new ≡ shelf.old) × (words_to_open plan.now ≡ [])) }
     ensures file_refused { result.status ≡ Status.FileRefused → out.new ≡ out.old }
     ensures no_memory { result.status ≡ Status.NoMemory → (out.new ≡ out.old) × (result.frames ≡ 0) }
     ensures causes { HasCauses result.status (S.told shelf.new) (S.faults shelf.old) (S.faults shelf.new) (O.held out.new) (O.faults out.old) (O.faults out.new) }
@@ -56,17 +57,20 @@ fn carry_out<R: Threads + Sync, S: Shelf, O: Sink, G: Gate>(
             return Report::file_refused(fault.file, fault.entry, fault.reason + 10);
         }
     };
-    run_scenario(
-        rt,
-        alloc,
-        plan.workers(),
-        tables,
-        &files,
-        plan.scenario(),
-        shelf,
-        out,
-        gate,
-    )
+    match plan.drill() {
+        None => run_scenario(
+            rt,
+            alloc,
+            plan.workers(),
+            tables,
+            &files,
+            plan.scenario(),
+            shelf,
+            out,
+            gate,
+        ),
+        Some(k) => run_drill(rt, alloc, plan.workers(), tables, &files, k, out, gate),
+    }
 }
 
 /// Tells a report, and answers it.
@@ -79,7 +83,7 @@ fn told<E: Sink>(err: &mut E, report: Report) -> Report
 }
 
 /// Runs the rehearsal that the words ask for, and tells its report on `err`. The words are those after the program's
-/// name. The shelf holds the FILEs and the scenario's file, and `out` gets the log.
+/// name. The shelf holds the FILEs and the scenario's file, and `out` gets the log, or the summary of a generated scenario's.
 pub fn vigil<R: Threads + Sync, S: Shelf, O: Sink, E: Sink, G: Gate>(
     rt: &R,
     alloc: Global,
@@ -106,14 +110,15 @@ pub fn vigil<R: Threads + Sync, S: Shelf, O: Sink, E: Sink, G: Gate>(
           held_now = O.held out.new;
         })) }
 
-    // The FILEs in order and then the scenario's file are asked for, as far as it came, and nothing else; nothing is asked for after a
-    // fault, so that the count as the last opening began is the one at the start. Where memory ran out before the first opening nothing was.
+    // The FILEs in order and then the scenario's file, unless the scenario is generated, are asked for, as far as it came, and nothing else;
+    // nothing is asked for after a fault, so that the count as the last opening began is the one at the start. Where memory ran out before
+    // the first opening, or a scenario without FILEs is generated, nothing was.
     ensures opening { (asked : Asked) → accepted_words words.now ≡ Some asked → WhereTold (S.told shelf.old) (S.told shelf.new) (λ before after.
         (count : ℕ) × AsksFor (words_to_open asked) count before after) }
     ensures mark { (asked : Asked) → accepted_words words.now ≡ Some asked
-        → (S.mark shelf.new ≡ S.faults shelf.old) ⊎ ((shelf.new ≡ shelf.old) × (result.status ≡ Status.NoMemory)) }
+        → (S.mark shelf.new ≡ S.faults shelf.old) ⊎ ((shelf.new ≡ shelf.old) × MayAskNothing result.status asked) }
     ensures opened { (asked : Asked) → accepted_words words.now ≡ Some asked → result.status ≢ Status.ReadFailed
-        → IsTrue (S.is_open shelf.new) ⊎ ((shelf.new ≡ shelf.old) × (result.status ≡ Status.NoMemory)) }
+        → IsTrue (S.is_open shelf.new) ⊎ ((shelf.new ≡ shelf.old) × MayAskNothing result.status asked) }
 
     // Nothing is written where a FILE is refused or memory ran out.
     ensures file_refused { result.status ≡ Status.FileRefused → out.new ≡ out.old }
@@ -123,11 +128,17 @@ pub fn vigil<R: Threads + Sync, S: Shelf, O: Sink, E: Sink, G: Gate>(
     ensures causes { HasCauses result.status (S.told shelf.new) (S.faults shelf.old) (S.faults shelf.new) (O.held out.new) (O.faults out.old) (O.faults out.new) }
 
     // Files that can be taken and whose tables load, and a scenario that ends well and whose map gives their reads, are run to its end, or memory ran out, where neither object failed.
-    ensures complete { (asked : Asked) (files : List (List ℕ)) (bytes : List ℕ) → accepted_words words.now ≡ Some asked → tables_fault files ≡ None
+    ensures complete { (asked : Asked) (files : List (List ℕ)) (bytes : List ℕ) → accepted_words words.now ≡ Some asked → drill_in asked.scenario ≡ None → tables_fault files ≡ None
         → (reading (record { bytes = bytes; closed = true })).ending ≡ Ended → GivesReads files (reading (record { bytes = bytes; closed = true }))
         → S.faults shelf.new ≡ S.faults shelf.old → O.faults out.new ≡ O.faults out.old
         → WhereTold (S.told shelf.old) (S.told shelf.new) (λ before _. AreTaken before.files asked.files files → file_named before.files asked.scenario ≡ Some bytes
         → WhereTold (O.held out.old) (O.held out.new) (Completes result files (record { bytes = bytes; closed = true }))) }
+
+    // So are those of a generated scenario.
+    ensures complete_drill { (asked : Asked) (files : List (List ℕ)) (k : ℕ) → accepted_words words.now ≡ Some asked → drill_in asked.scenario ≡ Some k → tables_fault files ≡ None
+        → GivesReads files (reading (drill_of k)) → S.faults shelf.new ≡ S.faults shelf.old → O.faults out.new ≡ O.faults out.old
+        → WhereTold (S.told shelf.old) (S.told shelf.new) (λ before _. AreTaken before.files asked.files files
+        → WhereTold (O.held out.old) (O.held out.new) (SumsUp result files k)) }
 
     // The line of the report, or a part of it where `err` failed.
     ensures told { WhereTold (E.held err.old) (E.held err.new) (Tells (E.faults err.old) (E.faults err.new) (error_line result)) }

@@ -99,7 +99,7 @@ fn report_of(fault: OpenFault) -> Report
 }
 
 /// Reads the header of the text, and runs the frames behind it.
-fn run_open<'f, R: Threads + Sync, S: Source, O: Sink, G: Gate>(
+pub fn run_open<'f, R: Threads + Sync, S: Source, O: Sink, G: Gate>(
     rt: &R,
     alloc: Global,
     workers: u32,

@@ -14,9 +14,9 @@ fn words_of(alloc: Global, text: &str) -> Result<Words, Fail> {
     Ok(words)
 }
 
-/// Words, how many workers they ask for, the scenario's name, and the names of the FILEs, each behind a `/`; no workers where
+/// Words, how many workers they ask for, the scenario's word, and the names of the FILEs, each behind a `/`; no workers where
 /// they are refused.
-const WORDS: [(&str, u32, &str, &str); 28] = [
+const WORDS: [(&str, u32, &str, &str); 29] = [
     ("v1.txt", 1, "v1.txt", ""),
     ("", 1, "", ""),
     ("drill:", 1, "drill:", ""),
@@ -28,7 +28,8 @@ const WORDS: [(&str, u32, &str, &str); 28] = [
     ("--workers/17/v1.txt", 0, "", ""),
     ("--workers/+1/v1.txt", 0, "", ""),
     ("--workers/1/--workers", 0, "", ""),
-    ("drill:7", 0, "", ""),
+    ("drill:7", 1, "drill:7", ""),
+    ("drill:000007/a/--workers/16", 16, "drill:000007", "/a"),
     ("-", 1, "-", ""),
     ("v1.txt/a", 1, "v1.txt", "/a"),
     ("v1.txt/a/drill:7/", 1, "v1.txt", "/a/drill:7/"),

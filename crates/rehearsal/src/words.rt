@@ -5,7 +5,7 @@ ghost use Rattle.clap.specs.Matches.{found_of};
 ghost use Rattle.clap.specs.Values.{kind_of};
 ghost use Rattle.clap.specs.Walk.{rows_of};
 ghost use Rattle.clap.specs.Simple.{app_of};
-ghost use Rattle.rehearsal.specs.Words.{workers_in, workers_said, is_drill, vigil_command, files_in, few_files, asked_by, accepted_words};
+ghost use Rattle.rehearsal.specs.Words.{workers_in, workers_said, drill_in, vigil_command, files_in, few_files, asked_by, accepted_words};
 
 use clap::error::ErrorKind;
 use clap::{Arg, ArgAction, ArgMatches, Command, Error};
@@ -69,8 +69,8 @@ impl Words {
 /// How many FILEs there may be.
 const MOST_FILES: usize = 100;
 
-/// What accepted words ask for: how many workers, the name of the scenario's file, and the names of the FILEs, of which there
-/// are at most 100. It is seen as what the words ask for.
+/// What accepted words ask for: how many workers, the scenario's word, which is `drill:K` or the name of its file, and the
+/// names of the FILEs, of which there are at most 100. It is seen as what the words ask for.
 #[derive(Drop)]
 pub struct Plan {
     workers: u32,
@@ -98,11 +98,19 @@ impl Plan {
         self.workers
     }
 
-    /// The name of the scenario's file.
+    /// The scenario's word: the name of its file, unless it is generated.
     pub fn scenario(&self) -> &str
         ensures { result.now ≡ self.now.scenario }
     {
         self.scenario.as_str()
+    }
+
+    /// The number of the generated scenario, at most 999,999; None where the scenario's word names a file.
+    pub fn drill(&self) -> Option<u32>
+        ensures value { result ≡ drill_in self.now.scenario }
+        ensures range { IfSome result (λ k. k ≤ 999999) }
+    {
+        drill_in(self.scenario())
     }
 
     /// The names of the FILEs, in order.
@@ -173,9 +181,6 @@ fn plan_of(alloc: Global, matches: &ArgMatches<'_>) -> Result<Option<Plan>, NoMe
     let Some(scenario) = matches.get_str("scenario") else {
         return Ok(None);
     };
-    if is_drill(scenario) {
-        return Ok(None);
-    }
     let Some(workers) = workers_said(matches.get_str("workers")) else {
         return Ok(None);
     };
@@ -252,14 +257,18 @@ fn behind_six(bytes: &[u8]) -> &[u8]
     &bytes[6..]
 }
 
-/// Whether a word asks for a generated scenario.
-#[tactic(auto, unfolding(crate::specs::Words::is_drill))]
-fn is_drill(word: &str) -> bool
-    ensures { result ≡ is_drill word.now }
+/// The number of the generated scenario that a word asks for.
+#[tactic(auto, unfolding(crate::specs::Words::drill_in))]
+fn drill_in(word: &str) -> Option<u32>
+    ensures value { result ≡ drill_in word.now }
+    ensures range { IfSome result (λ k. k ≤ 999999) }
 {
     let bytes = word.as_bytes();
     if !bytes.starts_with(b"drill:".as_slice()) {
-        return false;
+        return None;
     }
-    digits(10, 6, behind_six(bytes)).is_some()
+    let Some(number) = digits(10, 6, behind_six(bytes)) else {
+        return None;
+    };
+    Some(number as u32)
 }

@@ -8,10 +8,10 @@ ghost use Rattle.fsw_outside.specs.Told.{WhereTold};
 ghost use Rattle.fsw_outside.specs.Files.{file_named};
 ghost use Rattle.scenario.specs.Texts.{Ended, reading};
 ghost use Rattle.frame_exec.specs.Tables.{tables_fault};
-ghost use Rattle.rehearsal.specs.Words.{Asked, accepted_words};
+ghost use Rattle.rehearsal.specs.Words.{Asked, drill_in, accepted_words};
 ghost use Rattle.rehearsal.specs.Report.{error_line, Tells};
 ghost use Rattle.rehearsal.specs.Files.{AreTaken};
-ghost use Rattle.rehearsal.specs.Outcome.{GivesReads, HasCauses, Rehearses, Completes};
+ghost use Rattle.rehearsal.specs.Outcome.{drill_of, GivesReads, HasCauses, Rehearses, Completes, SumsUp};
 ghost use Rattle.vigil.specs.Ends.{exit_number};
 
 use fsw_outside::{FileShelf, NoMemory, OpenGate, Shelf, Sink, StdSink};
@@ -76,11 +76,15 @@ fn rehearse_given<R: Threads + Sync, S: Shelf, O: Sink, E: Sink>(
           held_before = O.held out.old;
           held_now = O.held out.new;
         }))) }
-    ensures complete { IfOk given (λ texts. (asked : Asked) (files : List (List ℕ)) (bytes : List ℕ) → accepted_words (drop 1 (map string_bytes (into_iter_items texts))) ≡ Some asked → tables_fault files ≡ None
-        → (reading (record { bytes = bytes; closed = true })).ending ≡ Ended → GivesReads files (reading (record { bytes = bytes; closed = true }))
+    ensures complete { IfOk given (λ texts. (asked : Asked) (files : List (List ℕ)) (bytes : List ℕ) → accepted_words (drop 1 (map string_bytes (into_iter_items texts))) ≡ Some asked
+        → drill_in asked.scenario ≡ None → tables_fault files ≡ None → (reading (record { bytes = bytes; closed = true })).ending ≡ Ended → GivesReads files (reading (record { bytes = bytes; closed = true }))
         → S.faults shelf.new ≡ S.faults shelf.old → O.faults out.new ≡ O.faults out.old
         → WhereTold (S.told shelf.old) (S.told shelf.new) (λ before _. AreTaken before.files asked.files files → file_named before.files asked.scenario ≡ Some bytes
         → WhereTold (O.held out.old) (O.held out.new) (Completes result files (record { bytes = bytes; closed = true })))) }
+    ensures complete_drill { IfOk given (λ texts. (asked : Asked) (files : List (List ℕ)) (k : ℕ) → accepted_words (drop 1 (map string_bytes (into_iter_items texts))) ≡ Some asked
+        → drill_in asked.scenario ≡ Some k → tables_fault files ≡ None → GivesReads files (reading (drill_of k))
+        → S.faults shelf.new ≡ S.faults shelf.old → O.faults out.new ≡ O.faults out.old
+        → WhereTold (S.told shelf.old) (S.told shelf.new) (λ before _. AreTaken before.files asked.files files → WhereTold (O.held out.old) (O.held out.new) (SumsUp result files k))) }
     ensures no_memory { result.status ≡ Status.NoMemory → (out.new ≡ out.old) × (result.frames ≡ 0) }
     ensures causes { HasCauses result.status (S.told shelf.new) (S.faults shelf.old) (S.faults shelf.new) (O.held out.new) (O.faults out.old) (O.faults out.new) }
     ensures told { WhereTold (E.held err.old) (E.held err.new) (Tells (E.faults err.old) (E.faults err.new) (error_line result)) }

@@ -1,15 +1,12 @@
-use Rattle.std.proofs.Common.{◌≡◌, ℕ, List, Option, Some, sym, ◌∙◌, ap, ap₂}
+use Rattle.std.proofs.Common.{ℕ, List, Option, Some, sym, ◌∙◌, ap, ap₂}
 use Rattle.clap.specs.Matches.{found_of}
 use Rattle.clap.specs.Walk.{rows_of}
 use Rattle.rehearsal.specs.Words.{Asked, asked_with, few_files, files_in}
-use Rattle.rehearsal.proofs.Matched.{with_scenario, workers_are, drill_is_refused, all_is_asked}
+use Rattle.rehearsal.proofs.Matched.{with_scenario, workers_are}
 use Rattle.rehearsal.proofs.words.plan_of.Goals as goal
 
 pub returns-in_default : goal.returns-in_default
 returns-in_default c = with_scenario (found_of c.args.matches.now) _ c.in_default.ensures
-
-pub returns-then-is_drill : goal.returns-then-is_drill
-returns-then-is_drill c = with_scenario (found_of c.args.matches.now) _ c.in-Some.ensures ∙ drill_is_refused c.in-Some.scenario.now _ _ (sym c.is_drill.ensures ∙ c.if-is_drill.true)
 
 pub returns-in_default-workers_said : goal.returns-in_default-workers_said
 returns-in_default-workers_said c =
@@ -26,5 +23,4 @@ returns c =
     let made : List ℕ → Option Asked = λ scenario. Some (record { workers = c.in-Some-workers_said.workers; scenario = scenario; files = c.in-Some-files.files }) in
     with_scenario (found_of c.args.matches.now) _ c.in-Some.ensures
     ∙ ap₂ (asked_with (Some c.in-Some.scenario.now)) (workers_are (found_of c.args.matches.now) _ _ c.get_str-2.ensures c.in-Some-workers_said.ensures.value) (c.in_ok-files.ensures.value ∙ c.in-Some-files.is)
-    ∙ all_is_asked c.in-Some.scenario.now c.in-Some-workers_said.workers c.in-Some-files.files (sym c.is_drill.ensures ∙ c.if-is_drill.false)
     ∙ ap made (sym c.in_ok-scenario.ensures.ok)
