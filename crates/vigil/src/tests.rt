@@ -1,6 +1,7 @@
 //! Whole rehearsals over memory.
 
 mod checksums;
+mod drills;
 mod dwell;
 mod examples;
 mod faults;

@@ -150,7 +150,7 @@ fn maps_are_refused_at_start(rt: HostRuntime) -> Result<(), Fail> {
     Ok(())
 }
 
-const REFUSED_WORDS: [&[&str]; 18] = [
+const REFUSED_WORDS: [&[&str]; 16] = [
     &[],
     &["--workers", "0", "s"],
     &["--workers", "17", "s"],
@@ -166,8 +166,6 @@ const REFUSED_WORDS: [&[&str]; 18] = [
     &["s", "-h"],
     &["--version"],
     &["s", "-x"],
-    &["drill:7"],
-    &["--workers", "1", "drill:000007"],
     &["--workers", "1", "s", "file", "--workers"],
 ];
 
