@@ -88,6 +88,12 @@ impl<S> Slot<S> {
             return;
         }
         *stays = false;
+        // The place of the last one is written over, since filling an empty place copies the state twice.
+        if let Some(state) = next {
+            *state = *self.state;
+            state.advance(reads, self.commands.packets(), out, beside);
+            return;
+        }
         let state = next.insert(*self.state);
         state.advance(reads, self.commands.packets(), out, beside);
     }
