@@ -8,6 +8,7 @@ mod faults;
 mod files;
 mod given;
 mod health;
+mod hostile;
 mod lengths;
 mod loads;
 mod refusals;

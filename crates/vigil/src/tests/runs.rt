@@ -38,6 +38,15 @@ pub struct Ran {
     pub err: MemSink,
 }
 
+// These words, as the program takes them.
+fn words_of(alloc: Global, words: &[&str]) -> Result<Words, NoMemory> {
+    let mut given = Words::open(alloc)?;
+    for word in words.iter() {
+        given.add(word)?;
+    }
+    Ok(given)
+}
+
 /// Runs these words over a shelf whose one file `s` is this text.
 pub fn run<R: Threads + Sync + AllocGlobal>(
     rt: &R,
@@ -56,7 +65,7 @@ fn nth<'a>(files: &[&'a [u8]], place: usize) -> &'a [u8] {
     }
 }
 
-/// Runs these words over a shelf whose file `s` is this text, and whose files `a` to `h` are the first eight of these.
+/// Runs these words over a shelf whose file `s` is this text, and whose files `a` to `n` are the first fourteen of these.
 pub fn run_beside<R: Threads + Sync + AllocGlobal>(
     rt: &R,
     words: &[&str],
@@ -78,10 +87,7 @@ pub fn run_through<R: Threads + Sync + AllocGlobal, G: Gate>(
 ) -> Result<Ran, NoMemory> {
     let alloc = rt.alloc();
     let most = outside.most.max(1);
-    let mut given = Words::open(alloc)?;
-    for word in words.iter() {
-        given.add(word)?;
-    }
+    let given = words_of(alloc, words)?;
     let mut shelf = MemShelf::short(alloc, outside.shelf, most)?;
     shelf.put("s", text.as_bytes())?;
     shelf.put("a", nth(files, 0))?;
@@ -92,6 +98,12 @@ pub fn run_through<R: Threads + Sync + AllocGlobal, G: Gate>(
     shelf.put("f", nth(files, 5))?;
     shelf.put("g", nth(files, 6))?;
     shelf.put("h", nth(files, 7))?;
+    shelf.put("i", nth(files, 8))?;
+    shelf.put("j", nth(files, 9))?;
+    shelf.put("k", nth(files, 10))?;
+    shelf.put("l", nth(files, 11))?;
+    shelf.put("m", nth(files, 12))?;
+    shelf.put("n", nth(files, 13))?;
     let mut out = MemSink::short(alloc, outside.out, ROOM, most)?;
     let mut err = MemSink::short(alloc, outside.err, 256, most)?;
     let report = vigil(rt, alloc, &given, &mut shelf, &mut out, &mut err, gate);
