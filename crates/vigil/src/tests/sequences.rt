@@ -29,7 +29,7 @@ struct Load {
     rehearsal: Rehearsal<'static>,
 }
 
-const LOADS: [Load; 17] = [
+const LOADS: [Load; 20] = [
     // ats_leaves_before_rts
     Load {
         header: HEADER,
@@ -468,7 +468,7 @@ const LOADS: [Load; 17] = [
             ],
         },
     },
-    // Refusals.
+    // Refusals where no sequence runs.
     Load {
         header: HEADER,
         first: &[(1, 1000, MM_NOOP)],
@@ -512,6 +512,98 @@ const LOADS: [Load; 17] = [
                 Line::Text("2 pkt 189FC000000100B9"),
                 Line::Event("SC", 2, 2, 103, 2),
                 Line::Event("CS", 3, 3, 16, 2),
+            ],
+        },
+    },
+    // A wrong checksum at the end of a relative sequence stops it, and no end is told.
+    Load {
+        header: HEADER,
+        first: &[],
+        second: &[],
+        relative: [&[(0, MM_NOOP), (0, BAD_NOOP)], &[], &[]],
+        rehearsal: Rehearsal {
+            frames: 3,
+            parts: &[&[]],
+            lines: &[
+                Line::Text("0 pkt 1888C000000100AE"),
+                Line::Event("SC", 0, 0, 102, 3),
+                Line::Event("MM", 1, 1, 16, 2),
+            ],
+        },
+    },
+    // Jumps to a time before all tags, to a tag, three in a frame, the first of them back, and to one behind all tags.
+    Load {
+        header: HEADER,
+        first: &[
+            (1, 1001, MM_NOOP),
+            (2, 1003, MD_NOOP),
+            (3, 1003, CS_NOOP),
+            (4, 1005, MD_NOOP),
+            (5, 1006, MM_NOOP),
+        ],
+        second: &[],
+        relative: [&[], &[], &[]],
+        rehearsal: Rehearsal {
+            frames: 8,
+            parts: &[&[
+                (0, "send 18A9C0000003028E0001\n"),
+                (1, "send 18A9C00000050966000003E7\n"),
+                (2, "send 18A9C0000005096A000003EB\n"),
+                (
+                    3,
+                    "send 18A9C00000050968000003E9\nsend 18A9C0000005096D000003EC\nsend 18A9C0000005096F000003EE\n",
+                ),
+                (4, "send 18A9C0000005096E000003EF\n"),
+            ]],
+            lines: &[
+                Line::Event("SC", 1, 0, 18, 2),
+                Line::Text("1 pkt 1888C000000100AE"),
+                Line::Event("SC", 2, 1, 25, 2),
+                Line::Event("MM", 2, 2, 16, 2),
+                Line::Event("SC", 3, 3, 25, 2),
+                Line::Text("3 pkt 1890C000000100B6"),
+                Line::Text("3 pkt 189FC000000100B9"),
+                Line::Event("CS", 4, 4, 16, 2),
+                Line::Event("SC", 4, 5, 25, 2),
+                Line::Event("SC", 4, 6, 25, 2),
+                Line::Event("SC", 4, 7, 25, 2),
+                Line::Event("MD", 4, 8, 16, 2),
+                Line::Event("SC", 5, 9, 7, 3),
+                Line::Text("6 pkt 1888C000000100AE"),
+                Line::Event("SC", 6, 10, 103, 2),
+                Line::Event("MM", 7, 11, 16, 2),
+            ],
+        },
+    },
+    // Refusals while sequences run, and what is accepted where none does.
+    Load {
+        header: HEADER,
+        first: &[(1, 1005, MM_NOOP)],
+        second: &[(1, 1000, CS_NOOP)],
+        relative: [&[], &[(9, MM_NOOP)], &[]],
+        rehearsal: Rehearsal {
+            frames: 12,
+            parts: &[&[(
+                0,
+                "send 18A9C0000003028F0000\nsend 18A9C0000003028E0001\nsend 18A9C0000003028D0002\nsend 18A9C00000010887\nsend 18A9C0000005096F000003EE\nsend 18A9C000000307880002\nsend 18A9C0000003048B0002\nsend 18A9C0000003048B0002\nsend 18A9C000000306890002\nsend 18A9C0000003048B0002\nsend 18A9C0000003068B0000\nsend 18A9C000000307CB0041\nsend 18A9C0000003058B0003\nsend 18A9C0000003058A0002\nsend 18A9C0000001038C\nsend 18A9C0000001038C\n",
+            )]],
+            lines: &[
+                Line::Event("SC", 1, 0, 4, 3),
+                Line::Event("SC", 1, 1, 18, 2),
+                Line::Event("SC", 1, 2, 6, 3),
+                Line::Event("SC", 1, 3, 7, 3),
+                Line::Event("SC", 1, 4, 7, 3),
+                Line::Event("SC", 1, 5, 23, 2),
+                Line::Event("SC", 1, 6, 20, 2),
+                Line::Event("SC", 1, 7, 6, 3),
+                Line::Event("SC", 1, 8, 22, 2),
+                Line::Event("SC", 1, 9, 9, 3),
+                Line::Event("SC", 1, 10, 4, 3),
+                Line::Event("SC", 1, 11, 4, 3),
+                Line::Event("SC", 1, 12, 21, 2),
+                Line::Event("SC", 1, 13, 21, 2),
+                Line::Event("SC", 1, 14, 19, 2),
+                Line::Event("SC", 1, 15, 19, 2),
             ],
         },
     },
