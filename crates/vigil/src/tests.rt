@@ -1,5 +1,6 @@
 //! Whole rehearsals over memory.
 
+mod all_sequences;
 mod checksums;
 mod drills;
 mod dwell;

@@ -624,8 +624,8 @@ fn loads_are_rehearsed(rt: HostRuntime) -> Result<(), Fail> {
     Ok(())
 }
 
-// Appends the line of a packet that is sent as it is stored.
-fn push_stored(log: &mut String, frame: u32, packet: &[u8]) -> Result<(), AllocError> {
+/// Appends the line of a packet that is sent as it is stored.
+pub fn push_stored(log: &mut String, frame: u32, packet: &[u8]) -> Result<(), AllocError> {
     write!(log, "{frame} pkt ")?;
     for byte in packet.iter() {
         write!(log, "{byte:02X}")?;
@@ -633,8 +633,8 @@ fn push_stored(log: &mut String, frame: u32, packet: &[u8]) -> Result<(), AllocE
     write!(log, "\n")
 }
 
-// A command of so many bytes to an application that isn't there, which holds a number; its checksum is right.
-fn unread(alloc: Global, number: u16, size: u16) -> Result<Vec<u8>, Fail> {
+/// A command of so many bytes to an application that isn't there, which holds a number; its checksum is right.
+pub fn unread(alloc: Global, number: u16, size: u16) -> Result<Vec<u8>, Fail> {
     let mut packet = Vec::new(alloc);
     let [high, low] = number.to_be_bytes();
     let [above, below] = size.saturating_sub(7).to_be_bytes();
