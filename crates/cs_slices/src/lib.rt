@@ -20,6 +20,7 @@ mod verdicts;
 pub use loading::load_segments;
 pub use segments::{Segment, Segments};
 pub use state::Cs;
+pub use step::MOST_ITEMS;
 
 #[cfg(test)]
 mod tests;

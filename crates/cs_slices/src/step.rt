@@ -31,6 +31,9 @@ use commands::{Commanded, handle_all};
 use memory_window::Window;
 use packet_forms::{Packet, event};
 
+/// How many items a wakeup gives at most.
+pub const MOST_ITEMS: u32 = 33;
+
 // The tables that CS reads.
 #[derive(Clone, Copy)]
 struct Tables<'a> {
@@ -113,7 +116,7 @@ impl Cs {
     )
         requires commands { length commands.now ≤ 16 }
         requires empty { out.old.items ≡ [] }
-        requires room { 33 ≤ out.old.room }
+        requires room { MOST_ITEMS ≤ out.old.room }
         requires started { (history : List Input) × Stands eeprom.now memory.now history self.now }
         requires gives { SegmentsGiven (regions_of (seen window).areas) eeprom.now × SegmentsGiven (regions_of (seen window).areas) memory.now }
         ensures stands { (history : List Input) → Stands eeprom.now memory.now history self.now
@@ -121,7 +124,7 @@ impl Cs {
         ensures items { (history : List Input) → Stands eeprom.now memory.now history self.now
             → out.new.items ≡ cs_items eeprom.now memory.now history (input_of now commands.now window.entry) }
         ensures counted { AllPass is_item_counted out.new.items }
-        ensures few { length out.new.items ≤ 33 }
+        ensures few { length out.new.items ≤ MOST_ITEMS }
         ensures room { out.new.room ≡ out.old.room }
     {
         *next = *self;
@@ -140,7 +143,7 @@ impl Cs {
     )
         requires commands { length commands.now ≤ 16 }
         requires empty { out.old.items ≡ [] }
-        requires room { 33 ≤ out.old.room }
+        requires room { MOST_ITEMS ≤ out.old.room }
         requires started { (history : List Input) × Stands eeprom.now memory.now history self.old }
         requires gives { SegmentsGiven (regions_of (seen window).areas) eeprom.now × SegmentsGiven (regions_of (seen window).areas) memory.now }
         ensures stands { (history : List Input) → Stands eeprom.now memory.now history self.old
@@ -148,7 +151,7 @@ impl Cs {
         ensures items { (history : List Input) → Stands eeprom.now memory.now history self.old
             → out.new.items ≡ cs_items eeprom.now memory.now history (input_of now commands.now window.entry) }
         ensures counted { AllPass is_item_counted out.new.items }
-        ensures few { length out.new.items ≤ 33 }
+        ensures few { length out.new.items ≤ MOST_ITEMS }
         ensures room { out.new.room ≡ out.old.room }
     {
         let tables = Tables { eeprom, memory };

@@ -4,7 +4,7 @@ ghost use Rattle.cs_slices.specs.Given.{SegmentsGiven};
 ghost use Rattle.cs_slices.specs.Wakeups.{Input, input_of};
 ghost use Rattle.cs_slices.specs.State.{Stands};
 
-use crate::{Cs, Segment, Segments, laws, load_segments};
+use crate::{Cs, MOST_ITEMS, Segment, Segments, laws, load_segments};
 use bus_pipes::{Out, Outbox};
 use memory_window::{Kind, Map, Ram, Region};
 use packet_forms::{Name, Packet, command, event, telemetry};
@@ -54,7 +54,7 @@ fn frame(
     out: &mut Outbox,
 ) -> Cs
     requires commands { length commands.now ≤ 16 }
-    requires room { 33 ≤ out.old.room }
+    requires room { MOST_ITEMS ≤ out.old.room }
     requires started { (history : List Input) × Stands eeprom.now memory.now history cs }
     requires gives { SegmentsGiven (regions_of ram.now.areas) eeprom.now × SegmentsGiven (regions_of ram.now.areas) memory.now }
     ensures started { (history : List Input) × Stands eeprom.now memory.now history result }
@@ -76,7 +76,7 @@ fn quiet(
     frames: u32,
     out: &mut Outbox,
 ) -> Cs
-    requires room { 33 ≤ out.old.room }
+    requires room { MOST_ITEMS ≤ out.old.room }
     requires started { (history : List Input) × Stands eeprom.now memory.now history cs }
     requires gives { SegmentsGiven (regions_of ram.now.areas) eeprom.now × SegmentsGiven (regions_of ram.now.areas) memory.now }
     ensures started { (history : List Input) × Stands eeprom.now memory.now history result }
@@ -171,7 +171,7 @@ fn begins_anew(
     on: Packet,
     out: &mut Outbox,
 )
-    requires room { 33 ≤ out.old.room }
+    requires room { MOST_ITEMS ≤ out.old.room }
     requires gives { SegmentsGiven (regions_of ram.now.areas) eeprom.now × SegmentsGiven (regions_of ram.now.areas) memory.now }
     ensures { out.new.room ≡ out.old.room }
 {

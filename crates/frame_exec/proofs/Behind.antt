@@ -6,6 +6,7 @@ use Rattle.fsw_outside.specs.Told.{WhereTold}
 use Rattle.packet_log.specs.Blocks.{Waiting, Notes, Puts, empty_block, late_in, ends_from, joined, tells}
 use Rattle.packet_log.proofs.Cuts.{ends_none, ends_more}
 use Rattle.scenario.specs.FrameLists.{Frame}
+use Rattle.frame_exec.specs.declared.bench.TheConstants.{DROPS}
 use Rattle.frame_exec.specs.declared.bench.Bench.{Bench}
 use Rattle.fsw_outside.specs.TellingLaws.{told_then}
 use Rattle.frame_exec.specs.Runs.{Setup, State, run_of, frame_lines, log_of}
@@ -19,7 +20,7 @@ nothing_noted : (setup : Setup) (earlier : List Frame) → Notes (ends_from 0 (l
 nothing_noted setup earlier = rw (behind_none setup earlier, ends_none 0) notes_begin
 
 -- the lines that wait are no part of what a run has come to
-pub has_beside : (b : Bench) (block : Waiting) (room : b.drops.room ≡ 1525) (jobs : b.crew.jobs ≡ 5) (s : State) → Has b s → Has (record b { block = block; drops_room = room; five = jobs }) s
+pub has_beside : (b : Bench) (block : Waiting) (room : b.drops.room ≡ DROPS) (jobs : b.crew.jobs ≡ 5) (s : State) → Has b s → Has (record b { block = block; drops_room = room; five = jobs }) s
 has_beside b block room jobs s has = record {
   number = has.number;
   tables = has.tables;
@@ -29,7 +30,7 @@ has_beside b block room jobs s has = record {
   memory = has.memory;
 }
 
-pub ready_beside : (b : Bench) (block : Waiting) (room : b.drops.room ≡ 1525) (jobs : b.crew.jobs ≡ 5) → IsReady b → IsReady (record b { block = block; drops_room = room; five = jobs })
+pub ready_beside : (b : Bench) (block : Waiting) (room : b.drops.room ≡ DROPS) (jobs : b.crew.jobs ≡ 5) → IsReady b → IsReady (record b { block = block; drops_room = room; five = jobs })
 ready_beside b block room jobs ready = record { cs = ready.cs; sc = ready.sc; md = ready.md }
 
 -- a bench whose block is empty stands for all frames as earlier ones

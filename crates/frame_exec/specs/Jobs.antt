@@ -7,6 +7,11 @@ use Rattle.memory_window.specs.declared.operations.MemOp.{MemOp}
 use Rattle.md_dwell.specs.State.{AllGiven}
 use Rattle.sc_sequences.specs.State.{IsReady as ScIsReady}
 use Rattle.mm_core.specs.Step.{mm_operations}
+use Rattle.md_dwell.specs.declared.step.TheConstants.{MOST_ITEMS as md_most}
+use Rattle.cs_slices.specs.declared.step.TheConstants.{MOST_ITEMS as cs_most}
+use Rattle.sc_sequences.specs.declared.step.TheConstants.{MOST_ITEMS as sc_most}
+use Rattle.mm_core.specs.declared.step.TheConstants.{MOST_ITEMS as mm_most}
+use Rattle.hs_monitors.specs.declared.step.TheConstants.{MOST_ITEMS as hs_most}
 use Rattle.frame_exec.specs.declared.left.Left.{Left}
 use Rattle.scenario.specs.declared.frame.App.{App}
 use Rattle.scenario.specs.declared.frame.App.TheVariants as names
@@ -30,15 +35,15 @@ pub record Operates (loads : List (ℕ × List ℕ)) (held : Bool) (time : ℕ) 
 
 -- what the wakeup of an application leaves in its scratch, by what the wakeups of the frame read
 abbrev pub Leaves : App → Seen → Left → Type 0
-Leaves names.Hs s left = Gives (λ t. s.tables.hs ≡ t.hs) hs_stands hs_gives 1104 s.hs.held (hs_reads s.time s.hs.commands s.events s.counters) s.hs.state.value left.stays left.hs left.out.items
+Leaves names.Hs s left = Gives (λ t. s.tables.hs ≡ t.hs) hs_stands hs_gives hs_most s.hs.held (hs_reads s.time s.hs.commands s.events s.counters) s.hs.state.value left.stays left.hs left.out.items
 Leaves names.Cs s left =
-    Gives (λ t. (s.tables.eeprom ≡ t.eeprom) × (s.tables.memory ≡ t.memory)) cs_stands cs_gives 33 s.cs.held (cs_reads s.time s.cs.commands s.memory) s.cs.state.value left.stays left.cs left.out.items
+    Gives (λ t. (s.tables.eeprom ≡ t.eeprom) × (s.tables.memory ≡ t.memory)) cs_stands cs_gives cs_most s.cs.held (cs_reads s.time s.cs.commands s.memory) s.cs.state.value left.stays left.cs left.out.items
     × CsIsReady (regions_of s.memory.areas) s.tables.eeprom s.tables.memory (next_of left.stays left.cs s.cs.state.value)
 Leaves names.Sc s left =
-    Gives (λ begin. s.tables.sc ≡ begin.tables) sc_stands sc_gives 32 s.sc.held (sc_reads s.time s.sc.commands) s.sc.state.value left.stays left.sc left.out.items × ScIsReady s.tables.sc (next_of left.stays left.sc s.sc.state.value)
+    Gives (λ begin. s.tables.sc ≡ begin.tables) sc_stands sc_gives sc_most s.sc.held (sc_reads s.time s.sc.commands) s.sc.state.value left.stays left.sc left.out.items × ScIsReady s.tables.sc (next_of left.stays left.sc s.sc.state.value)
 Leaves names.Mm s left =
-    Gives {Setup = TableSet} (λ t. Unit {0}) mm_stands mm_gives 272 s.mm.held (mm_reads (loads_of s.files) s.time s.mm.commands s.memory) s.mm.state.value left.stays left.mm left.out.items
+    Gives {Setup = TableSet} (λ t. Unit {0}) mm_stands mm_gives mm_most s.mm.held (mm_reads (loads_of s.files) s.time s.mm.commands s.memory) s.mm.state.value left.stays left.mm left.out.items
     × Operates (loads_of s.files) s.mm.held s.time s.mm.commands s.memory left.ops.value
 Leaves names.Md s left =
-    Gives {Setup = TableSet} (λ t. Unit {0}) md_stands md_gives 20 s.md.held (md_reads s.time s.md.commands s.memory) s.md.state.value left.stays left.md left.out.items
+    Gives {Setup = TableSet} (λ t. Unit {0}) md_stands md_gives md_most s.md.held (md_reads s.time s.md.commands s.memory) s.md.state.value left.stays left.md left.out.items
     × AllGiven (regions_of s.memory.areas) (next_of left.stays left.md s.md.state.value)

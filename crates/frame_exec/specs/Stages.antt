@@ -18,6 +18,11 @@ use Rattle.scenario.specs.declared.frame.App.{App}
 use Rattle.scenario.specs.declared.frame.App.TheVariants as names
 use Rattle.scenario.specs.declared.frame.Upset.{Upset}
 use Rattle.scenario.specs.FrameLists.{Frame}
+use Rattle.md_dwell.specs.declared.step.TheConstants.{MOST_ITEMS as md_most}
+use Rattle.cs_slices.specs.declared.step.TheConstants.{MOST_ITEMS as cs_most}
+use Rattle.sc_sequences.specs.declared.step.TheConstants.{MOST_ITEMS as sc_most}
+use Rattle.mm_core.specs.declared.step.TheConstants.{MOST_ITEMS as mm_most}
+use Rattle.hs_monitors.specs.declared.step.TheConstants.{MOST_ITEMS as hs_most}
 use Rattle.frame_exec.specs.declared.bench.Bench.{Bench}
 use Rattle.frame_exec.specs.Tables.{TableSet}
 use Rattle.frame_exec.specs.Sending.{is_same, upset_by, sent_of, packet_in}
@@ -130,14 +135,14 @@ pub record AreWoken (counters : List Counter) (old new : Bench) : Type 0 where
   pub run : IsSameRun old new
   pub slots : KeepsSlots old new
   pub five : length new.crew.results ≡ 5
-  pub hs : HasLeft new 0 (λ left. Gives (λ t. old.tables.hs ≡ t.hs) hs_stands hs_gives 1104 old.hs.held (hs_reads (time_of old) old.hs.commands old.events counters) old.hs.state.value left.stays left.hs left.out.items)
-  pub cs : HasLeft new 1 (λ left. Gives (λ t. (old.tables.eeprom ≡ t.eeprom) × (old.tables.memory ≡ t.memory)) cs_stands cs_gives 33 old.cs.held (cs_reads (time_of old) old.cs.commands old.ram) old.cs.state.value left.stays left.cs left.out.items
+  pub hs : HasLeft new 0 (λ left. Gives (λ t. old.tables.hs ≡ t.hs) hs_stands hs_gives hs_most old.hs.held (hs_reads (time_of old) old.hs.commands old.events counters) old.hs.state.value left.stays left.hs left.out.items)
+  pub cs : HasLeft new 1 (λ left. Gives (λ t. (old.tables.eeprom ≡ t.eeprom) × (old.tables.memory ≡ t.memory)) cs_stands cs_gives cs_most old.cs.held (cs_reads (time_of old) old.cs.commands old.ram) old.cs.state.value left.stays left.cs left.out.items
       × CsIsReady (regions_of old.ram.areas) old.tables.eeprom old.tables.memory (next_of left.stays left.cs old.cs.state.value))
-  pub sc : HasLeft new 2 (λ left. Gives (λ begin. old.tables.sc ≡ begin.tables) sc_stands sc_gives 32 old.sc.held (sc_reads (time_of old) old.sc.commands) old.sc.state.value left.stays left.sc left.out.items
+  pub sc : HasLeft new 2 (λ left. Gives (λ begin. old.tables.sc ≡ begin.tables) sc_stands sc_gives sc_most old.sc.held (sc_reads (time_of old) old.sc.commands) old.sc.state.value left.stays left.sc left.out.items
       × ScIsReady old.tables.sc (next_of left.stays left.sc old.sc.state.value))
-  pub mm : HasLeft new 3 (λ left. Gives {Setup = TableSet} (λ t. Unit {0}) mm_stands mm_gives 272 old.mm.held (mm_reads (loads_in old) (time_of old) old.mm.commands old.ram) old.mm.state.value left.stays left.mm left.out.items
+  pub mm : HasLeft new 3 (λ left. Gives {Setup = TableSet} (λ t. Unit {0}) mm_stands mm_gives mm_most old.mm.held (mm_reads (loads_in old) (time_of old) old.mm.commands old.ram) old.mm.state.value left.stays left.mm left.out.items
       × Operates (loads_in old) old.mm.held (time_of old) old.mm.commands old.ram left.ops.value)
-  pub md : HasLeft new 4 (λ left. Gives {Setup = TableSet} (λ t. Unit {0}) md_stands md_gives 20 old.md.held (md_reads (time_of old) old.md.commands old.ram) old.md.state.value left.stays left.md left.out.items
+  pub md : HasLeft new 4 (λ left. Gives {Setup = TableSet} (λ t. Unit {0}) md_stands md_gives md_most old.md.held (md_reads (time_of old) old.md.commands old.ram) old.md.state.value left.stays left.md left.out.items
       × AllGiven (regions_of old.ram.areas) (next_of left.stays left.md old.md.state.value))
 
 -- what the jobs left was taken over: the next states, the items and the operations
@@ -154,11 +159,11 @@ pub record TakesOver (old new : Bench) : Type 0 where
 
 -- What the wakeups leave can be sent, and landed on the frame's image.
 pub record CanSend (b : Bench) : Type 0 where
-  pub hs : AreSendable 1104 b.hs.out.items
-  pub cs : AreSendable 33 b.cs.out.items
-  pub sc : AreSendable 32 b.sc.out.items
-  pub mm : AreSendable 272 b.mm.out.items
-  pub md : AreSendable 20 b.md.out.items
+  pub hs : AreSendable hs_most b.hs.out.items
+  pub cs : AreSendable cs_most b.cs.out.items
+  pub sc : AreSendable sc_most b.sc.out.items
+  pub mm : AreSendable mm_most b.mm.out.items
+  pub md : AreSendable md_most b.md.out.items
   pub operations : CanLand (loads_in b) b.ram b.ops.value
 
 -- the items were sent behind these packets

@@ -1,6 +1,7 @@
 //! The bench: one frame after another.
 
 ghost use Rattle.std.specs.Prelude.{◌≡◌};
+ghost use Rattle.frame_exec.specs.declared.bench.TheConstants.{DROPS};
 
 use crate::cs_slot::CsSlot;
 use crate::cut::Cut;
@@ -65,7 +66,7 @@ pub struct Bench<'f> {
     line: Line,
     // lines, until they are handed on
     block: Block,
-    ghost drops_room: { drops.room ≡ 1525 },
+    ghost drops_room: { drops.room ≡ DROPS },
     ghost five: { crew.jobs ≡ 5 },
 }
 

@@ -3,6 +3,7 @@
 ghost use Rattle.std.specs.Prelude.{◌≡◌};
 ghost use Rattle.memory_window.specs.Memory.{regions_of};
 ghost use Rattle.memory_window.specs.Window.{seen};
+ghost use Rattle.cs_slices.specs.declared.step.TheConstants.{MOST_ITEMS};
 ghost use Rattle.cs_slices.specs.Wakeups.{Input, input_of};
 ghost use Rattle.frame_exec.specs.Tables.{TableSet};
 ghost use Rattle.frame_exec.specs.Applications.{cs_stands, cs_gives};
@@ -35,7 +36,7 @@ impl<'a> Application<CsReads<'a>, ()> for Cs {
 
     ghost items = { cs_gives };
 
-    ghost most = { 33 };
+    ghost most = { MOST_ITEMS };
 
     ghost belongs = { λ setup reads. (reads.eeprom.now ≡ setup.eeprom) × (reads.memory.now ≡ setup.memory) };
 

@@ -1,6 +1,7 @@
 //! HS as the bench wakes it.
 
 ghost use Rattle.std.specs.Prelude.{◌≡◌, ◌≤◌, length};
+ghost use Rattle.hs_monitors.specs.declared.step.TheConstants.{MOST_ITEMS};
 ghost use Rattle.hs_monitors.specs.Histories.{Input};
 ghost use Rattle.frame_exec.specs.Tables.{TableSet};
 ghost use Rattle.frame_exec.specs.Applications.{hs_stands, hs_gives, hs_reads};
@@ -32,7 +33,7 @@ impl<'a> Application<HsReads<'a>, ()> for Hs {
 
     ghost items = { hs_gives };
 
-    ghost most = { 1104 };
+    ghost most = { MOST_ITEMS };
 
     ghost belongs = { λ setup reads. reads.tables.now ≡ setup.hs };
 

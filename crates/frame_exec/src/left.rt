@@ -1,12 +1,13 @@
 //! What waking an application leaves, until the bench takes it over.
 
 ghost use Rattle.std.specs.Prelude.{◌≡◌, [], Option};
+ghost use Rattle.hs_monitors.specs.declared.step.TheConstants.{MOST_ITEMS};
 
 use bus_pipes::Outbox;
 use crew_board::Scratch;
 use cs_slices::Cs;
 use fsw_outside::NoMemory;
-use hs_monitors::Hs;
+use hs_monitors::{Hs, MOST_ITEMS};
 use md_dwell::Md;
 use memory_window::Ops;
 use mm_core::Mm;
@@ -14,11 +15,8 @@ use sc_sequences::Sc;
 use std::alloc::Global;
 use std::mem;
 
-/// How many items an application gives in a frame at most, whichever it is.
-pub(crate) const MOST_ITEMS: u32 = 1104;
-
 /// What a wakeup left: the next state of the application that was woken, unless it stays as it was, the items that it gave, and
-/// MM's operations.
+/// MM's operations. No application gives more items than HS.
 #[derive(Drop)]
 pub(crate) struct Left {
     /// Whether the state stays as it was. A flag, since writing `None` writes a whole state's zeros.
@@ -30,7 +28,7 @@ pub(crate) struct Left {
     pub(crate) md: Option<Md>,
     pub(crate) out: Outbox,
     pub(crate) ops: Box<Ops>,
-    ghost roomy: { out.room ≡ 1104 },
+    ghost roomy: { out.room ≡ MOST_ITEMS },
 }
 
 /// A state of an application, as what a wakeup left has it.

@@ -3,6 +3,7 @@
 ghost use Rattle.std.specs.Prelude.{◌≡◌};
 ghost use Rattle.memory_window.specs.Memory.{regions_of};
 ghost use Rattle.memory_window.specs.Window.{seen};
+ghost use Rattle.md_dwell.specs.declared.step.TheConstants.{MOST_ITEMS};
 ghost use Rattle.md_dwell.specs.Orders.{Input, input_of};
 ghost use Rattle.md_dwell.specs.State.{AllGiven};
 ghost use Rattle.frame_exec.specs.Tables.{TableSet};
@@ -33,7 +34,7 @@ impl<'a> Application<MdReads<'a>, ()> for Md {
 
     ghost items = { md_gives };
 
-    ghost most = { 20 };
+    ghost most = { MOST_ITEMS };
 
     ghost belongs = { λ setup reads. Unit {0} };
 

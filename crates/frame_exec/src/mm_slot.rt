@@ -3,6 +3,7 @@
 ghost use Rattle.std.specs.Prelude.{◌≡◌, []};
 ghost use Rattle.table_files.specs.Files.{loads_of};
 ghost use Rattle.memory_window.specs.Window.{seen};
+ghost use Rattle.mm_core.specs.declared.step.TheConstants.{MOST_ITEMS};
 ghost use Rattle.mm_core.specs.Step.{Input, input_of, mm_operations};
 ghost use Rattle.frame_exec.specs.Tables.{TableSet};
 ghost use Rattle.frame_exec.specs.Applications.{mm_stands, mm_gives};
@@ -35,7 +36,7 @@ impl<'a, 'f> Application<MmReads<'a, 'f>, Ops> for Mm {
 
     ghost items = { mm_gives };
 
-    ghost most = { 272 };
+    ghost most = { MOST_ITEMS };
 
     ghost belongs = { λ setup reads. Unit {0} };
 

@@ -1,6 +1,7 @@
 //! SC as the bench wakes it.
 
 ghost use Rattle.std.specs.Prelude.{◌≡◌};
+ghost use Rattle.sc_sequences.specs.declared.step.TheConstants.{MOST_ITEMS};
 ghost use Rattle.sc_sequences.specs.Histories.{Input, Beginning};
 ghost use Rattle.sc_sequences.specs.State.{IsReady};
 ghost use Rattle.frame_exec.specs.Applications.{sc_stands, sc_gives, sc_reads};
@@ -30,7 +31,7 @@ impl<'a, 'f> Application<ScReads<'a, 'f>, ()> for Sc {
 
     ghost items = { sc_gives };
 
-    ghost most = { 32 };
+    ghost most = { MOST_ITEMS };
 
     ghost belongs = { λ setup reads. reads.tables.now ≡ setup.tables };
 

@@ -1,15 +1,17 @@
 //! An application in the bench: its state, the packets that it took, and what it gives in a frame.
 
 ghost use Rattle.std.specs.Prelude.{◌≡◌, ◌≤◌, ℕ, ◌<◌, ◌≢◌, true, false, List, [], length, slice_index_or, IfOk};
+ghost use Rattle.hs_monitors.specs.declared.step.TheConstants.{MOST_ITEMS};
 ghost use Rattle.bus_pipes.specs.Pipes.{packets_in, depth_of};
 ghost use Rattle.frame_exec.specs.Sending.{taken};
 ghost use Rattle.frame_exec.specs.Wakes.{next_of};
 
 use crate::application::Application;
-use crate::left::{Left, MOST_ITEMS, Next};
+use crate::left::{Left, Next};
 use bus_pipes::{Batch, Bus, Outbox, PipeName};
 use crew_board::Crew;
 use fsw_outside::NoMemory;
+use hs_monitors::MOST_ITEMS;
 use std::alloc::Global;
 use std::mem;
 
@@ -20,7 +22,7 @@ pub(crate) struct Slot<S> {
     pub(crate) held: bool,
     pub(crate) commands: Batch,
     pub(crate) out: Outbox,
-    ghost roomy: { out.room ≡ 1104 },
+    ghost roomy: { out.room ≡ MOST_ITEMS },
     ghost few: { length commands ≤ 16 },
 }
 

@@ -18,6 +18,9 @@ use commands::{Commanded, handle_all};
 use hs_tables::HsTables;
 use packet_forms::{Counter, Packet};
 
+/// How many items a wakeup gives at most.
+pub const MOST_ITEMS: u32 = 1104;
+
 // What is read beside the packets.
 #[derive(Clone, Copy)]
 struct Reads<'a> {
@@ -104,11 +107,11 @@ impl Hs {
         requires commands { length input.now.commands.now ≤ 16 }
         requires events { length input.now.events.now ≤ 32 }
         requires empty { out.old.items ≡ [] }
-        requires room { 1104 ≤ out.old.room }
+        requires room { MOST_ITEMS ≤ out.old.room }
         ensures stands { (setup : Setup) (history : List HsEntry) → tables.now ≡ tables_after setup history → Stands setup history self.now → Stands setup (history ++ Woken (input_of now input.now) ∷ []) next.new }
         ensures items { (setup : Setup) (history : List HsEntry) → tables.now ≡ tables_after setup history → Stands setup history self.now → out.new.items ≡ hs_items setup history (input_of now input.now) }
         ensures counted { AllPass is_item_counted out.new.items }
-        ensures few { length out.new.items ≤ 1104 }
+        ensures few { length out.new.items ≤ MOST_ITEMS }
         ensures room { out.new.room ≡ out.old.room }
     {
         *next = *self;
@@ -120,11 +123,11 @@ impl Hs {
         requires commands { length input.now.commands.now ≤ 16 }
         requires events { length input.now.events.now ≤ 32 }
         requires empty { out.old.items ≡ [] }
-        requires room { 1104 ≤ out.old.room }
+        requires room { MOST_ITEMS ≤ out.old.room }
         ensures stands { (setup : Setup) (history : List HsEntry) → tables.now ≡ tables_after setup history → Stands setup history self.old → Stands setup (history ++ Woken (input_of now input.now) ∷ []) self.new }
         ensures items { (setup : Setup) (history : List HsEntry) → tables.now ≡ tables_after setup history → Stands setup history self.old → out.new.items ≡ hs_items setup history (input_of now input.now) }
         ensures counted { AllPass is_item_counted out.new.items }
-        ensures few { length out.new.items ≤ 1104 }
+        ensures few { length out.new.items ≤ MOST_ITEMS }
         ensures room { out.new.room ≡ out.old.room }
     {
         self.monitors.tick();

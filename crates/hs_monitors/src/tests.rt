@@ -1,6 +1,6 @@
 ghost use Rattle.std.specs.Prelude.{◌≡◌, ◌≤◌, length};
 
-use crate::{Hs, HsInput, laws};
+use crate::{Hs, HsInput, MOST_ITEMS, laws};
 use bus_pipes::{Out, Outbox};
 use hs_tables::{HsTables, load_appmon, load_eventmon, load_msgacts};
 use packet_forms::{Counter, Name, Packet, command, event};
@@ -52,7 +52,7 @@ fn frame(
 ) -> Hs
     requires commands { length commands.now ≤ 16 }
     requires events { length events.now ≤ 32 }
-    requires room { 1104 ≤ out.old.room }
+    requires room { MOST_ITEMS ≤ out.old.room }
     ensures { out.new.room ≡ out.old.room }
 {
     out.clear();

@@ -18,6 +18,7 @@ mod verdicts;
 
 pub use loading::load_dwell;
 pub use state::Md;
+pub use step::MOST_ITEMS;
 pub use tables::{Dwell, DwellEntry};
 
 #[cfg(test)]

@@ -21,6 +21,9 @@ use histories::bits_of;
 use memory_window::Window;
 use packet_forms::Packet;
 
+/// How many items a wakeup gives at most.
+pub const MOST_ITEMS: u32 = 20;
+
 impl<'a> Commanded<Window<'a>> for Streams {
     ghost use Rattle.std.specs.Prelude.{◌≡◌, None};
     ghost use Rattle.memory_window.specs.Memory.{Memory, regions_of};
@@ -105,13 +108,13 @@ impl Md {
     )
         requires commands { length commands.now ≤ 16 }
         requires empty { out.old.items ≡ [] }
-        requires room { 20 ≤ out.old.room }
+        requires room { MOST_ITEMS ≤ out.old.room }
         requires gives { AllGiven (regions_of (seen window).areas) self.now }
         ensures stands { (tables : List DwellTable) (history : List MdEntry) → Stands tables history self.now → Stands tables (history ++ Woken (input_of now commands.now window.entry) ∷ []) next.new }
         ensures items { (tables : List DwellTable) (history : List MdEntry) → Stands tables history self.now → out.new.items ≡ md_items tables history (input_of now commands.now window.entry) }
         ensures gives { AllGiven (regions_of (seen window.entry).areas) next.new }
         ensures counted { AllPass is_item_counted out.new.items }
-        ensures few { length out.new.items ≤ 20 }
+        ensures few { length out.new.items ≤ MOST_ITEMS }
         ensures room { out.new.room ≡ out.old.room }
     {
         *next = *self;
@@ -122,13 +125,13 @@ impl Md {
     pub fn advance(&mut self, commands: &[Packet], window: Window<'_>, now: u32, out: &mut Outbox)
         requires commands { length commands.now ≤ 16 }
         requires empty { out.old.items ≡ [] }
-        requires room { 20 ≤ out.old.room }
+        requires room { MOST_ITEMS ≤ out.old.room }
         requires gives { AllGiven (regions_of (seen window).areas) self.old }
         ensures stands { (tables : List DwellTable) (history : List MdEntry) → Stands tables history self.old → Stands tables (history ++ Woken (input_of now commands.now window.entry) ∷ []) self.new }
         ensures items { (tables : List DwellTable) (history : List MdEntry) → Stands tables history self.old → out.new.items ≡ md_items tables history (input_of now commands.now window.entry) }
         ensures gives { AllGiven (regions_of (seen window.entry).areas) self.new }
         ensures counted { AllPass is_item_counted out.new.items }
-        ensures few { length out.new.items ≤ 20 }
+        ensures few { length out.new.items ≤ MOST_ITEMS }
         ensures room { out.new.room ≡ out.old.room }
     {
         handle_all(

@@ -3,7 +3,7 @@ ghost use Rattle.std.specs.Prelude.{◌≡◌, ◌<◌, ◌≤◌, IfSome, lengt
 ghost use Rattle.memory_window.specs.Memory.{regions_of};
 ghost use Rattle.md_dwell.specs.State.{AllGiven};
 
-use crate::{Dwell, DwellEntry, Md, laws, load_dwell};
+use crate::{Dwell, DwellEntry, MOST_ITEMS, Md, laws, load_dwell};
 use bus_pipes::{Out, Outbox};
 use memory_window::{Kind, Map, Ram, Region};
 use packet_forms::{Name, Packet, command, event, telemetry};
@@ -70,7 +70,7 @@ fn start(map: &Map, tables: &[Dwell; 4]) -> Option<Md>
 // One wakeup.
 fn frame(md: &Md, ram: &Ram, commands: &[Packet], now: u32, out: &mut Outbox) -> Md
     requires commands { length commands.now ≤ 16 }
-    requires room { 20 ≤ out.old.room }
+    requires room { MOST_ITEMS ≤ out.old.room }
     requires gives { AllGiven (regions_of ram.now.areas) md.now }
     ensures gives { AllGiven (regions_of ram.now.areas) result }
     ensures room { out.new.room ≡ out.old.room }
@@ -223,7 +223,7 @@ fn activate(md: &mut Md, map: &Map, n: u8, table: &Dwell)
 fn wakeup(md: &Md, ram: &mut Ram, map: &Map, k: u8, commands: &[Packet], out: &mut Outbox) -> Md
     requires few { k ≤ 9 }
     requires commands { length commands.now ≤ 16 }
-    requires room { 20 ≤ out.old.room }
+    requires room { MOST_ITEMS ≤ out.old.room }
     requires map { regions_of ram.old.areas ≡ map.now }
     requires gives { AllGiven map.now md.now }
     ensures map { regions_of ram.new.areas ≡ map.now }

@@ -12,6 +12,7 @@ mod step;
 mod verdicts;
 
 pub use state::Mm;
+pub use step::MOST_ITEMS;
 
 #[cfg(test)]
 mod tests;

@@ -21,6 +21,9 @@ use memory_window::{Ops, Window};
 use packet_forms::Packet;
 use table_files::Files;
 
+/// How many items a wakeup gives at most.
+pub const MOST_ITEMS: u32 = 272;
+
 // Commands change nothing of MM but its counts: all else is left to the end of the frame.
 #[derive(Clone, Copy, Debug, PartialEq, Eq)]
 struct Hands {}
@@ -100,7 +103,7 @@ impl Mm {
     )
         requires commands { length commands.now ≤ 16 }
         requires empty { out.old.items ≡ [] }
-        requires room { 272 ≤ out.old.room }
+        requires room { MOST_ITEMS ≤ out.old.room }
         requires no_ops { ops.old ≡ [] }
         ensures stands { (history : List Input) → Stands history self.now → Stands (history ++ input_of now commands.now window.entry files.now ∷ []) next.new }
         ensures items { (history : List Input) → Stands history self.now → out.new.items ≡ mm_items history (input_of now commands.now window.entry files.now) }
@@ -127,7 +130,7 @@ impl Mm {
     )
         requires commands { length commands.now ≤ 16 }
         requires empty { out.old.items ≡ [] }
-        requires room { 272 ≤ out.old.room }
+        requires room { MOST_ITEMS ≤ out.old.room }
         requires no_ops { ops.old ≡ [] }
         ensures stands { (history : List Input) → Stands history self.old → Stands (history ++ input_of now commands.now window.entry files.now ∷ []) self.new }
         ensures items { (history : List Input) → Stands history self.old → out.new.items ≡ mm_items history (input_of now commands.now window.entry files.now) }

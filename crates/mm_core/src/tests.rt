@@ -1,6 +1,6 @@
 ghost use Rattle.std.specs.Prelude.{◌≡◌, ◌≤◌, length};
 
-use crate::{Mm, laws};
+use crate::{MOST_ITEMS, Mm, laws};
 use bus_pipes::{Out, Outbox};
 use memory_window::{Kind, Map, Ops, Ram, Region};
 use packet_forms::{Name, Packet, command, crc16, event, telemetry};
@@ -20,7 +20,7 @@ fn frame(
     out: &mut Outbox,
 ) -> Mm
     requires commands { length commands.now ≤ 16 }
-    requires room { 272 ≤ out.old.room }
+    requires room { MOST_ITEMS ≤ out.old.room }
     ensures { out.new.room ≡ out.old.room }
 {
     out.clear();

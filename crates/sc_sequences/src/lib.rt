@@ -17,6 +17,7 @@ mod turns;
 mod verdicts;
 
 pub use state::Sc;
+pub use step::MOST_ITEMS;
 
 #[cfg(test)]
 mod tests;

@@ -18,6 +18,9 @@ use commands::{Commanded, handle_all};
 use packet_forms::Packet;
 use sc_tables::ScTables;
 
+/// How many items a wakeup gives at most.
+pub const MOST_ITEMS: u32 = 32;
+
 // What is read beside the packets.
 #[derive(Clone, Copy)]
 struct Reads<'a> {
@@ -97,13 +100,13 @@ impl Sc {
     )
         requires commands { length commands.now ≤ 16 }
         requires empty { out.old.items ≡ [] }
-        requires room { 32 ≤ out.old.room }
+        requires room { MOST_ITEMS ≤ out.old.room }
         requires ready { IsReady tables.now self.now }
         ensures stands { (begin : Beginning) (history : List ScEntry) → tables.now ≡ tables_after begin history → Stands begin history self.now → Stands begin (history ++ Woken (input_of now commands.now) ∷ []) next.new }
         ensures items { (begin : Beginning) (history : List ScEntry) → tables.now ≡ tables_after begin history → Stands begin history self.now → out.new.items ≡ sc_items begin history (input_of now commands.now) }
         ensures ready { IsReady tables.now next.new }
         ensures counted { AllPass is_item_counted out.new.items }
-        ensures few { length out.new.items ≤ 32 }
+        ensures few { length out.new.items ≤ MOST_ITEMS }
         ensures room { out.new.room ≡ out.old.room }
     {
         *next = *self;
@@ -120,13 +123,13 @@ impl Sc {
     )
         requires commands { length commands.now ≤ 16 }
         requires empty { out.old.items ≡ [] }
-        requires room { 32 ≤ out.old.room }
+        requires room { MOST_ITEMS ≤ out.old.room }
         requires ready { IsReady tables.now self.old }
         ensures stands { (begin : Beginning) (history : List ScEntry) → tables.now ≡ tables_after begin history → Stands begin history self.old → Stands begin (history ++ Woken (input_of now commands.now) ∷ []) self.new }
         ensures items { (begin : Beginning) (history : List ScEntry) → tables.now ≡ tables_after begin history → Stands begin history self.old → out.new.items ≡ sc_items begin history (input_of now commands.now) }
         ensures ready { IsReady tables.now self.new }
         ensures counted { AllPass is_item_counted out.new.items }
-        ensures few { length out.new.items ≤ 32 }
+        ensures few { length out.new.items ≤ MOST_ITEMS }
         ensures room { out.new.room ≡ out.old.room }
     {
         let reads = Reads { tables };

@@ -1,7 +1,7 @@
 ghost use Rattle.std.specs.Prelude.{◌≡◌, ◌≤◌, ◌<◌, ◌+◌, length};
 ghost use Rattle.sc_sequences.specs.State.{IsReady};
 
-use crate::{Sc, laws};
+use crate::{MOST_ITEMS, Sc, laws};
 use bus_pipes::{Out, Outbox};
 use packet_forms::{Name, Packet, command, event, telemetry};
 use sc_tables::{RtsSet, ScTables, load_ats, load_rts};
@@ -35,9 +35,9 @@ fn put_relative(bytes: &mut [u8], at: usize, tag: u16, packet: &Packet)
 fn frame(sc: Sc, tables: &ScTables<'_>, commands: &[Packet], now: u32, out: &mut Outbox) -> Sc
     requires ready { IsReady tables.now sc }
     requires commands { length commands.now ≤ 16 }
-    requires room { 32 ≤ out.old.room }
+    requires room { MOST_ITEMS ≤ out.old.room }
     ensures ready { IsReady tables.now result }
-    ensures few { length out.new.items ≤ 32 }
+    ensures few { length out.new.items ≤ MOST_ITEMS }
     ensures room { out.new.room ≡ out.old.room }
 {
     out.clear();
@@ -215,7 +215,7 @@ fn longest_commands_leave_as_they_are_stored(rt: HostRuntime) -> Result<(), Fail
 fn start_eight(sc: Sc, tables: &ScTables<'_>, first: u8, out: &mut Outbox) -> Sc
     requires ready { IsReady tables.now sc }
     requires first { first ≤ 57 }
-    requires room { 32 ≤ out.old.room }
+    requires room { MOST_ITEMS ≤ out.old.room }
     ensures ready { IsReady tables.now result }
     ensures room { out.new.room ≡ out.old.room }
 {

@@ -1,11 +1,12 @@
 use Rattle.std.proofs.Common.{◌≡◌, true}
 use Rattle.std.proofs.Math.Nat.{ℕ_set}
+use Rattle.frame_exec.specs.declared.bench.TheConstants.{DROPS}
 use Rattle.frame_exec.specs.declared.bench.Bench.{Bench}
 use Rattle.frame_exec.proofs.bench.Bench.cut.Goals as goal
 
 -- the room is known in one way, and so is the number of jobs
-same_facts : (b : Bench) (room also_room : b.drops.room ≡ 1525) (jobs also_jobs : b.crew.jobs ≡ 5) → ◌≡◌ {A = Bench} (record b { failed = true; drops_room = room; five = jobs }) (record b { failed = true; drops_room = also_room; five = also_jobs })
-same_facts b room also_room jobs also_jobs = λ i. record b { failed = true; drops_room = ℕ_set b.drops.room 1525 room also_room i; five = ℕ_set b.crew.jobs 5 jobs also_jobs i }
+same_facts : (b : Bench) (room also_room : b.drops.room ≡ DROPS) (jobs also_jobs : b.crew.jobs ≡ 5) → ◌≡◌ {A = Bench} (record b { failed = true; drops_room = room; five = jobs }) (record b { failed = true; drops_room = also_room; five = also_jobs })
+same_facts b room also_room jobs also_jobs = λ i. record b { failed = true; drops_room = ℕ_set b.drops.room DROPS room also_room i; five = ℕ_set b.crew.jobs 5 jobs also_jobs i }
 
 pub returns-clause-cut : goal.returns-clause-cut
 returns-clause-cut c = same_facts c.args.self.now _ _ _ _
