@@ -1,5 +1,5 @@
 -- The codes of Health and Safety's commands. Its name stands with its actions.
-use Rattle.std.specs.Prelude.{ℕ, List, [], ◌∷◌}
+use Rattle.std.specs.Prelude.{List, [], ◌∷◌}
 use Rattle.commands.specs.Rows.{code_row}
 use Rattle.commands.specs.declared.verdicts.CodeRow.{CodeRow}
 

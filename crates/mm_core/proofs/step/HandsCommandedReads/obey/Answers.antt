@@ -1,4 +1,4 @@
-use Rattle.std.proofs.Common.{◌≡◌, ◌∙◌, ◌++◌, [], List, ℕ, ap, sym, refl}
+use Rattle.std.proofs.Common.{◌≡◌, ◌∙◌, ◌++◌, [], List, ℕ, ap, sym}
 use Rattle.std.specs.List.{cons_option}
 use Rattle.table_files.specs.Files.{loads_of}
 use Rattle.memory_window.specs.declared.operations.MemOp.{MemOp}
