@@ -171,12 +171,12 @@ one_byte c b small =
     ∙ ap (λ (k : ℕ). bit_xor k (after_zeros 8 (bit_xor (c % 256) b))) (zeros_shift 8 (c / 256))
     ∙ xor_comm (c / 256) (after_zeros 8 (bit_xor (c % 256) b)))
 
--- 64 bits 0 after a check: 56 after its high byte
-far_start : (c : ℕ) → after_zeros 64 c ≡ bit_xor (after_zeros 64 (c % 256)) (after_zeros 56 (c / 256))
-far_start c =
-    ap (after_zeros 64) (sym (apart_at 8 c)) ∙ zeros_linear 64 (c / 256 * 2 ^ 8) (c % 256)
-    ∙ ap (λ (k : ℕ). bit_xor k (after_zeros 64 (c % 256))) (zeros_both 8 56 (c / 256 * 2 ^ 8) ∙ ap (after_zeros 56) (zeros_shift 8 (c / 256)))
-    ∙ xor_comm (after_zeros 56 (c / 256)) (after_zeros 64 (c % 256))
+-- bits 0 after a check: eight fewer after its high byte
+pub far_start : (n c : ℕ) → after_zeros (8 + n) c ≡ bit_xor (after_zeros (8 + n) (c % 256)) (after_zeros n (c / 256))
+far_start n c =
+    ap (after_zeros (8 + n)) (sym (apart_at 8 c)) ∙ zeros_linear (8 + n) (c / 256 * 2 ^ 8) (c % 256)
+    ∙ ap (λ (k : ℕ). bit_xor k (after_zeros (8 + n) (c % 256))) (zeros_both 8 n (c / 256 * 2 ^ 8) ∙ ap (after_zeros n) (zeros_shift 8 (c / 256)))
+    ∙ xor_comm (after_zeros n (c / 256)) (after_zeros (8 + n) (c % 256))
 
 -- four parts in another order
 crossed : (p q r s rest : ℕ) → bit_xor (bit_xor p q) (bit_xor r (bit_xor s rest)) ≡ bit_xor (bit_xor p r) (bit_xor (bit_xor q s) rest)
@@ -201,7 +201,7 @@ eight_bytes c s t u v w x y z hs ht hu hv hw hx hy hz =
     crc_parts x (y ∷ z ∷ []) hx ∙ ap (bit_xor (after_zeros 24 x)) (
     crc_parts y (z ∷ []) hy ∙ ap (bit_xor (after_zeros 16 y)) (
     crc_parts z [] hz ∙ ap (bit_xor (after_zeros 8 z)) (crc_none 0) ∙ xor_zero_r (after_zeros 8 z)))))))))
-    ∙ ap (λ (k : ℕ). bit_xor k (bit_xor (after_zeros 64 s) (bit_xor (after_zeros 56 t) rest))) (far_start c)
+    ∙ ap (λ (k : ℕ). bit_xor k (bit_xor (after_zeros 64 s) (bit_xor (after_zeros 56 t) rest))) (far_start 56 c)
     ∙ crossed (after_zeros 64 (c % 256)) (after_zeros 56 (c / 256)) (after_zeros 64 s) (after_zeros 56 t) rest
     ∙ ap (λ (k : ℕ). bit_xor k (bit_xor (bit_xor (after_zeros 56 (c / 256)) (after_zeros 56 t)) rest)) (sym (zeros_linear 64 (c % 256) s))
     ∙ ap (λ (k : ℕ). bit_xor (after_zeros 64 (bit_xor (c % 256) s)) (bit_xor k rest)) (sym (zeros_linear 56 (c / 256) t)))
@@ -232,11 +232,11 @@ block_more start crc after k size bytes eight before here =
 
 -- the check of one piece more
 pub piece_more : (start crc after k size : ℕ) (bytes : List ℕ) → size ≡ 1024 → 1024 * (k + 1) ≤ length bytes → crc ≡ crc_of start (take (1024 * k) bytes)
-    → after ≡ crc_of crc (take (length (take size (drop (1024 * k) bytes)) / 8 * 8) (take size (drop (1024 * k) bytes))) → after ≡ crc_of start (take (1024 * (k + 1)) bytes)
+    → after ≡ crc_of crc (take (length (take size (drop (1024 * k) bytes)) / 2 * 2) (take size (drop (1024 * k) bytes))) → after ≡ crc_of start (take (1024 * (k + 1)) bytes)
 piece_more start crc after k size bytes long within before here =
     let rest : length (drop (1024 * k) bytes) ≡ length bytes - 1024 * k = length-drop (1024 * k) bytes in
     let piece : length (take size (drop (1024 * k) bytes)) ≡ size = length-take-le size (drop (1024 * k) bytes) (omega (arith, long, within, rest)) in
-    let whole : size ≡ length (take size (drop (1024 * k) bytes)) / 8 * 8 = omega (arith, piece, long) in
+    let whole : size ≡ length (take size (drop (1024 * k) bytes)) / 2 * 2 = omega (arith, piece, long) in
     let next : 1024 * k + size ≡ 1024 * (k + 1) = omega (arith, long) in
     here
     ∙ ap (λ (n : ℕ). crc_of crc (take n (take size (drop (1024 * k) bytes)))) (sym whole)

@@ -1,6 +1,6 @@
 //! The check of a list of bytes, CRC-16/ARC.
 
-ghost use Rattle.std.specs.Prelude.{◌≡◌, ◌+◌, ◌*◌, ◌/◌, ◌<◌, [], ◌∷◌, length, take};
+ghost use Rattle.std.specs.Prelude.{◌≡◌, ◌≤◌, ◌+◌, ◌*◌, ◌/◌, ◌<◌, [], ◌∷◌, length, take};
 ghost use Rattle.packet_forms.specs.Crc.{after_zeros, crc_of};
 
 use crate::crc_rows::ROWS;
@@ -25,25 +25,34 @@ fn after_pieces(start: u16, bytes: &[u8]) -> u16
     crc
 }
 
-// The check of fewer than 1,024 bytes.
+// The check of fewer than 1,024 bytes, folded where there are enough of them.
+#[inline(always)]
 fn after_few(start: u16, bytes: &[u8]) -> u16
     requires { length bytes.now < 1024 }
     ensures { result ≡ crc_of start bytes.now }
 {
-    let whole = bytes.len() / 8 * 8;
-    after_each(after_eights(start, bytes), &bytes[whole..])
+    if bytes.len() < FEWEST_FOLDED {
+        after_looked_up(start, bytes)
+    } else {
+        after_folded(start, bytes)
+    }
 }
 
-// The check of the bytes that come in whole blocks of eight, folded where there are enough of them.
-fn after_eights(start: u16, bytes: &[u8]) -> u16
-    requires { length bytes.now < 1024 }
-    ensures { result ≡ crc_of start (take (length bytes.now / 8 * 8) bytes.now) }
+fn after_folded(start: u16, bytes: &[u8]) -> u16
+    requires many { 30 ≤ length bytes.now }
+    requires few { length bytes.now < 1024 }
+    ensures { result ≡ crc_of start bytes.now }
 {
-    if bytes.len() < FEWEST_FOLDED {
-        after_blocks(start, bytes)
-    } else {
-        after_words(start, bytes)
-    }
+    let whole = bytes.len() / 2 * 2;
+    after_each(after_words(start, bytes), &bytes[whole..])
+}
+
+#[inline(always)]
+fn after_looked_up(start: u16, bytes: &[u8]) -> u16
+    ensures { result ≡ crc_of start bytes.now }
+{
+    let whole = bytes.len() / 8 * 8;
+    after_each(after_blocks(start, bytes), &bytes[whole..])
 }
 
 // The check of the bytes that come in whole blocks of eight, each looked up.
@@ -77,7 +86,7 @@ fn after_one(crc: u16, byte: u8) -> u16
 }
 
 #[inline(always)]
-pub(crate) fn after_eight(crc: u16, bytes: &[u8]) -> u16
+fn after_eight(crc: u16, bytes: &[u8]) -> u16
     requires { length bytes.now ≡ 8 }
     ensures { result ≡ crc_of crc bytes.now }
 {
@@ -93,7 +102,7 @@ pub(crate) fn after_eight(crc: u16, bytes: &[u8]) -> u16
 
 // The check that began with 0, after a byte and k zero bytes.
 #[inline(always)]
-fn entry(k: usize, byte: u8) -> u16
+pub(crate) fn entry(k: usize, byte: u8) -> u16
     requires { k < 8 }
     ensures { result ≡ after_zeros (8 * (k + 1)) byte }
 {

@@ -130,6 +130,11 @@ fn long_checks(rt: HostRuntime) -> Result<(), Fail> {
         bytes[i] = ((i * i + 7 * i) % 251) as u8;
     }
     let rows = [
+        (30, 0x4160),
+        (95, 0xD97A),
+        (96, 0x4959),
+        (97, 0x13C9),
+        (127, 0x784C),
         (255, 0xD583),
         (256, 0x7C95),
         (263, 0xAF22),

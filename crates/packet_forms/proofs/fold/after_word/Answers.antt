@@ -1,7 +1,6 @@
-use Rattle.std.proofs.Common.{ap, ◌∙◌}
-use Rattle.packet_forms.specs.Crc.{crc_of}
-use Rattle.packet_forms.proofs.Folding.{bytes_crc}
+use Rattle.std.specs.Prelude.{bit_xor}
+use Rattle.packet_forms.proofs.Folding.{two_bytes}
 use Rattle.packet_forms.proofs.fold.after_word.Goals as goal
 
 pub returns : goal.returns
-returns c = c.after_eight.ensures ∙ ap (crc_of c.args.crc) c.to_le_bytes.ensures ∙ bytes_crc c.args.crc c.args.word c.ranges.word.fits
+returns c = rw (c.entry.ensures, c.entry-2.ensures) (two_bytes (bit_xor c.args.crc c.args.word))

@@ -1,36 +1,27 @@
-use Rattle.std.proofs.Common.{◌≡◌, ◌+◌, ◌-◌, ◌<◌, ◌/◌, ℕ, suc, length, get_or, set, ap, sym, ◌∙◌, arith}
-use Rattle.std.proofs.lemmas.List.{get_or-set_same, get_or-set_other, length-set}
-use Rattle.packet_forms.specs.Folds.{word_in, folded_word, words_check}
-use Rattle.packet_forms.proofs.Folding.{fold_step}
+use Rattle.std.proofs.Common.{◌≡◌, ◌+◌, ◌-◌, ◌*◌, ◌/◌, ℕ, length, refl, ap, ◌∙◌, arith}
+use Rattle.packet_forms.specs.Folds.{words_left}
+use Rattle.packet_forms.specs.Packets.{checksum_of}
+use Rattle.packet_forms.proofs.Folding.{none_taken, all_reduced}
 use Rattle.packet_forms.proofs.fold.fold_front.Goals as goal
 
-pub loop-i-preserved : goal.loop-i-preserved
-loop-i-preserved c =
-    let words : ℕ = length c.args.bytes.now / 8 in
-    let i : ℕ = c.loop-i.i in
-    let sums = c.loop-i.sums in
-    let r = c.word_at.result in
-    let size = c.loop-i.invariant.size in
-    let within : i + 16 < length sums = omega (arith, size, c.loop-i-test.true, c.requires.few) in
-    let left : suc (words - (i + 1)) ≡ words - i = omega (arith, c.loop-i-test.true) in
-    let next : i + 1 ≡ suc i = omega arith in
+pub loop-k-init : goal.loop-k-init
+loop-k-init c = record { check = ap (λ (n : ℕ). words_left c.args.bytes.now c.args.sums.now n 0) none_taken; zeros = c.requires.zeros; sums = c.told-sums; lanes = refl }
+
+pub loop-k-preserved : goal.loop-k-preserved
+loop-k-preserved c =
+    let now = c.fold_eight-taken.ensures in
+    let next : 8 * (c.loop-k.k + 1) ≡ 8 * c.loop-k.k + 8 = omega arith in
     record {
-      check =
-          ap (λ (k : ℕ). words_check (folded_word c.args.bytes.now (set sums (i + 16) r)) k (words - (i + 1))) next
-          ∙ sym (fold_step (word_in c.args.bytes.now) (λ (k : ℕ). get_or sums k 0) (λ (k : ℕ). get_or (set sums (i + 16) r) k 0) i (words - (i + 1)) r
-          (omega (arith, c.loop-i-test.true)) c.word_at.type_inv c.word_at.ensures (c.loop-i.invariant.zeros (i + 16) (omega arith))
-          (get_or-set_same sums (i + 16) r 0 within) (λ j other. get_or-set_other sums (i + 16) j r 0 other))
-          ∙ ap (λ (n : ℕ). words_check (folded_word c.args.bytes.now sums) i n) left
-          ∙ c.loop-i.invariant.check;
-      zeros = λ k far. get_or-set_other sums (i + 16) k r 0 (λ e. absurd (omega (arith, e, far))) ∙ c.loop-i.invariant.zeros k (omega (arith, far));
-      size = length-set sums (i + 16) r ∙ size;
+      check = ap (words_left c.args.bytes.now c.fold_eight-taken.new.sums (checksum_of c.fold_eight-taken.result)) next ∙ now.check ∙ c.loop-k.invariant.check;
+      zeros = λ k far. now.zeros k (omega (arith, far));
+      sums = now.sums;
+      lanes = now.lanes;
     }
 
 pub returns : goal.returns
+unfolding checksum_of
 returns c =
-    let words : ℕ = length c.args.bytes.now / 8 in
-    let first : c.loop-i.i ≡ words - 16 = omega (arith, c.loop-i-test.false) in
-    let left : words - c.loop-i.i ≡ 16 = omega (arith, c.loop-i-test.false, c.requires.many) in
-    ap (λ (k : ℕ). words_check (folded_word c.args.bytes.now c.loop-i.sums) k 16) (sym first)
-    ∙ ap (words_check (folded_word c.args.bytes.now c.loop-i.sums) c.loop-i.i) (sym left)
-    ∙ c.loop-i.invariant.check
+    let last : (length c.args.bytes.now / 2 - 15) / 8 * 8 ≡ 8 * c.loop-k.k = omega (arith, c.loop-k-test.false) in
+    ap (λ (n : ℕ). words_left c.args.bytes.now c.loop-k.sums n ((length c.args.bytes.now / 2 - 15) / 8 * 8)) (all_reduced 0 c.loop-k.taken)
+    ∙ ap (words_left c.args.bytes.now c.loop-k.sums (checksum_of c.loop-k.taken)) last
+    ∙ c.loop-k.invariant.check
