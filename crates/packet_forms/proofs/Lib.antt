@@ -2,3 +2,4 @@ pub mod Forms
 pub mod NameForms
 pub mod Checks
 pub mod Folding
+pub mod Digits

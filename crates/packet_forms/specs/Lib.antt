@@ -7,3 +7,4 @@ pub mod Built
 pub mod Crc
 pub mod Worked
 pub mod Folds
+pub mod Hex
