@@ -178,16 +178,21 @@ unfolding event_of
 event_reads_back name id kind secs size =
     telemetry_reads_back 0x0808 secs (event_payload name id kind) (lit< tt) (rw (length-event_payload name id kind, size) (lit≤ tt))
 
-regroup : (h n i k a b : List ℕ) → (((h ++ n) ++ i) ++ k) ++ (a ++ b) ≡ h ++ ((((n ++ i) ++ k) ++ a) ++ b)
-regroup h n i k a b = simp append_assoc
+pub telemetry_is : (id secs : ℕ) (payload : List ℕ) → (primary_header id (length payload + 12) ++ (be32_bytes secs ++ be16_bytes 0)) ++ payload ≡ telemetry_of id secs payload
+unfolding telemetry_of be32_bytes be16_bytes primary_header
+telemetry_is id secs payload = append_assoc (primary_header id (length payload + 12)) (be32_bytes secs ++ be16_bytes 0) payload
 
--- an event message, piece after piece
-pub event_is : (name : List ℕ) (id kind secs : ℕ) → length name ≡ 20 → (((((primary_header 0x0808 44 ++ be32_bytes secs) ++ be16_bytes 0) ++ name) ++ be16_bytes id) ++ be16_bytes kind) ++ (be32_bytes 66 ++ be32_bytes 1) ≡ event_of name id kind secs
-unfolding event_of telemetry_of event_payload
+pub event_is : (name : List ℕ) (id kind secs : ℕ) → length name ≡ 20 → ((primary_header 0x0808 44 ++ (be32_bytes secs ++ be16_bytes 0)) ++ name) ++ (be16_bytes id ++ be16_bytes kind ++ be32_bytes 66 ++ be32_bytes 1) ≡ event_of name id kind secs
+unfolding event_of event_payload
 event_is name id kind secs size =
     let n : length (event_payload name id kind) + 12 ≡ 44 = ap (λ (k : ℕ). k + 12) (length-event_payload name id kind ∙ ap (λ (k : ℕ). k + 12) size) in
-    regroup ((primary_header 0x0808 44 ++ be32_bytes secs) ++ be16_bytes 0) name (be16_bytes id) (be16_bytes kind) (be32_bytes 66) (be32_bytes 1)
-    ∙ ap (λ (k : ℕ). ((primary_header 0x0808 k ++ be32_bytes secs) ++ be16_bytes 0) ++ event_payload name id kind) (sym n)
+    append_assoc (primary_header 0x0808 44 ++ (be32_bytes secs ++ be16_bytes 0)) name (be16_bytes id ++ be16_bytes kind ++ be32_bytes 66 ++ be32_bytes 1)
+    ∙ payload_last
+    ∙ ap (λ (k : ℕ). (primary_header 0x0808 k ++ (be32_bytes secs ++ be16_bytes 0)) ++ event_payload name id kind) (sym n)
+    ∙ telemetry_is 0x0808 secs (event_payload name id kind)
+  where
+    payload_last : (primary_header 0x0808 44 ++ (be32_bytes secs ++ be16_bytes 0)) ++ (name ++ (be16_bytes id ++ be16_bytes kind ++ be32_bytes 66 ++ be32_bytes 1)) ≡ (primary_header 0x0808 44 ++ (be32_bytes secs ++ be16_bytes 0)) ++ event_payload name id kind
+    payload_last = ap (λ (rest : List ℕ). (primary_header 0x0808 44 ++ (be32_bytes secs ++ be16_bytes 0)) ++ rest) (simp append_assoc)
 
 -- a command, piece after piece
 pub command_is : (id code : ℕ) (payload front : List ℕ) (sum rest : ℕ) → front ≡ primary_header id (length payload + 8) ++ code ∷ [] → sum ≡ checksum_of front → rest ≡ checksum_of payload → (front ++ bit_xor 255 (bit_xor sum rest) ∷ []) ++ payload ≡ command_of id code payload

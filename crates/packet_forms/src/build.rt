@@ -1,6 +1,7 @@
 //! The packets that are built here.
 
-ghost use Rattle.std.specs.Prelude.{◌≡◌, ◌≤◌, ◌<◌, true, length};
+ghost use Rattle.std.specs.Prelude.{◌≡◌, ◌≤◌, ◌<◌, ◌++◌, true, length};
+ghost use Rattle.packet_forms.specs.Numbers.{be16_bytes, be32_bytes};
 ghost use Rattle.packet_forms.specs.Packets.{is_command_id};
 ghost use Rattle.packet_forms.specs.Built.{command_of, telemetry_of, event_of, event_payload, primary_header, IsCommandOf, IsTelemetryOf};
 
@@ -69,8 +70,7 @@ pub(crate) fn draft_telemetry(
     ensures reads_back { IsTelemetryOf mid payload.now draft.new }
 {
     begin(draft, mid, payload.len() + 12);
-    draft.append(&secs.to_be_bytes());
-    draft.append(&[0, 0]);
+    draft.append(&secondary_header(secs));
     draft.append(payload);
 }
 
@@ -86,12 +86,30 @@ pub(crate) fn draft_event(
     ensures reads_back { IsTelemetryOf EVENT (event_payload name id kind) draft.new }
 {
     begin(draft, EVENT, 44);
-    draft.append(&secs.to_be_bytes());
-    draft.append(&[0, 0]);
+    draft.append(&secondary_header(secs));
     draft.append(name.bytes());
-    draft.append(&id.to_be_bytes());
-    draft.append(&kind.to_be_bytes());
-    draft.append(&[0, 0, 0, 66, 0, 0, 0, 1]);
+    draft.append(&event_end(id, kind));
+}
+
+/// The seconds, and subseconds 0.
+#[inline(always)]
+#[tactic(auto, unfolding(crate::specs::Numbers::be16_bytes, crate::specs::Numbers::be32_bytes))]
+fn secondary_header(secs: u32) -> [u8; 6]
+    ensures { result ≡ be32_bytes secs ++ be16_bytes 0 }
+{
+    let [a, b, c, d] = secs.to_be_bytes();
+    [a, b, c, d, 0, 0]
+}
+
+/// What stands behind the name in an event message: spacecraft 66, processor 1.
+#[inline(always)]
+#[tactic(auto, unfolding(crate::specs::Numbers::be16_bytes, crate::specs::Numbers::be32_bytes))]
+fn event_end(id: u16, kind: u16) -> [u8; 12]
+    ensures { result ≡ be16_bytes id ++ be16_bytes kind ++ be32_bytes 66 ++ be32_bytes 1 }
+{
+    let [a, b] = id.to_be_bytes();
+    let [c, d] = kind.to_be_bytes();
+    [a, b, c, d, 0, 0, 0, 66, 0, 0, 0, 1]
 }
 
 /// Begins a packet of `size` bytes with its header of six bytes, over what was drafted before.

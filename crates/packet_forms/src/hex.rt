@@ -31,7 +31,11 @@ fn place_eights(places: &mut [u8], at: usize, bytes: &[u8])
     ensures size { length places.new ≡ length places.old }
 {
     for k in 0..bytes.len() / 8 {
-        place_lanes(places, at + 16 * k, digits_of_eight(&bytes[8 * k..8 * k + 8]));
+        place_lanes(
+            places,
+            at + 16 * k,
+            digits_of_eight(&bytes[8 * k..8 * k + 8]),
+        );
     }
 }
 
