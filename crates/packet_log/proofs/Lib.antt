@@ -1,4 +1,4 @@
 pub mod Stamps
-pub mod Digits
 pub mod Blocks
 pub mod Cuts
+pub mod LineEnds

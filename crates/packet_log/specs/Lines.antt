@@ -1,21 +1,9 @@
 -- The lines of the log.
-use Rattle.std.specs.Prelude.{ℕ, ◌+◌, ◌/◌, ◌%◌, Bool, if◌then◌else◌, List, [], ◌∷◌, ◌++◌, nat_lt, codes, decimal}
-use Rattle.std.specs.List.{flat_map}
+use Rattle.std.specs.Prelude.{ℕ, Bool, if◌then◌else◌, List, ◌++◌, codes, decimal}
+unfoldable pub use Rattle.packet_forms.specs.Hex.{hex}
 use Rattle.bus_pipes.specs.declared.names.PipeName.{PipeName}
 use Rattle.bus_pipes.specs.declared.names.PipeName.TheVariants.{Hs, HsEv, Cs, Sc, Mm, Md}
 use Rattle.bus_pipes.specs.declared.names.Dropped.{Dropped}
-
--- a hexadecimal digit, in upper case
-abbrev pub hex_digit : ℕ → ℕ
-hex_digit n = if nat_lt n 10 then 48 + n else 55 + n
-
--- the two digits of a byte
-abbrev pub hex_pair : ℕ → List ℕ
-hex_pair b = hex_digit (b / 16) ∷ hex_digit (b % 16) ∷ []
-
--- bytes in hexadecimal digits
-unfoldable pub hex : List ℕ → List ℕ
-hex bytes = flat_map hex_pair bytes
 
 -- the line of a packet that was sent in a frame
 unfoldable pub packet_line : ℕ → List ℕ → List ℕ

@@ -1,9 +1,9 @@
 -- The summary of a log.
-use Rattle.std.specs.Prelude.{◌≡◌, ℕ, List, ◌++◌, Option, Some, codes, decimal, refl}
+use Rattle.std.specs.Prelude.{◌≡◌, ℕ, List, ◌++◌, Some, codes, decimal, refl}
 use Rattle.std.proofs.Common.{sym, ◌∙◌}
 use Rattle.packet_forms.specs.Numbers.{be16_bytes}
 use Rattle.fsw_outside.specs.Tally.{Tally, tally_of}
-use Rattle.packet_log.specs.Lines.{hex}
+use Rattle.packet_forms.specs.Hex.{hex}
 use Rattle.packet_log.specs.declared.summary.Sums.{Sums}
 
 -- the tally that is kept

@@ -4,8 +4,8 @@
 mod block;
 mod counts;
 pub mod laws;
+mod line_ends;
 mod lines;
-mod pairs;
 mod summary;
 mod writing;
 mod written;

@@ -1,13 +1,13 @@
 //! A line of the log, which is written again and again, and what the lines say.
 
-ghost use Rattle.std.specs.Prelude.{◌≡◌, ◌≤◌, ◌+◌, ◌*◌, ◌/◌, ◌++◌, [], ℕ, true, length, take, drop, codes, decimal};
-ghost use Rattle.packet_log.specs.Lines.{hex_pair, hex, packet_line, drop_line, pipe_text, cause_text};
+ghost use Rattle.std.specs.Prelude.{◌≡◌, ◌≤◌, ◌+◌, ◌*◌, ◌++◌, [], ℕ, true, length, codes, decimal};
+ghost use Rattle.packet_forms.specs.Hex.{hex};
+ghost use Rattle.packet_log.specs.Lines.{packet_line, drop_line, pipe_text, cause_text};
 ghost use Rattle.packet_log.specs.Items.{is_request, request_text, request_line, item_line};
 
-use crate::pairs::PAIRS;
 use bus_pipes::{Dropped, Out, PipeName};
 use itoa::Buffer;
-use packet_forms::{ByteList, Packet, place};
+use packet_forms::{ByteList, Packet, place, place_hex};
 use std::marker::Model;
 
 /// The digits of a frame's number, with which each of its lines begins.
@@ -80,70 +80,6 @@ impl Line {
         place_hex(&mut self.places, self.len, bytes);
         self.len += 2 * bytes.len();
     }
-}
-
-// Writes the hexadecimal digits of the bytes from place `at` on, of four bytes in a turn and then of the rest.
-fn place_hex(places: &mut [u8], at: usize, bytes: &[u8])
-    requires { at + 2 * length bytes.now ≤ length places.old }
-    ensures { places.new ≡ take at places.old ++ (hex bytes.now ++ drop (at + 2 * length bytes.now) places.old) }
-{
-    let whole = bytes.len() / 4 * 4;
-    place_fours(places, at, &bytes[..whole]);
-    place_each(places, at + 2 * whole, &bytes[whole..]);
-}
-
-// The same of bytes whose number is a multiple of four.
-fn place_fours(places: &mut [u8], at: usize, bytes: &[u8])
-    requires fours { length bytes.now / 4 * 4 ≡ length bytes.now }
-    requires room { at + 2 * length bytes.now ≤ length places.old }
-    ensures value { places.new ≡ take at places.old ++ (hex bytes.now ++ drop (at + 2 * length bytes.now) places.old) }
-    ensures size { length places.new ≡ length places.old }
-{
-    for k in 0..bytes.len() / 4 {
-        place_four(places, at + 8 * k, &bytes[4 * k..4 * k + 4]);
-    }
-}
-
-// The same of four bytes.
-#[inline(always)]
-fn place_four(places: &mut [u8], at: usize, bytes: &[u8])
-    requires four { length bytes.now ≡ 4 }
-    requires room { at + 8 ≤ length places.old }
-    ensures { places.new ≡ take at places.old ++ (hex bytes.now ++ drop (at + 8) places.old) }
-{
-    place_pair(places, at, digits_of(bytes[0]));
-    place_pair(places, at + 2, digits_of(bytes[1]));
-    place_pair(places, at + 4, digits_of(bytes[2]));
-    place_pair(places, at + 6, digits_of(bytes[3]));
-}
-
-// Writes two digits from place `at` on. A copy of a slice would ask each time whether the two overlap.
-#[inline(always)]
-fn place_pair(places: &mut [u8], at: usize, pair: [u8; 2])
-    requires two { length pair ≡ 2 }
-    requires room { at + 2 ≤ length places.old }
-    ensures { places.new ≡ take at places.old ++ (pair ++ drop (at + length pair) places.old) }
-{
-    places[at] = pair[0];
-    places[at + 1] = pair[1];
-}
-
-// The same of bytes one at a time.
-fn place_each(places: &mut [u8], at: usize, bytes: &[u8])
-    requires { at + 2 * length bytes.now ≤ length places.old }
-    ensures { places.new ≡ take at places.old ++ (hex bytes.now ++ drop (at + 2 * length bytes.now) places.old) }
-{
-    for i in 0..bytes.len() {
-        place(places, at + 2 * i, &digits_of(bytes[i]));
-    }
-}
-
-// The two hexadecimal digits of a byte, in upper case.
-#[inline(always)]
-fn digits_of(byte: u8) -> [u8; 2]
-    ensures { result ≡ hex_pair byte }
-{
-    PAIRS[byte as usize]
 }
 
 /// The digits of a frame's number.

@@ -2,10 +2,11 @@
 
 ghost use Rattle.std.specs.Prelude.{◌≡◌, ◌<◌, ◌≤◌, ◌+◌, ◌^◌, ◌%◌, ◌==◌, ◌++◌, ◌∷◌, [], ℕ, List, length, decimal, IfOk};
 ghost use Rattle.packet_forms.specs.Numbers.{be16_bytes};
-ghost use Rattle.fsw_outside.specs.Tally.{tally_of, added, line_ends};
-ghost use Rattle.packet_log.specs.Lines.{hex, hex_digit};
+ghost use Rattle.fsw_outside.specs.Tally.{tally_of, added};
+ghost use Rattle.packet_forms.specs.Hex.{hex, hex_digit};
 ghost use Rattle.packet_log.specs.Summaries.{tally_in, summary_text};
 
+use crate::line_ends::lines_in;
 use crate::written::Written;
 use arrayvec::ArrayString;
 use fsw_outside::{Failed, Sink};
@@ -100,13 +101,6 @@ fn sums_with(sums: Sums, bytes: &[u8]) -> Sums
     }
 }
 
-/// How many LFs there are.
-fn lines_in(bytes: &[u8]) -> usize
-    ensures { result ≡ line_ends bytes.now }
-{
-    bytes.iter().filter(|byte| **byte == b'\n').count()
-}
-
 /// The four lines of a tally.
 #[tactic(auto, unfolding(crate::specs::Summaries::summary_text))]
 fn text_of(frames: u32, sums: Sums) -> SummaryText
@@ -136,7 +130,7 @@ fn push_number(text: &mut SummaryText, number: u64)
 }
 
 /// Appends a number in four hexadecimal digits.
-#[tactic(auto, unfolding(crate::specs::Lines::hex, packet_forms::specs::Numbers::be16_bytes))]
+#[tactic(auto, unfolding(packet_forms::specs::Hex::hex, packet_forms::specs::Numbers::be16_bytes))]
 fn push_hex(text: &mut SummaryText, number: u16)
     requires { length text.old.bytes ≤ 90 }
     ensures value { text.new.bytes ≡ text.old.bytes ++ hex (be16_bytes number) }

@@ -1,17 +1,8 @@
 -- The generated scenario, frame after frame and byte after byte.
-use Rattle.std.proofs.Common.{◌≡◌, ◌<◌, ◌≤◌, ◌+◌, ℕ, zero, suc, List, [], ◌∷◌, ◌++◌, length, take, drop, get_or, refl, sym, ap, ◌∙◌, append_assoc, append-nil, arith}
+use Rattle.std.proofs.Common.{◌≡◌, ◌<◌, ◌≤◌, ◌+◌, ℕ, zero, suc, List, [], ◌++◌, length, take, drop, refl, sym, ap, ◌∙◌, append_assoc, append-nil, arith}
 use Rattle.std.specs.Prelude.{codes}
-use Rattle.std.proofs.lemmas.List.{take_more, take-append-drop, drop_all}
-use Rattle.std.proofs.lemmas.Grind.{flat_map-append}
-use Rattle.scenario.specs.Drill.{upper_hex, upper_pair, draws_of, frame_lines, frames_text, text_left, drill_header, drill_text}
-
-pub hex_none : upper_hex [] ≡ []
-unfolding upper_hex
-hex_none = refl
-
-pub hex_more : (bytes : List ℕ) (i : ℕ) → i < length bytes → upper_hex (take (i + 1) bytes) ≡ upper_hex (take i bytes) ++ upper_pair (get_or bytes i 0)
-unfolding upper_hex
-hex_more bytes i h = ap upper_hex (take_more bytes i 0 h) ∙ flat_map-append upper_pair (take i bytes) (get_or bytes i 0 ∷ [])
+use Rattle.std.proofs.lemmas.List.{take-append-drop, drop_all}
+use Rattle.scenario.specs.Drill.{draws_of, frame_lines, frames_text, text_left, drill_header, drill_text}
 
 -- one frame is left: its lines, and `end`
 pub last_made : (frames left x y : ℕ) (lines : List ℕ) → frames ≡ 1 → left ≡ 0 → lines ≡ frame_lines (draws_of x) ++ codes "end\n" → text_left frames x ≡ lines ++ text_left left y
@@ -36,15 +27,6 @@ none_left x = refl
 pub whole_left : (k : ℕ) → drill_header ++ text_left 2000 k ≡ drill_text k
 unfolding text_left drill_text
 whole_left k = sym (append_assoc drill_header (frames_text 2000 k) (codes "end\n"))
-
--- the two digits of one byte more
-pub hex_step : (start lines new pair bytes : List ℕ) (i : ℕ) → i < length bytes → lines ≡ start ++ upper_hex (take i bytes) → pair ≡ upper_pair (get_or bytes i 0) → new ≡ lines ++ pair → new ≡ start ++ upper_hex (take (i + 1) bytes)
-hex_step start lines new pair bytes i within so_far is more =
-    more
-    ∙ ap (λ (front : List ℕ). front ++ pair) so_far
-    ∙ append_assoc start (upper_hex (take i bytes)) pair
-    ∙ ap (λ (digits : List ℕ). start ++ (upper_hex (take i bytes) ++ digits)) is
-    ∙ ap (λ (digits : List ℕ). start ++ digits) (sym (hex_more bytes i within))
 
 -- nothing is behind lines that were all handed out
 pub all_handed : (lines behind : List ℕ) (at : ℕ) → length lines ≤ at → drop at lines ++ behind ≡ behind

@@ -1,9 +1,10 @@
 -- The generated scenario: its text, from the number that it is drawn from.
-use Rattle.std.specs.Prelude.{ℕ, zero, suc, ◌+◌, ◌*◌, ◌/◌, ◌%◌, ◌==◌, if◌then◌else◌, List, [], ◌∷◌, ◌++◌, nat_lt, codes, decimal}
-use Rattle.std.specs.List.{flat_map}
+use Rattle.std.specs.Prelude.{ℕ, zero, suc, ◌+◌, ◌*◌, ◌/◌, ◌%◌, ◌==◌, if◌then◌else◌, List, [], ◌∷◌, ◌++◌, codes, decimal}
 use Rattle.packet_forms.specs.MessageIds.{mm_command}
 use Rattle.packet_forms.specs.Built.{command_of}
 use Rattle.packet_forms.specs.Numbers.{be32_bytes}
+unfoldable pub use Rattle.packet_forms.specs.Hex.{hex as upper_hex}
+pub use Rattle.packet_forms.specs.Hex.{hex_digit as upper_digit, hex_pair as upper_pair}
 
 -- a draw changes x to this number, whose upper half is drawn
 unfoldable pub drawn : ℕ → ℕ
@@ -48,18 +49,6 @@ command_drawn d e =
     if d % 3 == 0 then command_of mm_command 2 (8 ∷ be32_bytes e)
     else if d % 3 == 1 then command_of mm_command 3 (8 ∷ be32_bytes e ++ be32_bytes (d % 256))
     else command_of mm_command 8 (be32_bytes (e % 32768) ++ be32_bytes (1 + d % 256) ++ e % 256 ∷ [])
-
--- a hexadecimal digit, in upper case
-abbrev pub upper_digit : ℕ → ℕ
-upper_digit n = if nat_lt n 10 then 48 + n else 55 + n
-
--- the two digits of a byte
-abbrev pub upper_pair : ℕ → List ℕ
-upper_pair b = upper_digit (b / 16) ∷ upper_digit (b % 16) ∷ []
-
--- bytes in hexadecimal digits
-unfoldable pub upper_hex : List ℕ → List ℕ
-upper_hex bytes = flat_map upper_pair bytes
 
 unfoldable pub send_line : List ℕ → List ℕ
 send_line packet = codes "send " ++ upper_hex packet ++ codes "\n"

@@ -4,7 +4,7 @@ ghost use Rattle.std.specs.Prelude.{◌≡◌, ◌≤◌, ◌<◌, ◌+◌, ◌*
 ghost use Rattle.packet_forms.specs.MessageIds.{mm_command};
 ghost use Rattle.packet_forms.specs.Built.{command_of};
 ghost use Rattle.packet_forms.specs.Numbers.{be32_bytes};
-ghost use Rattle.scenario.specs.Drill.{drawn, upper, drawn_behind, draws_of, counter_line, upset_line, command_drawn, upper_digit, upper_hex, send_line, frame_lines, text_left, drill_header, drill_text};
+ghost use Rattle.scenario.specs.Drill.{drawn, upper, drawn_behind, draws_of, counter_line, upset_line, command_drawn, send_line, frame_lines, text_left, drill_header, drill_text};
 
 use crate::line_buffer::LineBuffer;
 use itoa::Buffer;
@@ -218,7 +218,7 @@ fn append_send(lines: &mut LineBuffer, packet: &Packet)
     ensures few { length lines.new ≤ 590 }
 {
     lines.append("send ".as_bytes());
-    append_hex(lines, packet.bytes());
+    lines.append_hex(packet.bytes());
     lines.append("\n".as_bytes());
 }
 
@@ -230,29 +230,6 @@ fn append_number(lines: &mut LineBuffer, number: u32)
 {
     let mut buffer = Buffer::new();
     lines.append(buffer.format(number).as_bytes());
-}
-
-/// Appends the bytes in hexadecimal digits.
-fn append_hex(lines: &mut LineBuffer, bytes: &[u8])
-    requires { length lines.old + 2 * length bytes.now ≤ 641 }
-    ensures value { lines.new ≡ lines.old ++ upper_hex bytes.now }
-    ensures size { length lines.new ≡ length lines.old + 2 * length bytes.now }
-{
-    'bytes: for byte in bytes {
-        lines.append(&[digit_of(*byte / 16), digit_of(*byte % 16)]);
-    }
-}
-
-/// A hexadecimal digit, in upper case.
-fn digit_of(number: u8) -> u8
-    requires { number < 16 }
-    ensures { result ≡ upper_digit number }
-{
-    if number < 10 {
-        b'0' + number
-    } else {
-        b'A' - 10 + number
-    }
 }
 
 /// The command that a frame sends.

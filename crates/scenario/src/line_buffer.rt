@@ -1,7 +1,8 @@
 //! The line that has begun.
-ghost use Rattle.std.specs.Prelude.{◌≡◌, ◌≤◌, ◌+◌, ◌++◌, [], length};
+ghost use Rattle.std.specs.Prelude.{◌≡◌, ◌≤◌, ◌+◌, ◌*◌, ◌++◌, [], length};
+ghost use Rattle.scenario.specs.Drill.{upper_hex};
 
-use packet_forms::place;
+use packet_forms::{place, place_hex};
 use std::marker::Model;
 
 /// One byte more than the longest line.
@@ -54,6 +55,16 @@ impl LineBuffer {
     {
         place(&mut self.places, self.len, piece);
         self.len += piece.len();
+    }
+
+    /// Appends the bytes in hexadecimal digits.
+    pub(crate) fn append_hex(&mut self, bytes: &[u8])
+        requires { length self.old + 2 * length bytes.now ≤ 641 }
+        ensures value { self.new ≡ self.old ++ upper_hex bytes.now }
+        ensures size { length self.new ≡ length self.old + 2 * length bytes.now }
+    {
+        place_hex(&mut self.places, self.len, bytes);
+        self.len += 2 * bytes.len();
     }
 
     pub(crate) fn clear(&mut self)

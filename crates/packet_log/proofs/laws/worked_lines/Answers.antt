@@ -4,7 +4,8 @@ use Rattle.packet_forms.specs.Packets.{checksum_of}
 use Rattle.packet_forms.specs.Names.{name_of}
 use Rattle.packet_forms.specs.Built.{primary_header, with_checksum, command_of, telemetry_of, event_payload, event_of}
 use Rattle.std.specs.Fmt.{digits}
-use Rattle.packet_log.specs.Lines.{hex, packet_line, drop_line}
+use Rattle.packet_forms.specs.Hex.{hex}
+use Rattle.packet_log.specs.Lines.{packet_line, drop_line}
 use Rattle.packet_log.proofs.laws.worked_lines.Goals as goal
 
 pub returns : goal.returns

@@ -3,7 +3,7 @@ use Rattle.std.specs.Fmt.{digits}
 use Rattle.packet_forms.specs.Numbers.{be16_bytes}
 use Rattle.packet_forms.specs.Crc.{crc_of, crc_bit, low_bits}
 use Rattle.fsw_outside.specs.Tally.{tally_of}
-use Rattle.packet_log.specs.Lines.{hex}
+use Rattle.packet_forms.specs.Hex.{hex}
 use Rattle.packet_log.specs.Summaries.{summary_text}
 use Rattle.packet_log.proofs.laws.worked_summaries.Goals as goal
 
