@@ -120,7 +120,7 @@ fn make_frame(lines: &mut LineBuffer, x: u32) -> u32
     lines.clear();
     append_counter(lines, draws.a);
     append_upset(lines, draws.b, draws.c);
-    append_send(lines, &command_drawn(draws.d, draws.e));
+    append_drawn(lines, draws.d, draws.e);
     lines.append("tick\n".as_bytes());
     draws.x
 }
@@ -232,40 +232,54 @@ fn append_number(lines: &mut LineBuffer, number: u32)
     lines.append(buffer.format(number).as_bytes());
 }
 
-/// The command that a frame sends.
+/// Appends the line of the command that a frame sends.
 #[tactic(auto, unfolding(crate::specs::Drill::command_drawn))]
-fn command_drawn(d: u32, e: u32) -> Packet
-    ensures { result ≡ command_drawn d e }
+fn append_drawn(lines: &mut LineBuffer, d: u32, e: u32)
+    requires { length lines.old ≤ 60 }
+    ensures value { lines.new ≡ lines.old ++ send_line (command_drawn d e) }
+    ensures few { length lines.new ≤ 590 }
 {
     match d % 3 {
-        0 => peek(e),
-        1 => poke(e, d % 256),
-        _ => fill(e % 32768, 1 + d % 256, (e % 256) as u8),
+        0 => append_command(lines, 2, &peek(e)),
+        1 => append_command(lines, 3, &poke(e, d % 256)),
+        _ => append_command(lines, 8, &fill(e % 32768, 1 + d % 256, (e % 256) as u8)),
     }
 }
 
-#[tactic(auto, unfolding(packet_forms::specs::Numbers::be32_bytes))]
-fn peek(at: u32) -> Packet
-    ensures { result ≡ command_of mm_command 2 (8 ∷ be32_bytes at) }
+/// Appends the line of a command of Memory Manager.
+#[inline(never)]
+fn append_command(lines: &mut LineBuffer, code: u8, payload: &[u8])
+    requires code { code ≤ 127 }
+    requires size { length payload.now ≤ 9 }
+    requires room { length lines.old ≤ 60 }
+    ensures value { lines.new ≡ lines.old ++ send_line (command_of mm_command code payload.now) }
+    ensures few { length lines.new ≤ 590 }
 {
-    let [a, b, c, d] = at.to_be_bytes();
-    command(MM_COMMAND, 2, &[8, a, b, c, d])
+    append_send(lines, &command(MM_COMMAND, code, payload));
 }
 
 #[tactic(auto, unfolding(packet_forms::specs::Numbers::be32_bytes))]
-fn poke(at: u32, value: u32) -> Packet
-    ensures { result ≡ command_of mm_command 3 (8 ∷ be32_bytes at ++ be32_bytes value) }
+fn peek(at: u32) -> [u8; 5]
+    ensures { result ≡ 8 ∷ be32_bytes at }
+{
+    let [a, b, c, d] = at.to_be_bytes();
+    [8, a, b, c, d]
+}
+
+#[tactic(auto, unfolding(packet_forms::specs::Numbers::be32_bytes))]
+fn poke(at: u32, value: u32) -> [u8; 9]
+    ensures { result ≡ 8 ∷ be32_bytes at ++ be32_bytes value }
 {
     let [a, b, c, d] = at.to_be_bytes();
     let [e, f, g, h] = value.to_be_bytes();
-    command(MM_COMMAND, 3, &[8, a, b, c, d, e, f, g, h])
+    [8, a, b, c, d, e, f, g, h]
 }
 
 #[tactic(auto, unfolding(packet_forms::specs::Numbers::be32_bytes))]
-fn fill(at: u32, len: u32, byte: u8) -> Packet
-    ensures { result ≡ command_of mm_command 8 (be32_bytes at ++ be32_bytes len ++ byte ∷ []) }
+fn fill(at: u32, len: u32, byte: u8) -> [u8; 9]
+    ensures { result ≡ be32_bytes at ++ be32_bytes len ++ byte ∷ [] }
 {
     let [a, b, c, d] = at.to_be_bytes();
     let [e, f, g, h] = len.to_be_bytes();
-    command(MM_COMMAND, 8, &[a, b, c, d, e, f, g, h, byte])
+    [a, b, c, d, e, f, g, h, byte]
 }
