@@ -27,9 +27,9 @@ pub(crate) fn is_readable(window: Window<'_>, entry: DwellEntry) -> bool
 
 /// Puts the bytes of an entry behind the others.
 #[tactic(auto, unfolding(crate::specs::Reading::value_of, crate::specs::Reading::entry_bytes, crate::specs::Reading::bytes_of_value, packet_forms::specs::Numbers::be16_bytes, packet_forms::specs::Numbers::be32_bytes))]
-pub(crate) fn read(window: Window<'_>, entry: DwellEntry, bytes: &mut Payload)
+pub(crate) fn read(window: &Window<'_>, entry: DwellEntry, bytes: &mut Payload)
     requires { length bytes.old + 4 ≤ 104 }
-    ensures bytes { bytes.new ≡ bytes.old ++ entry_bytes (seen window.entry) entry }
+    ensures bytes { bytes.new ≡ bytes.old ++ entry_bytes (seen window.now) entry }
     ensures few { length bytes.new ≤ length bytes.old + 4 }
 {
     if entry.len == 1 {

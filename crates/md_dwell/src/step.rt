@@ -143,9 +143,9 @@ impl Md {
             &mut (),
             out,
         );
-        self.streams.first.serve(1, window, now, out);
-        self.streams.second.serve(2, window, now, out);
-        self.streams.third.serve(3, window, now, out);
-        self.streams.fourth.serve(4, window, now, out);
+        self.streams.first.serve(1, &window, now, out);
+        self.streams.second.serve(2, &window, now, out);
+        self.streams.third.serve(3, &window, now, out);
+        self.streams.fourth.serve(4, &window, now, out);
     }
 }

@@ -132,13 +132,13 @@ impl Stream {
 
     /// Reads the entries of the table, 1 to 4, that are due in this wakeup, and puts the packet of a round that ends behind the items.
     #[inline(always)]
-    pub(crate) fn serve(&mut self, table: u16, window: Window<'_>, now: u32, out: &mut Outbox)
+    pub(crate) fn serve(&mut self, table: u16, window: &Window<'_>, now: u32, out: &mut Outbox)
         requires table { (1 ≤ table) × (table ≤ 4) }
         requires room { length out.old.items < out.old.room }
         ensures stands { (entries : List DwellEntry) (on : Bool) (since : ℕ) (images : List Memory) → StreamStands entries on since images self.old
-            → StreamStands entries on since (images ++ seen window.entry ∷ []) self.new }
+            → StreamStands entries on since (images ++ seen window.now ∷ []) self.new }
         ensures items { (entries : List DwellEntry) (on : Bool) (since : ℕ) (images : List Memory) → StreamStands entries on since images self.old
-            → out.new ≡ adding out.old (dwell_items now table (dwell_at on entries since (images ++ seen window.entry ∷ []))) }
+            → out.new ≡ adding out.old (dwell_items now table (dwell_at on entries since (images ++ seen window.now ∷ []))) }
         ensures counted { AllPass is_item_counted out.old.items → AllPass is_item_counted out.new.items }
         ensures plan { self.new.plan ≡ self.old.plan }
         ensures few { length out.new.items ≤ length out.old.items + 1 }
@@ -158,16 +158,16 @@ impl Stream {
 
     // Reads the entries that are due, where the next one is.
     #[inline(never)]
-    fn read_on(&mut self, table: u16, window: Window<'_>, now: u32, out: &mut Outbox)
+    fn read_on(&mut self, table: u16, window: &Window<'_>, now: u32, out: &mut Outbox)
         requires table { (1 ≤ table) × (table ≤ 4) }
         requires due { self.old.wait ≡ 0 }
         requires room { length out.old.items < out.old.room }
         ensures stands { (since r : ℕ) (past : List Memory) → 0 < delays (list_of self.old.plan)
-            → IsInRound (list_of self.old.plan) since past (past ++ seen window.entry ∷ []) r self.old.next 0 self.old.bytes
-            → Runs (list_of self.old.plan) since (past ++ seen window.entry ∷ []) self.new }
+            → IsInRound (list_of self.old.plan) since past (past ++ seen window.now ∷ []) r self.old.next 0 self.old.bytes
+            → Runs (list_of self.old.plan) since (past ++ seen window.now ∷ []) self.new }
         ensures items { (since r : ℕ) (past : List Memory) → 0 < delays (list_of self.old.plan)
-            → IsInRound (list_of self.old.plan) since past (past ++ seen window.entry ∷ []) r self.old.next 0 self.old.bytes
-            → out.new ≡ adding out.old (dwell_items now table (round_at (list_of self.old.plan) since (past ++ seen window.entry ∷ []))) }
+            → IsInRound (list_of self.old.plan) since past (past ++ seen window.now ∷ []) r self.old.next 0 self.old.bytes
+            → out.new ≡ adding out.old (dwell_items now table (round_at (list_of self.old.plan) since (past ++ seen window.now ∷ []))) }
         ensures plan { self.new.plan ≡ self.old.plan }
         ensures counted { AllPass is_item_counted out.old.items → AllPass is_item_counted out.new.items }
         ensures enabled { self.new.enabled ≡ self.old.enabled }
@@ -187,12 +187,12 @@ impl Stream {
     }
 
     // Reads entries from the next one on, up to one with a delay or the last.
-    fn gather(&mut self, window: Window<'_>)
+    fn gather(&mut self, window: &Window<'_>)
         ensures read { (list : List DwellEntry) (from : ℕ) (past : List Memory) → list ≡ list_of self.old.plan
-            → IsReadTo list from (past ++ seen window.entry ∷ []) self.old.next 0 self.old.bytes
-            → IsReadTo list from (past ++ seen window.entry ∷ []) self.new.next self.new.wait self.new.bytes }
+            → IsReadTo list from (past ++ seen window.now ∷ []) self.old.next 0 self.old.bytes
+            → IsReadTo list from (past ++ seen window.now ∷ []) self.new.next self.new.wait self.new.bytes }
         ensures last { (list : List DwellEntry) (from : ℕ) (past : List Memory) → list ≡ list_of self.old.plan → self.old.next < length list
-            → IsReadTo list from (past ++ seen window.entry ∷ []) self.old.next 0 self.old.bytes
+            → IsReadTo list from (past ++ seen window.now ∷ []) self.old.next 0 self.old.bytes
             → self.new.next ≡ length list → from + delays_to_last list ≡ length past }
         ensures waits { self.new.next < length (list_of self.old.plan) → 0 < self.new.wait }
         ensures plan { self.new.plan ≡ self.old.plan }
@@ -205,14 +205,14 @@ impl Stream {
 }
 
 // Reads entries of a list from a place on, up to one with a delay or the last.
-fn gather(list: &[DwellEntry], next: usize, window: Window<'_>, bytes: &mut Payload) -> Pause
+fn gather(list: &[DwellEntry], next: usize, window: &Window<'_>, bytes: &mut Payload) -> Pause
     requires few { length list.now ≤ 25 }
     requires within { next ≤ length list.now }
     requires held { length bytes.old ≤ 4 * next }
-    ensures read { (from : ℕ) (past : List Memory) → IsReadTo list.now from (past ++ seen window.entry ∷ []) next 0 bytes.old
-        → IsReadTo list.now from (past ++ seen window.entry ∷ []) result.next result.wait bytes.new }
+    ensures read { (from : ℕ) (past : List Memory) → IsReadTo list.now from (past ++ seen window.now ∷ []) next 0 bytes.old
+        → IsReadTo list.now from (past ++ seen window.now ∷ []) result.next result.wait bytes.new }
     ensures last { (from : ℕ) (past : List Memory) → next < length list.now
-        → IsReadTo list.now from (past ++ seen window.entry ∷ []) next 0 bytes.old
+        → IsReadTo list.now from (past ++ seen window.now ∷ []) next 0 bytes.old
         → result.next ≡ length list.now → from + delays_to_last list.now ≡ length past }
     ensures waits { result.next < length list.now → 0 < result.wait }
     ensures within { result.next ≤ length list.now }

@@ -16,7 +16,7 @@ use Rattle.md_dwell.proofs.streams.Stream.read_on.Goals.{Then-self-list}
 pub returns-then-self-list-clause-items : goal.returns-then-self-list-clause-items
 returns-then-self-list-clause-items c = λ since r past some_delay held.
     let list = list_of c.args.self.now.plan in
-    let image = seen c.args.window in
+    let image = seen c.args.window.now in
     let new = c.gather.new.self in
     let same : c.list.result.now ≡ list = c.list.ensures.list ∙ ap list_of c.gather.ensures.plan in
     let within : new.next < length list = rw (← same) c.if-self-list.true in
@@ -27,7 +27,7 @@ returns-then-self-list-clause-items c = λ since r past some_delay held.
 pub returns-then-self-eq0-clause-stands : goal.returns-then-self-eq0-clause-stands
 returns-then-self-eq0-clause-stands c = λ since r past some_delay held.
     let list = list_of c.args.self.now.plan in
-    let image = seen c.args.window in
+    let image = seen c.args.window.now in
     let read = c.gather.ensures.read list (since + r * delays list) past refl held.read in
     let last = c.gather.ensures.last list (since + r * delays list) past refl held.within held.read in
     let round = round_over since r past image c.args.self.now c.gather.new.self c.list.result.now some_delay held c.list.ensures.list c.gather.ensures.plan c.if-self-list.false read last in
@@ -48,7 +48,7 @@ returns-then-self-eq0-clause-stands c = λ since r past some_delay held.
 pub returns-then-self-eq0-clause-items : goal.returns-then-self-eq0-clause-items
 returns-then-self-eq0-clause-items c = λ since r past some_delay held.
     let list = list_of c.args.self.now.plan in
-    let image = seen c.args.window in
+    let image = seen c.args.window.now in
     let read = c.gather.ensures.read list (since + r * delays list) past refl held.read in
     let last = c.gather.ensures.last list (since + r * delays list) past refl held.within held.read in
     let round = round_over since r past image c.args.self.now c.gather.new.self c.list.result.now some_delay held c.list.ensures.list c.gather.ensures.plan c.if-self-list.false read last in
@@ -59,7 +59,7 @@ returns-then-self-eq0-clause-items c = λ since r past some_delay held.
 pub returns-else-self-eq0-clause-stands : goal.returns-else-self-eq0-clause-stands
 returns-else-self-eq0-clause-stands c = λ since r past some_delay held.
     let list = list_of c.args.self.now.plan in
-    let image = seen c.args.window in
+    let image = seen c.args.window.now in
     let read = c.gather.ensures.read list (since + r * delays list) past refl held.read in
     let last = c.gather.ensures.last list (since + r * delays list) past refl held.within held.read in
     let round = round_over since r past image c.args.self.now c.gather.new.self c.list.result.now some_delay held c.list.ensures.list c.gather.ensures.plan c.if-self-list.false read last in
@@ -70,7 +70,7 @@ returns-else-self-eq0-clause-stands c = λ since r past some_delay held.
 pub returns-else-self-eq0-clause-items : goal.returns-else-self-eq0-clause-items
 returns-else-self-eq0-clause-items c = λ since r past some_delay held.
     let list = list_of c.args.self.now.plan in
-    let image = seen c.args.window in
+    let image = seen c.args.window.now in
     let read = c.gather.ensures.read list (since + r * delays list) past refl held.read in
     let last = c.gather.ensures.last list (since + r * delays list) past refl held.within held.read in
     let round = round_over since r past image c.args.self.now c.gather.new.self c.list.result.now some_delay held c.list.ensures.list c.gather.ensures.plan c.if-self-list.false read last in

@@ -12,16 +12,16 @@ use Rattle.md_dwell.proofs.streams.Stream.serve.Goals as goal
 pub returns-then-not-self-clause-items : goal.returns-then-not-self-clause-items
 returns-then-not-self-clause-items c = λ entries on since images stood.
     let off : on ≡ false = sym stood.enabled ∙ c.if-not-self.true in
-    sym (ap (λ (o : Option (List ℕ)). adding c.args.out.now (dwell_items c.args.now c.args.table o)) (dwell_off on entries since (images ++ seen c.args.window ∷ []) off) ∙ adding_none c.args.out.now)
+    sym (ap (λ (o : Option (List ℕ)). adding c.args.out.now (dwell_items c.args.now c.args.table o)) (dwell_off on entries since (images ++ seen c.args.window.now ∷ []) off) ∙ adding_none c.args.out.now)
 
 pub returns-then-period-eq0-clause-items : goal.returns-then-period-eq0-clause-items
 returns-then-period-eq0-clause-items c = λ entries on since images stood.
     let still : delays (list_of entries) ≡ 0 = rw (← stood.plan) (sym c.period.ensures ∙ c.if-period-eq0.true) in
-    sym (ap (λ (o : Option (List ℕ)). adding c.args.out.now (dwell_items c.args.now c.args.table o)) (dwell_still on entries since (images ++ seen c.args.window ∷ []) still) ∙ adding_none c.args.out.now)
+    sym (ap (λ (o : Option (List ℕ)). adding c.args.out.now (dwell_items c.args.now c.args.table o)) (dwell_still on entries since (images ++ seen c.args.window.now ∷ []) still) ∙ adding_none c.args.out.now)
 
 pub returns-then-self-eq0-clause-stands : goal.returns-then-self-eq0-clause-stands
 returns-then-self-eq0-clause-stands c = λ entries on since images stood.
-    let image = seen c.args.window in
+    let image = seen c.args.window.now in
     let self = c.args.self.now in
     let some_delay : 0 < delays (list_of self.plan) = rw (← c.period.ensures) (omega arith) in
     let run = runs_on entries on since images self stood c.if-not-self.false some_delay in
@@ -34,7 +34,7 @@ returns-then-self-eq0-clause-stands c = λ entries on since images stood.
 
 pub returns-then-self-eq0-clause-items : goal.returns-then-self-eq0-clause-items
 returns-then-self-eq0-clause-items c = λ entries on since images stood.
-    let image = seen c.args.window in
+    let image = seen c.args.window.now in
     let self = c.args.self.now in
     let some_delay : 0 < delays (list_of self.plan) = rw (← c.period.ensures) (omega arith) in
     let run = runs_on entries on since images self stood c.if-not-self.false some_delay in
@@ -46,7 +46,7 @@ returns-then-self-eq0-clause-items c = λ entries on since images stood.
 
 pub returns-else-self-eq0-clause-stands : goal.returns-else-self-eq0-clause-stands
 returns-else-self-eq0-clause-stands c = λ entries on since images stood.
-    let image = seen c.args.window in
+    let image = seen c.args.window.now in
     let self = c.args.self.now in
     let some_delay : 0 < delays (list_of self.plan) = rw (← c.period.ensures) (omega arith) in
     let run = runs_on entries on since images self stood c.if-not-self.false some_delay in
@@ -61,7 +61,7 @@ returns-else-self-eq0-clause-stands c = λ entries on since images stood.
 
 pub returns-else-self-eq0-clause-items : goal.returns-else-self-eq0-clause-items
 returns-else-self-eq0-clause-items c = λ entries on since images stood.
-    let image = seen c.args.window in
+    let image = seen c.args.window.now in
     let self = c.args.self.now in
     let some_delay : 0 < delays (list_of self.plan) = rw (← c.period.ensures) (omega arith) in
     let run = runs_on entries on since images self stood c.if-not-self.false some_delay in
