@@ -26,10 +26,10 @@ use crate::segments::{Segments, entry_in};
 use crate::state::{Course, Cs};
 use crate::tally::Tally;
 use crate::verdicts::{Refusal, own_refusal};
-use bus_pipes::{Counts, Out, Outbox};
+use bus_pipes::{Counts, Out, Outbox, push_event};
 use commands::{Commanded, handle_all};
 use memory_window::Window;
-use packet_forms::{Packet, event};
+use packet_forms::Packet;
 
 /// How many items a wakeup gives at most.
 pub const MOST_ITEMS: u32 = 33;
@@ -245,5 +245,5 @@ fn read_slice(
     if !course.tally.judge(place, check) {
         return;
     }
-    out.push(Out::Made(event(name(), MISCOMPARE, 3, now)));
+    push_event(out, name(), MISCOMPARE, 3, now);
 }

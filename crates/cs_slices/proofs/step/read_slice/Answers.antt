@@ -13,7 +13,7 @@ use Rattle.cs_slices.specs.declared.segments.Segment.{Segment}
 use Rattle.cs_slices.proofs.Tallying.{tally_rests}
 use Rattle.cs_slices.proofs.Slicing.{IsRead, slice_read, items_quiet, items_found, quiet_before_end}
 use Rattle.cs_slices.proofs.step.read_slice.Goals as goal
-use Rattle.cs_slices.proofs.step.read_slice.Goals.{Then-not-judge, After-push}
+use Rattle.cs_slices.proofs.step.read_slice.Goals.{Then-not-judge, After-push_event}
 
 quiet_slice : Then-not-judge → List Slice → List Instruction → Slice
 quiet_slice c slices since = slice_from (seen c.args.window) (entry_in (c.args.eeprom.now ++ c.args.memory.now) c.args.place) c.args.place (offset_at c.args.place slices since)
@@ -33,10 +33,10 @@ quiet_check c orders slices since stood =
     let read = quiet_read c orders slices since stood in
     c.check_after-check.ensures slices since (quiet_slice c slices since) stood.passing read.place read.from (c.offset_at-from.ensures slices since stood.passing) read.bytes
 
-found_slice : After-push → List Slice → List Instruction → Slice
+found_slice : After-push_event → List Slice → List Instruction → Slice
 found_slice c slices since = slice_from (seen c.args.window) (entry_in (c.args.eeprom.now ++ c.args.memory.now) c.args.place) c.args.place (offset_at c.args.place slices since)
 
-found_read : (c : After-push) (orders : List Instruction) (slices : List Slice) (since : List Instruction) → StandsAt (c.args.eeprom.now ++ c.args.memory.now) orders slices since c.args.course.now
+found_read : (c : After-push_event) (orders : List Instruction) (slices : List Slice) (since : List Instruction) → StandsAt (c.args.eeprom.now ++ c.args.memory.now) orders slices since c.args.course.now
     → IsRead (found_slice c slices since) c.args.place c.offset_at-from.result c.slice_size-size.result c.entry_in-segment.result.len c.part-bytes.result.now
 unfolding found_slice
 found_read c orders slices since stood =
@@ -45,7 +45,7 @@ found_read c orders slices since stood =
     (c.offset_at-from.ensures slices since stood.passing) (ap (λ (e : Segment). e.len) c.entry_in-segment.ensures) c.slice_size-size.ensures.size
     (c.entry_bytes.ensures ∙ ap (entry_bytes (seen c.args.window)) c.entry_in-segment.ensures) c.part-bytes.ensures
 
-found_check : (c : After-push) (orders : List Instruction) (slices : List Slice) (since : List Instruction) → StandsAt (c.args.eeprom.now ++ c.args.memory.now) orders slices since c.args.course.now
+found_check : (c : After-push_event) (orders : List Instruction) (slices : List Slice) (since : List Instruction) → StandsAt (c.args.eeprom.now ++ c.args.memory.now) orders slices since c.args.course.now
     → c.check_after-check.result ≡ crc_of 0 (pass_bytes c.args.place (slices ++ found_slice c slices since ∷ []))
 found_check c orders slices since stood =
     let read = found_read c orders slices since stood in
@@ -116,7 +116,7 @@ unfolding found_slice
 returns-clause-items c = λ orders slices since stood.
     let read = found_read c orders slices since stood in
     let ends : (found_slice c slices since).ends ≡ true = read.ends ∙ eq-eqb _ _ c.if-from-size.false in
-    c.push.ensures.after
-    ∙ ap (λ (p : List ℕ). adding c.args.out.now (Made p ∷ [])) (c.event.ensures.bytes ∙ ap (λ (n : List ℕ). event_of n 101 3 c.args.now) c.name.ensures)
+    c.push_event.ensures.after
+    ∙ ap (λ (n : List ℕ). adding c.args.out.now (Made (event_of n 101 3 c.args.now) ∷ [])) c.name.ensures
     ∙ items_found c.args.now c.args.out.now slices (found_slice c slices since)
     (sym (c.judge.ensures.found slices (found_slice c slices since) stood.tally read.place ends (found_check c orders slices since stood)) ∙ c.if-not-judge.false)
