@@ -1,0 +1,6 @@
+pub mod Plans
+pub mod Faults
+pub mod Seats
+pub mod Crowds
+pub mod Calls
+pub mod Worked
