@@ -15,3 +15,5 @@ pub use listed::{Listed, PlanFault};
 pub use steady::Steady;
 pub use subject::Subject;
 
+#[cfg(test)]
+mod tests;
