@@ -2,7 +2,7 @@
 
 ghost use Rattle.std.specs.Prelude.{◌≡◌, ◌<◌, ◌≤◌, [], map, filter, not, length, vec_len, vec_capacity, IfOk};
 ghost use Rattle.subjects.specs.Plans.{cycled, restarted};
-ghost use Rattle.subjects.specs.Seats.{held, last_counter};
+ghost use Rattle.subjects.specs.Seats.{held, counters_in};
 ghost use Rattle.subjects.specs.Crowds.{counter_of, is_named, restarted_if, all_cycled, with_restarted, without, all_restarted};
 
 use crate::seat::Seat;
@@ -46,17 +46,32 @@ fn open_seats<S: Drop>(alloc: Global, subjects: Vec<S>) -> Result<Vec<Seat<S>>, 
     for subject in subjects {
         seats.push_reserved(Seat {
             subject,
-            reading: 0,
+            counter: Counter::default(),
         });
     }
     Ok(seats)
 }
 
-/// Cycles each subject once on up to so many workers; what it gives is kept in its own seat.
-fn cycle_all<R: Threads + Sync, S: Subject + Send>(rt: &R, workers: u32, seats: &mut [Seat<S>])
+/// Cycles each subject once, one after another, and lists their counters.
+fn cycle_in_turn<S: Subject>(seats: &mut [Seat<S>], readings: &mut Vec<Counter>)
+    requires { length seats.old ≤ vec_capacity readings.old }
+    ensures subjects { map S.seen (held seats.new) ≡ map cycled (map S.seen (held seats.old)) }
+    ensures readings { readings.new.items ≡ map counter_of (map S.seen (held seats.old)) }
+    ensures capacity { vec_capacity readings.new ≡ vec_capacity readings.old }
+{
+    readings.clear();
+    for seat in seats.iter_mut() {
+        let value = seat.subject.cycle();
+        let name = seat.subject.name();
+        readings.push_reserved(Counter { name, value });
+    }
+}
+
+/// Cycles each subject once on up to so many workers; each keeps its counter in its own seat.
+fn cycle_shared<R: Threads + Sync, S: Subject + Send>(rt: &R, workers: u32, seats: &mut [Seat<S>])
     requires { 0 < workers }
     ensures subjects { map S.seen (held seats.new) ≡ map cycled (map S.seen (held seats.old)) }
-    ensures counters { map (last_counter S.seen) seats.new ≡ map counter_of (map S.seen (held seats.old)) }
+    ensures counters { counters_in seats.new ≡ map counter_of (map S.seen (held seats.old)) }
 {
     thread::for_each_mut(
         rt,
@@ -64,20 +79,20 @@ fn cycle_all<R: Threads + Sync, S: Subject + Send>(rt: &R, workers: u32, seats: 
         workers as usize,
         &|_: usize, seat: &mut Seat<S>|
             ensures subject { S.seen seat.new.subject ≡ cycled (S.seen seat.old.subject) }
-            ensures counter { last_counter S.seen seat.new ≡ counter_of (S.seen seat.old.subject) }
+            ensures counter { seat.new.counter ≡ counter_of (S.seen seat.old.subject) }
         { seat.cycle() },
     );
 }
 
-/// Lists what the subjects gave last.
-fn note_all<S: Subject>(seats: &[Seat<S>], readings: &mut Vec<Counter>)
+/// Lists the counters that the subjects gave last.
+fn list_counters<S>(seats: &[Seat<S>], readings: &mut Vec<Counter>)
     requires { length seats.now ≤ vec_capacity readings.old }
-    ensures items { readings.new.items ≡ map (last_counter S.seen) seats.now }
+    ensures items { readings.new.items ≡ counters_in seats.now }
     ensures capacity { vec_capacity readings.new ≡ vec_capacity readings.old }
 {
     readings.clear();
     for seat in seats {
-        readings.push_reserved(seat.counter());
+        readings.push_reserved(seat.counter);
     }
 }
 
@@ -133,8 +148,12 @@ impl<S: Subject + Send> Crowd<S> {
         ensures subjects { map S.seen self.new.subjects ≡ all_cycled (map S.seen self.old.subjects) }
         ensures readings { self.new.readings ≡ map counter_of (map S.seen self.old.subjects) }
     {
-        cycle_all(rt, workers, self.seats.as_mut_slice());
-        note_all(self.seats.as_slice(), &mut self.readings);
+        if workers == 1 {
+            cycle_in_turn(self.seats.as_mut_slice(), &mut self.readings);
+            return;
+        }
+        cycle_shared(rt, workers, self.seats.as_mut_slice());
+        list_counters(self.seats.as_slice(), &mut self.readings);
     }
 
     /// The counters of the last cycle, in the order in which the subjects stood then. There are none before the first.

@@ -2,26 +2,27 @@
 
 ghost use Rattle.std.specs.Prelude.{◌≡◌};
 ghost use Rattle.subjects.specs.Plans.{cycled};
-ghost use Rattle.subjects.specs.Seats.{last_counter};
 ghost use Rattle.subjects.specs.Crowds.{counter_of, is_named, restarted_if};
 
 use crate::subject::Subject;
 use packet_forms::{Counter, Name};
 
-/// A subject, and the value that it gave last.
+/// A subject, and the counter that it gave last where workers cycle it.
 #[derive(Drop)]
 pub(crate) struct Seat<S> {
     pub(crate) subject: S,
-    pub(crate) reading: u32,
+    pub(crate) counter: Counter,
 }
 
 impl<S: Subject> Seat<S> {
-    /// Cycles the subject, and keeps what it gave.
+    /// Cycles the subject, and keeps its counter under its name.
     pub(crate) fn cycle(&mut self)
         ensures subject { S.seen self.new.subject ≡ cycled (S.seen self.old.subject) }
-        ensures counter { last_counter S.seen self.new ≡ counter_of (S.seen self.old.subject) }
+        ensures counter { self.new.counter ≡ counter_of (S.seen self.old.subject) }
     {
-        self.reading = self.subject.cycle();
+        let value = self.subject.cycle();
+        let name = self.subject.name();
+        self.counter = Counter { name, value };
     }
 
     /// Whether the subject has this name.
@@ -39,16 +40,6 @@ impl<S: Subject> Seat<S> {
     {
         if self.is_named(name) {
             self.subject.restart();
-        }
-    }
-
-    /// What the subject gave last, with its name.
-    pub(crate) fn counter(&self) -> Counter
-        ensures { result ≡ last_counter S.seen self.now }
-    {
-        Counter {
-            name: self.subject.name(),
-            value: self.reading,
         }
     }
 }

@@ -18,7 +18,7 @@ loop-subject-preserved g c =
     record {
       order = append_assoc at.yielded (subject ∷ []) _ ∙ rw (← steps) at.invariant.order;
       left = (let was = at.invariant.left in let gone = c.in-Some.ensures.steps.1 in let short = ap length steps in omega arith);
-      seated = ap held pushed.items ∙ map-append (λ (s : Seat g.row.S.Denot). s.subject) at.seats.items (record { subject = subject; reading = 0 } ∷ [])
+      seated = ap held pushed.items ∙ map-append (λ (s : Seat g.row.S.Denot). s.subject) at.seats.items (_ ∷ [])
           ∙ ap (λ front. front ++ subject ∷ []) at.invariant.seated;
       room = (let was = at.invariant.room in let len = pushed.len in let same = pushed.capacity in let short = ap length steps in omega arith);
     }
