@@ -1,5 +1,5 @@
 -- What a crew ends as, where a `&mut` to one of its results is returned.
-use Rattle.std.specs.Prelude.{ℕ, List, slice_set}
+use Rattle.std.specs.Prelude.{ℕ, slice_set}
 use Rattle.std.specs.Borrow.{Lends, Fml, RattleType, MutBor}
 use Rattle.crew_board.specs.Seen.{Seen}
 use Rattle.crew_board.specs.contracts.crew.Crew.{the_row}

@@ -1,7 +1,8 @@
 //! The claim board is made, dealt out, drawn from and closed.
 
-ghost use Rattle.std.specs.Prelude.{◌≡◌, ◌<◌, ◌≤◌, length, All};
-ghost use Rattle.crew_board.specs.Rows.{FitsJobs, AreShared};
+ghost use Rattle.std.specs.Prelude.{◌≡◌, ℕ, ◌<◌, ◌≤◌, length, All};
+ghost use Rattle.crew_board.specs.Rows.{FitsJobs, AreShared, first_scratches};
+ghost use Rattle.crew_board.specs.Work.{IsRight};
 
 use crate::board::Board;
 use crate::draw::draw_all;
@@ -42,12 +43,18 @@ fn draw_together<R: Threads + Sync, S: Scratch, T: Task<Work = S>, G: Gate>(
 }
 
 /// The only row takes all jobs in order: nobody else draws.
-fn take_all<S: Scratch, T: Task<Work = S>, G: Gate>(tasks: &[T], gate: &G, rows: &mut [Row<S>])
+#[inline(always)]
+pub(crate) fn take_all<S: Scratch, T: Task<Work = S>, G: Gate>(
+    tasks: &[T],
+    gate: &G,
+    rows: &mut [Row<S>],
+)
     requires few { length tasks.now ≤ 64 }
     requires one { length rows.old ≡ 1 }
     requires fits { All (FitsJobs (length tasks.now)) rows.old }
     ensures len { length rows.new ≡ length rows.old }
     ensures shared { AreShared T.leaves tasks.now rows.new }
+    ensures done { (job : ℕ) → job < length tasks.now → IsRight T.leaves tasks.now (first_scratches rows.new) job }
 {
     perform_all(tasks, gate, &mut rows[0]);
 }

@@ -73,6 +73,7 @@ impl<S: Scratch> Crew<S> {
 
     /// Does each task once, on as many workers as there are, and keeps the results in the tasks' order. The gate is entered before
     /// each job, on the thread that does it.
+    #[inline(always)]
     pub fn run<R: Threads + Sync, T: Task<Work = S>, G: Gate>(
         &mut self,
         rt: &R,

@@ -5,7 +5,7 @@ ghost use Rattle.crew_board.specs.Work.{IsRight};
 ghost use Rattle.crew_board.specs.Rows.{FitsJobs, draws_of, first_scratches};
 ghost use Rattle.crew_board.specs.Ways.{AreLeft};
 
-use crate::claim::share_jobs;
+use crate::claim::{share_jobs, take_all};
 use crate::results::collect_results;
 use crate::row::Row;
 use crate::task::{Scratch, Task};
@@ -15,8 +15,9 @@ use fsw_outside::Gate;
 use std::alloc::Global;
 use std::thread::Threads;
 
-/// Does every job, and leaves the results in the scratches of the first row.
-pub(crate) fn run_jobs<R: Threads + Sync, S: Scratch, T: Task<Work = S>, G: Gate>(
+/// Does every job on several rows, and leaves the results in the scratches of the first.
+#[inline(never)]
+fn run_together<R: Threads + Sync, S: Scratch, T: Task<Work = S>, G: Gate>(
     rt: &R,
     alloc: Global,
     tasks: &[T],
@@ -41,4 +42,28 @@ pub(crate) fn run_jobs<R: Threads + Sync, S: Scratch, T: Task<Work = S>, G: Gate
             Way::Alone
         }
     }
+}
+
+/// Does every job, and leaves the results in the scratches of the first row. The usual single row shares nothing.
+#[inline(always)]
+pub(crate) fn run_jobs<R: Threads + Sync, S: Scratch, T: Task<Work = S>, G: Gate>(
+    rt: &R,
+    alloc: Global,
+    tasks: &[T],
+    gate: &G,
+    rows: &mut [Row<S>],
+) -> Way
+    requires few { (0 < length tasks.now) × (length tasks.now ≤ 64) }
+    requires workers { (0 < length rows.old) × (length rows.old ≤ 16) }
+    requires fits { All (FitsJobs (length tasks.now)) rows.old }
+    ensures len { length rows.new ≡ length rows.old }
+    ensures fits { All (FitsJobs (length tasks.now)) rows.new }
+    ensures done { (job : ℕ) → job < length tasks.now → IsRight T.leaves tasks.now (first_scratches rows.new) job }
+    ensures draws { AreLeft result (length tasks.now) (length rows.old) (draws_of rows.new) }
+{
+    if rows.len() == 1 {
+        take_all(tasks, gate, rows);
+        return Way::Shared;
+    }
+    run_together(rt, alloc, tasks, gate, rows)
 }

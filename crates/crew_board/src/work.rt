@@ -8,7 +8,8 @@ use crate::row::Row;
 use crate::task::{Scratch, Task};
 use fsw_outside::Gate;
 
-/// Enters the gate, does the job on the row's scratch for it, and notes it.
+/// Enters the gate, does the job on the row's scratch for it, and notes it. A job that has next to nothing to do pays for no call.
+#[inline(always)]
 pub(crate) fn perform<S: Scratch, T: Task<Work = S>, G: Gate>(
     tasks: &[T],
     gate: &G,
@@ -29,6 +30,7 @@ pub(crate) fn perform<S: Scratch, T: Task<Work = S>, G: Gate>(
 }
 
 /// Does every job on one row, in order.
+#[inline(always)]
 pub(crate) fn perform_all<S: Scratch, T: Task<Work = S>, G: Gate>(
     tasks: &[T],
     gate: &G,
