@@ -396,6 +396,7 @@ impl<'f> Bench<'f> {
     }
 
     // Runs a frame up to its lines: writes its upsets, wakes the applications on its image, and sends what they gave.
+    #[inline(always)]
     fn run<R: Threads + Sync, G: Gate>(&mut self, rt: &R, gate: &G, input: &FrameInput)
         requires time { self.old.epoch + self.old.number < 4294967296 }
         requires upsets { All (λ (u : Upset). is_mapped (regions_of self.old.ram.areas) u.at ≡ true) input.now.upsets }
