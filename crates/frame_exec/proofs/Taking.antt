@@ -1,5 +1,6 @@
 -- What the jobs of a frame left, taken over by the bench.
-use Rattle.std.proofs.Common.{◌≡◌, ℕ, Bool, true, false, Option, List, [], ◌∙◌, ap, refl, subst, sym}
+use Rattle.std.proofs.Common.{◌≡◌, ℕ, Bool, true, false, ◌&&◌, List, [], ◌∷◌, ◌∙◌, ap, refl, subst, sym}
+use Rattle.std.proofs.lemmas.Bool.{and_parts}
 use Rattle.std.proofs.lemmas.List.Elements.{All-nil}
 use Rattle.bus_pipes.specs.declared.names.Out.{Out}
 use Rattle.memory_window.specs.Access.{Admitted}
@@ -10,10 +11,10 @@ use Rattle.mm_core.specs.Step.{mm_operations}
 use Rattle.frame_exec.specs.Applications.{mm_reads}
 use Rattle.frame_exec.specs.Jobs.{Gives, Operates}
 use Rattle.frame_exec.specs.Landable.{CanLand}
-use Rattle.frame_exec.specs.Wakes.{AreSendable, IsWoken, next_of}
+use Rattle.frame_exec.specs.Wakes.{AreSendable, IsWoken, joined, next_of}
 
 -- an application that was woken by a job: its state behind it, and what it gave
-module _ {Setup Input State : Type 0} (belongs : Setup → Type 0) (stands : Setup → List Input → State → Type 0) (gives : Setup → List Input → Input → List Out) (most : ℕ) (held : Bool) (input : Input) (old middle new : State) (stays : Bool) (next : Option State) (left given : List Out)
+module _ {Setup Input State : Type 0} (belongs : Setup → Type 0) (stands : Setup → List Input → State → Type 0) (gives : Setup → List Input → Input → List Out) (most : ℕ) (held : Bool) (input : Input) (old middle new : State) (stays : Bool) (next : State) (left given : List Out)
     (gave : Gives belongs stands gives most held input old stays next left) (same : middle ≡ old) (state : new ≡ next_of stays next middle) (items : given ≡ left) where
   pub state_is : new ≡ next_of stays next old
   state_is = state ∙ ap (next_of stays next) same
@@ -32,3 +33,13 @@ pub operates : (loads : List (ℕ × List ℕ)) (held : Bool) (time : ℕ) (comm
 operates loads true time commands image ops none these =
     record { are = none refl; can_land = subst (λ (os : List MemOp). CanLand loads image os) (sym (none refl)) (record { admitted = All-nil (Admitted image); backed = All-nil (IsBacked loads) }) }
 operates loads false time commands image ops none these = record { are = (these refl).0; can_land = (these refl).1 }
+
+-- where none of the five gave an item, nothing was given
+pub none_given : (a b c d e : Bool) (hs cs sc mm md : List Out) → (a ≡ true → hs ≡ []) → (b ≡ true → cs ≡ []) → (c ≡ true → sc ≡ []) → (d ≡ true → mm ≡ []) → (e ≡ true → md ≡ []) → ((((a && b) && c) && d) && e) ≡ true
+    → joined (hs ∷ cs ∷ sc ∷ mm ∷ md ∷ []) ≡ []
+none_given a b c d e hs cs sc mm md p q r s t all =
+    let four = and_parts (((a && b) && c) && d) e all in
+    let three = and_parts ((a && b) && c) d four.0 in
+    let two = and_parts (a && b) c three.0 in
+    let both = and_parts a b two.0 in
+    rw (p both.0, q both.1, r two.1, s three.1, t four.1) refl

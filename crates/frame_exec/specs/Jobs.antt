@@ -1,5 +1,5 @@
 -- What waking an application leaves, as a job of a crew.
-use Rattle.std.specs.Prelude.{◌≡◌, ℕ, Bool, Option, List}
+use Rattle.std.specs.Prelude.{◌≡◌, ℕ, Bool, List}
 use Rattle.bus_pipes.specs.declared.names.Out.{Out}
 use Rattle.table_files.specs.Files.{loads_of}
 use Rattle.memory_window.specs.Memory.{Memory, regions_of}
@@ -24,7 +24,7 @@ use Rattle.frame_exec.specs.Wakes.{AreSendable, IsWoken, next_of, unless}
 
 -- A wakeup left the application's next state, unless it stayed as it was, and items that can be sent, as they follow from any setup that
 -- is the wakeup's.
-pub record Gives {Setup Input State : Type 0} (belongs : Setup → Type 0) (stands : Setup → List Input → State → Type 0) (gives : Setup → List Input → Input → List Out) (most : ℕ) (held : Bool) (input : Input) (old : State) (stays : Bool) (next : Option State) (items : List Out) : Type 0 where
+pub record Gives {Setup Input State : Type 0} (belongs : Setup → Type 0) (stands : Setup → List Input → State → Type 0) (gives : Setup → List Input → Input → List Out) (most : ℕ) (held : Bool) (input : Input) (old : State) (stays : Bool) (next : State) (items : List Out) : Type 0 where
   pub woken : (setup : Setup) → belongs setup → IsWoken (stands setup) (gives setup) held input old (next_of stays next old) items
   pub sendable : AreSendable most items
 
@@ -35,15 +35,15 @@ pub record Operates (loads : List (ℕ × List ℕ)) (held : Bool) (time : ℕ) 
 
 -- what the wakeup of an application leaves in its scratch, by what the wakeups of the frame read
 abbrev pub Leaves : App → Seen → Left → Type 0
-Leaves names.Hs s left = Gives (λ t. s.tables.hs ≡ t.hs) hs_stands hs_gives hs_most s.hs.held (hs_reads s.time s.hs.commands s.events s.counters) s.hs.state.value left.stays left.hs left.out.items
+Leaves names.Hs s left = Gives (λ t. s.tables.hs ≡ t.hs) hs_stands hs_gives hs_most s.hs.held (hs_reads s.time s.hs.commands s.events s.counters) s.hs.state.value left.stays left.hs.value left.out.items
 Leaves names.Cs s left =
-    Gives (λ t. (s.tables.eeprom ≡ t.eeprom) × (s.tables.memory ≡ t.memory)) cs_stands cs_gives cs_most s.cs.held (cs_reads s.time s.cs.commands s.memory) s.cs.state.value left.stays left.cs left.out.items
-    × CsIsReady (regions_of s.memory.areas) s.tables.eeprom s.tables.memory (next_of left.stays left.cs s.cs.state.value)
+    Gives (λ t. (s.tables.eeprom ≡ t.eeprom) × (s.tables.memory ≡ t.memory)) cs_stands cs_gives cs_most s.cs.held (cs_reads s.time s.cs.commands s.memory) s.cs.state.value left.stays left.cs.value left.out.items
+    × CsIsReady (regions_of s.memory.areas) s.tables.eeprom s.tables.memory (next_of left.stays left.cs.value s.cs.state.value)
 Leaves names.Sc s left =
-    Gives (λ begin. s.tables.sc ≡ begin.tables) sc_stands sc_gives sc_most s.sc.held (sc_reads s.time s.sc.commands) s.sc.state.value left.stays left.sc left.out.items × ScIsReady s.tables.sc (next_of left.stays left.sc s.sc.state.value)
+    Gives (λ begin. s.tables.sc ≡ begin.tables) sc_stands sc_gives sc_most s.sc.held (sc_reads s.time s.sc.commands) s.sc.state.value left.stays left.sc.value left.out.items × ScIsReady s.tables.sc (next_of left.stays left.sc.value s.sc.state.value)
 Leaves names.Mm s left =
-    Gives {Setup = TableSet} (λ t. Unit {0}) mm_stands mm_gives mm_most s.mm.held (mm_reads (loads_of s.files) s.time s.mm.commands s.memory) s.mm.state.value left.stays left.mm left.out.items
+    Gives {Setup = TableSet} (λ t. Unit {0}) mm_stands mm_gives mm_most s.mm.held (mm_reads (loads_of s.files) s.time s.mm.commands s.memory) s.mm.state.value left.stays left.mm.value left.out.items
     × Operates (loads_of s.files) s.mm.held s.time s.mm.commands s.memory left.ops.value
 Leaves names.Md s left =
-    Gives {Setup = TableSet} (λ t. Unit {0}) md_stands md_gives md_most s.md.held (md_reads s.time s.md.commands s.memory) s.md.state.value left.stays left.md left.out.items
-    × AllGiven (regions_of s.memory.areas) (next_of left.stays left.md s.md.state.value)
+    Gives {Setup = TableSet} (λ t. Unit {0}) md_stands md_gives md_most s.md.held (md_reads s.time s.md.commands s.memory) s.md.state.value left.stays left.md.value left.out.items
+    × AllGiven (regions_of s.memory.areas) (next_of left.stays left.md.value s.md.state.value)

@@ -135,24 +135,24 @@ pub record AreWoken (counters : List Counter) (old new : Bench) : Type 0 where
   pub run : IsSameRun old new
   pub slots : KeepsSlots old new
   pub five : length new.crew.results ≡ 5
-  pub hs : HasLeft new 0 (λ left. Gives (λ t. old.tables.hs ≡ t.hs) hs_stands hs_gives hs_most old.hs.held (hs_reads (time_of old) old.hs.commands old.events counters) old.hs.state.value left.stays left.hs left.out.items)
-  pub cs : HasLeft new 1 (λ left. Gives (λ t. (old.tables.eeprom ≡ t.eeprom) × (old.tables.memory ≡ t.memory)) cs_stands cs_gives cs_most old.cs.held (cs_reads (time_of old) old.cs.commands old.ram) old.cs.state.value left.stays left.cs left.out.items
-      × CsIsReady (regions_of old.ram.areas) old.tables.eeprom old.tables.memory (next_of left.stays left.cs old.cs.state.value))
-  pub sc : HasLeft new 2 (λ left. Gives (λ begin. old.tables.sc ≡ begin.tables) sc_stands sc_gives sc_most old.sc.held (sc_reads (time_of old) old.sc.commands) old.sc.state.value left.stays left.sc left.out.items
-      × ScIsReady old.tables.sc (next_of left.stays left.sc old.sc.state.value))
-  pub mm : HasLeft new 3 (λ left. Gives {Setup = TableSet} (λ t. Unit {0}) mm_stands mm_gives mm_most old.mm.held (mm_reads (loads_in old) (time_of old) old.mm.commands old.ram) old.mm.state.value left.stays left.mm left.out.items
+  pub hs : HasLeft new 0 (λ left. Gives (λ t. old.tables.hs ≡ t.hs) hs_stands hs_gives hs_most old.hs.held (hs_reads (time_of old) old.hs.commands old.events counters) old.hs.state.value left.stays left.hs.value left.out.items)
+  pub cs : HasLeft new 1 (λ left. Gives (λ t. (old.tables.eeprom ≡ t.eeprom) × (old.tables.memory ≡ t.memory)) cs_stands cs_gives cs_most old.cs.held (cs_reads (time_of old) old.cs.commands old.ram) old.cs.state.value left.stays left.cs.value left.out.items
+      × CsIsReady (regions_of old.ram.areas) old.tables.eeprom old.tables.memory (next_of left.stays left.cs.value old.cs.state.value))
+  pub sc : HasLeft new 2 (λ left. Gives (λ begin. old.tables.sc ≡ begin.tables) sc_stands sc_gives sc_most old.sc.held (sc_reads (time_of old) old.sc.commands) old.sc.state.value left.stays left.sc.value left.out.items
+      × ScIsReady old.tables.sc (next_of left.stays left.sc.value old.sc.state.value))
+  pub mm : HasLeft new 3 (λ left. Gives {Setup = TableSet} (λ t. Unit {0}) mm_stands mm_gives mm_most old.mm.held (mm_reads (loads_in old) (time_of old) old.mm.commands old.ram) old.mm.state.value left.stays left.mm.value left.out.items
       × Operates (loads_in old) old.mm.held (time_of old) old.mm.commands old.ram left.ops.value)
-  pub md : HasLeft new 4 (λ left. Gives {Setup = TableSet} (λ t. Unit {0}) md_stands md_gives md_most old.md.held (md_reads (time_of old) old.md.commands old.ram) old.md.state.value left.stays left.md left.out.items
-      × AllGiven (regions_of old.ram.areas) (next_of left.stays left.md old.md.state.value))
+  pub md : HasLeft new 4 (λ left. Gives {Setup = TableSet} (λ t. Unit {0}) md_stands md_gives md_most old.md.held (md_reads (time_of old) old.md.commands old.ram) old.md.state.value left.stays left.md.value left.out.items
+      × AllGiven (regions_of old.ram.areas) (next_of left.stays left.md.value old.md.state.value))
 
 -- what the jobs left was taken over: the next states, the items and the operations
 pub record TakesOver (old new : Bench) : Type 0 where
   pub run : IsSameRun old new
-  pub hs : IsTaken old 0 (λ left. (new.hs.state.value ≡ next_of left.stays left.hs old.hs.state.value) × (new.hs.out.items ≡ left.out.items))
-  pub cs : IsTaken old 1 (λ left. (new.cs.state.value ≡ next_of left.stays left.cs old.cs.state.value) × (new.cs.out.items ≡ left.out.items))
-  pub sc : IsTaken old 2 (λ left. (new.sc.state.value ≡ next_of left.stays left.sc old.sc.state.value) × (new.sc.out.items ≡ left.out.items))
-  pub mm : IsTaken old 3 (λ left. (new.mm.state.value ≡ next_of left.stays left.mm old.mm.state.value) × (new.mm.out.items ≡ left.out.items) × (new.ops.value ≡ left.ops.value))
-  pub md : IsTaken old 4 (λ left. (new.md.state.value ≡ next_of left.stays left.md old.md.state.value) × (new.md.out.items ≡ left.out.items))
+  pub hs : IsTaken old 0 (λ left. (new.hs.state.value ≡ next_of left.stays left.hs.value old.hs.state.value) × (new.hs.out.items ≡ left.out.items))
+  pub cs : IsTaken old 1 (λ left. (new.cs.state.value ≡ next_of left.stays left.cs.value old.cs.state.value) × (new.cs.out.items ≡ left.out.items))
+  pub sc : IsTaken old 2 (λ left. (new.sc.state.value ≡ next_of left.stays left.sc.value old.sc.state.value) × (new.sc.out.items ≡ left.out.items))
+  pub mm : IsTaken old 3 (λ left. (new.mm.state.value ≡ next_of left.stays left.mm.value old.mm.state.value) × (new.mm.out.items ≡ left.out.items) × (new.ops.value ≡ left.ops.value))
+  pub md : IsTaken old 4 (λ left. (new.md.state.value ≡ next_of left.stays left.md.value old.md.state.value) × (new.md.out.items ≡ left.out.items))
   pub pipes : new.bus ≡ old.bus
   pub log : new.log ≡ old.log
   pub memory : new.ram ≡ old.ram

@@ -1,5 +1,5 @@
 -- What a wakeup makes of an application, whichever it is.
-use Rattle.std.specs.Prelude.{◌≡◌, ℕ, ◌≤◌, Bool, true, false, Option, None, Some, if◌then◌else◌, List, [], ◌∷◌, ◌++◌, length}
+use Rattle.std.specs.Prelude.{◌≡◌, ℕ, ◌≤◌, Bool, true, false, if◌then◌else◌, List, [], ◌∷◌, ◌++◌, length}
 use Rattle.std.specs.List.{AllPass, flat_map}
 use Rattle.bus_pipes.specs.Counted.{is_item_counted}
 use Rattle.bus_pipes.specs.declared.names.Out.{Out}
@@ -18,10 +18,9 @@ module _ {A : Type 0} where
   joined lists = flat_map (λ (list : List A). list) lists
 
 -- the state of an application behind a wakeup: the next one, unless it stays as it was
-abbrev pub next_of : {State : Type 0} → Bool → Option State → State → State
+abbrev pub next_of : {State : Type 0} → Bool → State → State → State
 next_of true next old = old
-next_of false None old = old
-next_of false (Some next) old = next
+next_of false next old = next
 
 -- items can be sent: they are few, and their packets have ids that are counted
 pub record AreSendable (most : ℕ) (items : List Out) : Type 0 where

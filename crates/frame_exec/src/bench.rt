@@ -10,6 +10,7 @@ use crate::hs_slot::HsSlot;
 use crate::left::Left;
 use crate::md_slot::MdSlot;
 use crate::mm_slot::MmSlot;
+use crate::reads::Reads;
 use crate::sc_slot::ScSlot;
 use crate::slot::Slot;
 use crate::stages::{deliver_all, in_order, is_held, put_frame, stamp_all, take_unless, upset_all};
@@ -177,8 +178,8 @@ impl<'f> Bench<'f> {
         ensures cause { HasCause (O.held sink.new) (O.faults sink.old) (O.faults sink.new) result }
         ensures failed { has_failed self.new ≡ is_err result }
     {
-        self.run(rt, gate, input);
-        match self.write(sink) {
+        let silent = self.run(rt, gate, input);
+        match self.write(sink, silent) {
             Ok(()) => {
                 self.land(rt, gate);
                 Ok(())
@@ -210,8 +211,8 @@ impl<'f> Bench<'f> {
         ensures cause { HasCause (O.held sink.new) (O.faults sink.old) (O.faults sink.new) result }
         ensures failed { has_failed self.new ≡ is_err result }
     {
-        self.run(rt, gate, input);
-        match self.add_lines(sink) {
+        let silent = self.run(rt, gate, input);
+        match self.add_lines(sink, silent) {
             Ok(()) => {
                 self.land(rt, gate);
                 Ok(())
@@ -286,17 +287,19 @@ impl<'f> Bench<'f> {
         self.ops.clear();
     }
 
-    // Wakes the applications on what they took, on the frame's execution counters, and on its image, and takes over what they left.
-    fn step<R: Threads + Sync, G: Gate>(&mut self, rt: &R, gate: &G, counters: &[Counter])
+    // Wakes the applications on what they took, on the frame's execution counters, and on its image, takes over what they left, and
+    // tells whether no item was given.
+    fn step<R: Threads + Sync, G: Gate>(&mut self, rt: &R, gate: &G, counters: &[Counter]) -> bool
         requires time { self.old.epoch + self.old.number < 4294967296 }
         requires clear { IsClear self.old }
         requires ready { IsReady self.old }
         ensures steps { Steps counters.now self.old self.new }
         ensures can_send { CanSend self.new }
         ensures ready { IsReady self.new }
+        ensures none { result ≡ true → joined (items_in self.new) ≡ [] }
     {
         self.wake(rt, gate, counters);
-        self.take_over();
+        self.take_over()
     }
 
     // Wakes the applications, each as a job of the crew.
@@ -307,18 +310,21 @@ impl<'f> Bench<'f> {
     {
         let time = self.epoch + self.number as u32;
         let window = self.ram.window();
+        let reads = Reads {
+            tables: &self.tables,
+            files: self.files,
+            events: &self.events,
+            window,
+            counters,
+            time,
+        };
         let scene = Scene {
             hs: &self.hs,
-            events: &self.events,
             cs: &self.cs,
             sc: &self.sc,
             mm: &self.mm,
             md: &self.md,
-            tables: &self.tables,
-            files: self.files,
-            window,
-            counters,
-            time,
+            reads,
         };
         let jobs = [
             Wakeup {
@@ -345,31 +351,36 @@ impl<'f> Bench<'f> {
         self.crew.run(rt, &jobs, gate);
     }
 
-    // Takes over what the jobs left, in the order of the applications.
-    fn take_over(&mut self)
+    // Takes over what the jobs left, in the order of the applications, and tells whether no item was given.
+    fn take_over(&mut self) -> bool
         requires five { length self.old.crew.results ≡ 5 }
         requires clear { IsClear self.old }
-        ensures { TakesOver self.old self.new }
+        ensures over { TakesOver self.old self.new }
+        ensures none { result ≡ true → joined (items_in self.new) ≡ [] }
     {
-        self.hs.take_over(&mut self.crew, 0);
-        self.cs.take_over(&mut self.crew, 1);
-        self.sc.take_over(&mut self.crew, 2);
+        let hs = self.hs.take_over(&mut self.crew, 0);
+        let cs = self.cs.take_over(&mut self.crew, 1);
+        let sc = self.sc.take_over(&mut self.crew, 2);
         let left = self.crew.result_mut(3);
         left.give_operations(&mut self.ops);
-        self.mm.take_over(&mut self.crew, 3);
-        self.md.take_over(&mut self.crew, 4);
+        let mm = self.mm.take_over(&mut self.crew, 3);
+        let md = self.md.take_over(&mut self.crew, 4);
+        hs & cs & sc & mm & md
     }
 
-    // Gives the items their counts, and offers the frame's packets and theirs to the pipes.
-    fn send(&mut self, input: &FrameInput)
-        requires { CanSend self.old }
-        ensures { Sends input.now.sends self.old self.new }
+    // Gives the items their counts, offers the frame's packets and theirs to the pipes, and tells whether nothing was sent nor dropped.
+    fn send(&mut self, input: &FrameInput, none: bool) -> bool
+        requires can { CanSend self.old }
+        requires none { none ≡ true → joined (items_in self.old) ≡ [] }
+        ensures sends { Sends input.now.sends self.old self.new }
+        ensures silent { result ≡ true → lines_in self.new ≡ [] }
     {
         self.drops.clear();
-        if input.sends().is_empty() && self.gave_nothing() {
-            return;
+        if none && input.sends().is_empty() {
+            return true;
         }
         self.send_all(input);
+        self.is_silent()
     }
 
     // Gives the items their counts, and offers the frame's packets and theirs to the pipes. Nothing was dropped yet.
@@ -395,9 +406,10 @@ impl<'f> Bench<'f> {
         );
     }
 
-    // Runs a frame up to its lines: writes its upsets, wakes the applications on its image, and sends what they gave.
+    // Runs a frame up to its lines: writes its upsets, wakes the applications on its image, sends what they gave, and tells whether
+    // there is no line.
     #[inline(always)]
-    fn run<R: Threads + Sync, G: Gate>(&mut self, rt: &R, gate: &G, input: &FrameInput)
+    fn run<R: Threads + Sync, G: Gate>(&mut self, rt: &R, gate: &G, input: &FrameInput) -> bool
         requires time { self.old.epoch + self.old.number < 4294967296 }
         requires upsets { All (λ (u : Upset). is_mapped (regions_of self.old.ram.areas) u.at ≡ true) input.now.upsets }
         requires ready { IsReady self.old }
@@ -405,50 +417,54 @@ impl<'f> Bench<'f> {
         ensures run { IsSameRun self.old self.new }
         ensures can_land { CanLand (loads_in self.new) self.new.ram self.new.ops.value }
         ensures ready { IsReady self.new }
+        ensures silent { result ≡ true → lines_in self.new ≡ [] }
     {
         self.upset(input.upsets());
         self.take(input.held());
-        self.step(rt, gate, input.counters());
-        self.send(input);
+        let none = self.step(rt, gate, input.counters());
+        self.send(input, none)
     }
 
     // Writes the lines of the frame that was run, all at once.
-    fn write<O: Sink>(&mut self, sink: &mut O) -> Result<(), Failed>
+    fn write<O: Sink>(&mut self, sink: &mut O, silent: bool) -> Result<(), Failed>
         requires number { self.old.number < 4294967296 }
         requires none { self.old.block ≡ empty_block }
+        requires silent { silent ≡ true → lines_in self.old ≡ [] }
         ensures content { WhereTold (O.held sink.old) (O.held sink.new) (WritesAll result (lines_in self.old)) }
         ensures cause { HasCause (O.held sink.new) (O.faults sink.old) (O.faults sink.new) result }
         ensures same { IsSameFrame self.old self.new }
         ensures handed { OnOk result (self.new.block ≡ empty_block) }
     {
-        let Ok(()) = self.put_lines(sink) else {
+        let Ok(()) = self.put_lines(sink, silent) else {
             return Err(Failed);
         };
         self.block.flush(sink)
     }
 
     // Puts the lines of the frame that was run behind those that wait, and notes where they end.
-    fn add_lines<O: Sink>(&mut self, sink: &mut O) -> Result<(), Failed>
+    fn add_lines<O: Sink>(&mut self, sink: &mut O, silent: bool) -> Result<(), Failed>
         requires number { self.old.number < 4294967296 }
+        requires silent { silent ≡ true → lines_in self.old ≡ [] }
         ensures adds { Adds result (lines_in self.old) self.old.block self.new.block (O.held sink.old) (O.held sink.new) }
         ensures cause { HasCause (O.held sink.new) (O.faults sink.old) (O.faults sink.new) result }
         ensures same { IsSameFrame self.old self.new }
     {
-        let Ok(()) = self.put_lines(sink) else {
+        let Ok(()) = self.put_lines(sink, silent) else {
             return Err(Failed);
         };
         self.block.mark_end(sink)
     }
 
     // Puts the lines of the frame that was run behind those that wait.
-    fn put_lines<O: Sink>(&mut self, sink: &mut O) -> Result<(), Failed>
+    fn put_lines<O: Sink>(&mut self, sink: &mut O, silent: bool) -> Result<(), Failed>
         requires number { self.old.number < 4294967296 }
+        requires silent { silent ≡ true → lines_in self.old ≡ [] }
         ensures puts { Puts result (lines_in self.old) self.old.block self.new.block (O.held sink.old) (O.held sink.new) }
         ensures left { OnErr result (0 < length self.new.block.bytes) }
         ensures cause { HasCause (O.held sink.new) (O.faults sink.old) (O.faults sink.new) result }
         ensures same { IsSameFrame self.old self.new }
     {
-        if self.is_silent() {
+        if silent {
             return Ok(());
         }
         let lists = in_order(&self.hs, &self.cs, &self.sc, &self.mm, &self.md);

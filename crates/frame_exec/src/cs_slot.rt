@@ -10,24 +10,15 @@ ghost use Rattle.frame_exec.specs.Applications.{cs_stands, cs_gives};
 ghost use Rattle.frame_exec.specs.Ready.{CsIsReady};
 
 use crate::application::Application;
+use crate::reads::Reads;
 use crate::slot::Slot;
 use bus_pipes::Outbox;
-use cs_slices::{Cs, Segments};
-use memory_window::Window;
+use cs_slices::Cs;
 use packet_forms::Packet;
 
 pub(crate) type CsSlot = Slot<Cs>;
 
-/// What CS reads in a frame beside its packets: the tables on which it was started, the frame's image, and its time.
-#[derive(Clone, Copy, Drop)]
-pub(crate) struct CsReads<'a> {
-    pub(crate) eeprom: &'a Segments,
-    pub(crate) memory: &'a Segments,
-    pub(crate) window: Window<'a>,
-    pub(crate) time: u32,
-}
-
-impl<'a> Application<CsReads<'a>, ()> for Cs {
+impl Application<()> for Cs {
     ghost Setup = { TableSet };
 
     ghost Input = { Input };
@@ -38,32 +29,32 @@ impl<'a> Application<CsReads<'a>, ()> for Cs {
 
     ghost most = { MOST_ITEMS };
 
-    ghost belongs = { λ setup reads. (reads.eeprom.now ≡ setup.eeprom) × (reads.memory.now ≡ setup.memory) };
+    ghost belongs = { λ setup reads. (reads.tables.now.eeprom ≡ setup.eeprom) × (reads.tables.now.memory ≡ setup.memory) };
 
     ghost input = { λ reads commands. input_of reads.time commands reads.window };
 
-    ghost can_step = { λ reads cs. CsIsReady (regions_of (seen reads.window).areas) reads.eeprom.now reads.memory.now cs };
+    ghost can_step = { λ reads cs. CsIsReady (regions_of (seen reads.window).areas) reads.tables.now.eeprom reads.tables.now.memory cs };
 
     ghost is_clear = { λ beside. Unit {0} };
 
     ghost fills = { λ reads commands beside. Unit {0} };
 
-    fn is_idle(&self, reads: CsReads<'a>, commands: &[Packet]) -> bool {
+    fn is_idle(&self, reads: &Reads<'_, '_, '_>, commands: &[Packet]) -> bool {
         let _ = reads;
         self.is_idle(commands)
     }
 
     fn advance(
         &mut self,
-        reads: CsReads<'a>,
+        reads: &Reads<'_, '_, '_>,
         commands: &[Packet],
         out: &mut Outbox,
         beside: &mut (),
     ) {
         let _ = beside;
         self.advance(
-            reads.eeprom,
-            reads.memory,
+            reads.tables.eeprom(),
+            reads.tables.memory(),
             commands,
             reads.window,
             reads.time,

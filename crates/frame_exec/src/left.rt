@@ -1,31 +1,32 @@
 //! What waking an application leaves, until the bench takes it over.
 
-ghost use Rattle.std.specs.Prelude.{◌≡◌, [], Option};
+ghost use Rattle.std.specs.Prelude.{◌≡◌, []};
 ghost use Rattle.hs_monitors.specs.declared.step.TheConstants.{MOST_ITEMS};
 
 use bus_pipes::Outbox;
 use crew_board::Scratch;
-use cs_slices::Cs;
+use cs_slices::{Cs, Segments};
 use fsw_outside::NoMemory;
 use hs_monitors::{Hs, MOST_ITEMS};
-use md_dwell::Md;
+use hs_tables::HsTables;
+use md_dwell::{Dwell, Md};
 use memory_window::Ops;
 use mm_core::Mm;
 use sc_sequences::Sc;
+use sc_tables::{RtsSet, ScTables};
 use std::alloc::Global;
 use std::mem;
 
 /// What a wakeup left: the next state of the application that was woken, unless it stays as it was, the items that it gave, and
-/// MM's operations. No application gives more items than HS.
+/// MM's operations. No application gives more items than HS. A state lies in a box that the bench exchanges for its own.
 #[derive(Drop)]
 pub(crate) struct Left {
-    /// Whether the state stays as it was. A flag, since writing `None` writes a whole state's zeros.
     pub(crate) stays: bool,
-    pub(crate) hs: Option<Hs>,
-    pub(crate) cs: Option<Cs>,
-    pub(crate) sc: Option<Sc>,
-    pub(crate) mm: Option<Mm>,
-    pub(crate) md: Option<Md>,
+    pub(crate) hs: Box<Hs>,
+    pub(crate) cs: Box<Cs>,
+    pub(crate) sc: Box<Sc>,
+    pub(crate) mm: Box<Mm>,
+    pub(crate) md: Box<Md>,
     pub(crate) out: Outbox,
     pub(crate) ops: Box<Ops>,
     ghost roomy: { out.room ≡ MOST_ITEMS },
@@ -35,62 +36,66 @@ pub(crate) struct Left {
 pub(crate) trait Next: Sized {
     ghost use Rattle.frame_exec.specs.declared.left.Left.{Left};
 
-    ghost next: { Left → Option Self };
+    ghost next: { Left → Self };
 
-    /// The next state that was left, which holds unless the state stays as it was.
-    fn next_in(left: &Left) -> &Option<Self>
-        ensures { result.now ≡ next left.now };
+    /// Exchanges the next state that was left, which holds unless the state stays as it was, for another.
+    fn exchange(left: &mut Left, state: &mut Box<Self>)
+        ensures state { state.new.value ≡ next left.old }
+        ensures items { left.new.out ≡ left.old.out };
 }
 
 impl Next for Hs {
-    ghost next = { λ left. left.hs };
+    ghost next = { λ left. left.hs.value };
 
-    fn next_in(left: &Left) -> &Option<Hs> {
-        &left.hs
+    fn exchange(left: &mut Left, state: &mut Box<Hs>) {
+        mem::swap(&mut left.hs, state);
     }
 }
 
 impl Next for Cs {
-    ghost next = { λ left. left.cs };
+    ghost next = { λ left. left.cs.value };
 
-    fn next_in(left: &Left) -> &Option<Cs> {
-        &left.cs
+    fn exchange(left: &mut Left, state: &mut Box<Cs>) {
+        mem::swap(&mut left.cs, state);
     }
 }
 
 impl Next for Sc {
-    ghost next = { λ left. left.sc };
+    ghost next = { λ left. left.sc.value };
 
-    fn next_in(left: &Left) -> &Option<Sc> {
-        &left.sc
+    fn exchange(left: &mut Left, state: &mut Box<Sc>) {
+        mem::swap(&mut left.sc, state);
     }
 }
 
 impl Next for Mm {
-    ghost next = { λ left. left.mm };
+    ghost next = { λ left. left.mm.value };
 
-    fn next_in(left: &Left) -> &Option<Mm> {
-        &left.mm
+    fn exchange(left: &mut Left, state: &mut Box<Mm>) {
+        mem::swap(&mut left.mm, state);
     }
 }
 
 impl Next for Md {
-    ghost next = { λ left. left.md };
+    ghost next = { λ left. left.md.value };
 
-    fn next_in(left: &Left) -> &Option<Md> {
-        &left.md
+    fn exchange(left: &mut Left, state: &mut Box<Md>) {
+        mem::swap(&mut left.md, state);
     }
 }
 
 impl Scratch for Left {
+    /// The states are those before the first wakeup on blank tables, until a wakeup writes over them.
     fn fresh(alloc: Global) -> Result<Left, NoMemory> {
+        let segments = Segments::blank();
+        let sequences = ScTables::new([None; 2], RtsSet::empty());
         Ok(Left {
             stays: true,
-            hs: None,
-            cs: None,
-            sc: None,
-            mm: None,
-            md: None,
+            hs: Box::new(alloc, Hs::start(&HsTables::blank(), 0, 0))?,
+            cs: Box::new(alloc, Cs::start(&segments, &segments))?,
+            sc: Box::new(alloc, Sc::start(&sequences, 0))?,
+            mm: Box::new(alloc, Mm::start())?,
+            md: Box::new(alloc, Md::start(&[Dwell::blank(); 4]))?,
             out: Outbox::open(alloc, MOST_ITEMS)?,
             ops: Box::new(alloc, Ops::new())?,
         })
@@ -98,13 +103,18 @@ impl Scratch for Left {
 }
 
 impl Left {
-    /// Nothing is given yet.
-    pub(crate) fn clear(&mut self)
-        ensures items { self.new.out.items ≡ [] }
-        ensures operations { self.new.ops.value ≡ [] }
+    ghost use Rattle.frame_exec.specs.Wakes.{next_of};
+
+    /// Gives the next state of an application for the one before it, unless the state stays as it is.
+    #[inline(always)]
+    pub(crate) fn give_state<S: Next>(&mut self, state: &mut Box<S>)
+        ensures state { state.new.value ≡ next_of self.old.stays (S.next self.old) state.old.value }
+        ensures items { self.new.out ≡ self.old.out }
     {
-        self.out.clear();
-        self.ops.clear();
+        if self.stays {
+            return;
+        }
+        S::exchange(self, state);
     }
 
     /// Gives MM's operations to who has none yet.

@@ -12,6 +12,7 @@ mod left;
 mod loading;
 mod md_slot;
 mod mm_slot;
+mod reads;
 mod sc_slot;
 mod slot;
 mod stages;

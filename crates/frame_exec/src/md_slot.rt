@@ -10,22 +10,15 @@ ghost use Rattle.frame_exec.specs.Tables.{TableSet};
 ghost use Rattle.frame_exec.specs.Applications.{md_stands, md_gives};
 
 use crate::application::Application;
+use crate::reads::Reads;
 use crate::slot::Slot;
 use bus_pipes::Outbox;
 use md_dwell::Md;
-use memory_window::Window;
 use packet_forms::Packet;
 
 pub(crate) type MdSlot = Slot<Md>;
 
-/// What MD reads in a frame beside its packets: the frame's image, and its time.
-#[derive(Clone, Copy, Drop)]
-pub(crate) struct MdReads<'a> {
-    pub(crate) window: Window<'a>,
-    pub(crate) time: u32,
-}
-
-impl<'a> Application<MdReads<'a>, ()> for Md {
+impl Application<()> for Md {
     ghost Setup = { TableSet };
 
     ghost Input = { Input };
@@ -46,14 +39,14 @@ impl<'a> Application<MdReads<'a>, ()> for Md {
 
     ghost fills = { λ reads commands beside. Unit {0} };
 
-    fn is_idle(&self, reads: MdReads<'a>, commands: &[Packet]) -> bool {
+    fn is_idle(&self, reads: &Reads<'_, '_, '_>, commands: &[Packet]) -> bool {
         let _ = reads;
         self.is_idle(commands)
     }
 
     fn advance(
         &mut self,
-        reads: MdReads<'a>,
+        reads: &Reads<'_, '_, '_>,
         commands: &[Packet],
         out: &mut Outbox,
         beside: &mut (),

@@ -10,24 +10,16 @@ ghost use Rattle.frame_exec.specs.Applications.{mm_stands, mm_gives};
 ghost use Rattle.frame_exec.specs.Landable.{CanLand};
 
 use crate::application::Application;
+use crate::reads::Reads;
 use crate::slot::Slot;
 use bus_pipes::Outbox;
-use memory_window::{Ops, Window};
+use memory_window::Ops;
 use mm_core::Mm;
 use packet_forms::Packet;
-use table_files::Files;
 
 pub(crate) type MmSlot = Slot<Mm>;
 
-/// What MM reads in a frame beside its packets: the frame's image, the files, and its time.
-#[derive(Clone, Copy, Drop)]
-pub(crate) struct MmReads<'a, 'f> {
-    pub(crate) window: Window<'a>,
-    pub(crate) files: &'f Files,
-    pub(crate) time: u32,
-}
-
-impl<'a, 'f> Application<MmReads<'a, 'f>, Ops> for Mm {
+impl Application<Ops> for Mm {
     ghost Setup = { TableSet };
 
     ghost Input = { Input };
@@ -48,14 +40,14 @@ impl<'a, 'f> Application<MmReads<'a, 'f>, Ops> for Mm {
 
     ghost fills = { λ reads commands ops. (ops ≡ mm_operations (input_of reads.time commands reads.window reads.files.now)) × CanLand (loads_of reads.files.now) (seen reads.window) ops };
 
-    fn is_idle(&self, reads: MmReads<'a, 'f>, commands: &[Packet]) -> bool {
+    fn is_idle(&self, reads: &Reads<'_, '_, '_>, commands: &[Packet]) -> bool {
         let _ = reads;
         self.is_idle(commands)
     }
 
     fn advance(
         &mut self,
-        reads: MmReads<'a, 'f>,
+        reads: &Reads<'_, '_, '_>,
         commands: &[Packet],
         out: &mut Outbox,
         beside: &mut Ops,

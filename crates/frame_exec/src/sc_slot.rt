@@ -7,22 +7,15 @@ ghost use Rattle.sc_sequences.specs.State.{IsReady};
 ghost use Rattle.frame_exec.specs.Applications.{sc_stands, sc_gives, sc_reads};
 
 use crate::application::Application;
+use crate::reads::Reads;
 use crate::slot::Slot;
 use bus_pipes::Outbox;
 use packet_forms::Packet;
 use sc_sequences::Sc;
-use sc_tables::ScTables;
 
 pub(crate) type ScSlot = Slot<Sc>;
 
-/// What SC reads in a frame beside its packets: the sequences, and its time.
-#[derive(Clone, Copy, Drop)]
-pub(crate) struct ScReads<'a, 'f> {
-    pub(crate) tables: &'a ScTables<'f>,
-    pub(crate) time: u32,
-}
-
-impl<'a, 'f> Application<ScReads<'a, 'f>, ()> for Sc {
+impl Application<()> for Sc {
     ghost Setup = { Beginning };
 
     ghost Input = { Input };
@@ -33,28 +26,28 @@ impl<'a, 'f> Application<ScReads<'a, 'f>, ()> for Sc {
 
     ghost most = { MOST_ITEMS };
 
-    ghost belongs = { λ setup reads. reads.tables.now ≡ setup.tables };
+    ghost belongs = { λ setup reads. reads.tables.now.sc ≡ setup.tables };
 
     ghost input = { λ reads commands. sc_reads reads.time commands };
 
-    ghost can_step = { λ reads sc. IsReady reads.tables.now sc };
+    ghost can_step = { λ reads sc. IsReady reads.tables.now.sc sc };
 
     ghost is_clear = { λ beside. Unit {0} };
 
     ghost fills = { λ reads commands beside. Unit {0} };
 
-    fn is_idle(&self, reads: ScReads<'a, 'f>, commands: &[Packet]) -> bool {
+    fn is_idle(&self, reads: &Reads<'_, '_, '_>, commands: &[Packet]) -> bool {
         self.is_idle(commands, reads.time)
     }
 
     fn advance(
         &mut self,
-        reads: ScReads<'a, 'f>,
+        reads: &Reads<'_, '_, '_>,
         commands: &[Packet],
         out: &mut Outbox,
         beside: &mut (),
     ) {
         let _ = beside;
-        self.advance(reads.tables, commands, reads.time, out);
+        self.advance(reads.tables.sc(), commands, reads.time, out);
     }
 }

@@ -1,6 +1,6 @@
 //! An application in the bench: its state, the packets that it took, and what it gives in a frame.
 
-ghost use Rattle.std.specs.Prelude.{◌≡◌, ◌≤◌, ℕ, ◌<◌, ◌≢◌, true, false, List, [], length, slice_index_or, IfOk};
+ghost use Rattle.std.specs.Prelude.{◌≡◌, ◌≤◌, ℕ, ◌<◌, ◌≢◌, true, false, List, [], ◌∷◌, ◌++◌, length, slice_index_or, IfOk};
 ghost use Rattle.hs_monitors.specs.declared.step.TheConstants.{MOST_ITEMS};
 ghost use Rattle.bus_pipes.specs.Pipes.{packets_in, depth_of};
 ghost use Rattle.frame_exec.specs.Sending.{taken};
@@ -8,6 +8,7 @@ ghost use Rattle.frame_exec.specs.Wakes.{next_of};
 
 use crate::application::Application;
 use crate::left::{Left, Next};
+use crate::reads::Reads;
 use bus_pipes::{Batch, Bus, Outbox, PipeName};
 use crew_board::Crew;
 use fsw_outside::NoMemory;
@@ -61,25 +62,26 @@ impl<S> Slot<S> {
 
     /// Wakes the application on the packets that it took, unless it is held. Its next state is left in `next`, unless it `stays` as it
     /// is.
-    pub(crate) fn wake<R: Copy + Drop, X>(
+    #[inline(always)]
+    pub(crate) fn wake<X>(
         &self,
-        reads: R,
+        reads: &Reads<'_, '_, '_>,
         stays: &mut bool,
-        next: &mut Option<S>,
+        next: &mut Box<S>,
         out: &mut Outbox,
         beside: &mut X,
     )
     where
-        S: Application<R, X> + Copy + Drop,
+        S: Application<X> + Copy + Drop,
         requires room { S.most ≤ out.old.room }
         requires empty { out.old.items ≡ [] }
-        requires can { S.can_step reads self.now.state.value }
+        requires can { S.can_step reads.now self.now.state.value }
         requires clear { S.is_clear beside.old }
-        ensures wakes { (setup : S.Setup) → S.belongs setup reads → IsWoken (S.stands setup) (S.items setup) self.now.held (S.input reads self.now.commands) self.now.state.value (next_of stays.new next.new self.now.state.value) out.new.items }
-        ensures can { S.can_step reads (next_of stays.new next.new self.now.state.value) }
+        ensures wakes { (setup : S.Setup) → S.belongs setup reads.now → IsWoken (S.stands setup) (S.items setup) self.now.held (S.input reads.now self.now.commands) self.now.state.value (next_of stays.new next.new.value self.now.state.value) out.new.items }
+        ensures can { S.can_step reads.now (next_of stays.new next.new.value self.now.state.value) }
         ensures sendable { AreSendable S.most out.new.items }
         ensures held { self.now.held ≡ true → S.is_clear beside.new }
-        ensures fills { self.now.held ≡ false → S.fills reads self.now.commands beside.new }
+        ensures fills { self.now.held ≡ false → S.fills reads.now self.now.commands beside.new }
         ensures room { out.new.room ≡ out.old.room }
     {
         *stays = true;
@@ -90,45 +92,54 @@ impl<S> Slot<S> {
             return;
         }
         *stays = false;
-        // The place of the last one is written over, since filling an empty place copies the state twice.
-        if let Some(state) = next {
-            *state = *self.state;
-            state.advance(reads, self.commands.packets(), out, beside);
-            return;
-        }
-        let state = next.insert(*self.state);
-        state.advance(reads, self.commands.packets(), out, beside);
+        self.go_on(reads, next, out, beside);
     }
 
-    /// Takes over what waking left, as the result of this job. The application gave nothing yet.
-    pub(crate) fn take_over(&mut self, crew: &mut Crew<Left>, job: u32)
+    // Leaves the state behind a wakeup in `next`.
+    #[inline(never)]
+    fn go_on<X>(
+        &self,
+        reads: &Reads<'_, '_, '_>,
+        next: &mut Box<S>,
+        out: &mut Outbox,
+        beside: &mut X,
+    )
     where
-        S: Next + Copy + Drop,
+        S: Application<X> + Copy + Drop,
+        requires room { S.most ≤ out.old.room }
+        requires empty { out.old.items ≡ [] }
+        requires can { S.can_step reads.now self.now.state.value }
+        requires clear { S.is_clear beside.old }
+        ensures state { (setup : S.Setup) (history : List S.Input) → S.belongs setup reads.now → S.stands setup history self.now.state.value → S.stands setup (history ++ S.input reads.now self.now.commands ∷ []) next.new.value }
+        ensures items { (setup : S.Setup) (history : List S.Input) → S.belongs setup reads.now → S.stands setup history self.now.state.value → out.new.items ≡ S.items setup history (S.input reads.now self.now.commands) }
+        ensures can { S.can_step reads.now next.new.value }
+        ensures sendable { AreSendable S.most out.new.items }
+        ensures fills { S.fills reads.now self.now.commands beside.new }
+        ensures room { out.new.room ≡ out.old.room }
+    {
+        **next = *self.state;
+        next.advance(reads, self.commands.packets(), out, beside);
+    }
+
+    /// Takes over what waking left, as the result of this job, and tells whether no item was given. The application gave nothing yet.
+    #[inline(always)]
+    pub(crate) fn take_over(&mut self, crew: &mut Crew<Left>, job: u32) -> bool
+    where
+        S: Next,
         requires job { job < length crew.old.results }
         requires empty { self.old.out.items ≡ [] }
         ensures from { (left : Left) × (slice_index_or crew.old.results job left ≡ left) × (self.new.state.value ≡ next_of left.stays (S.next left) self.old.state.value) × (self.new.out.items ≡ left.out.items) }
         ensures others { (k : ℕ) (d : Left) → k ≢ job → slice_index_or crew.new.results k d ≡ slice_index_or crew.old.results k d }
         ensures count { length crew.new.results ≡ length crew.old.results }
         ensures jobs { crew.new.jobs ≡ crew.old.jobs }
+        ensures none { result ≡ true → self.new.out.items ≡ [] }
     {
         let left = crew.result_mut(job);
-        follow(&mut self.state, left.stays, S::next_in(left));
+        left.give_state(&mut self.state);
         if left.out.is_empty() {
-            return;
+            return true;
         }
         mem::swap(&mut self.out, &mut left.out);
-    }
-}
-
-/// Goes on to the next state, unless the state stays as it is.
-#[inline(always)]
-fn follow<S: Copy + Drop>(state: &mut Box<S>, stays: bool, next: &Option<S>)
-    ensures { state.new.value ≡ next_of stays next.now state.old.value }
-{
-    if stays {
-        return;
-    }
-    if let Some(new) = next {
-        **state = *new;
+        false
     }
 }

@@ -1,64 +1,55 @@
 //! The wakeups of a frame, as jobs of a crew.
 
-use crate::cs_slot::{CsReads, CsSlot};
-use crate::hs_slot::{HsReads, HsSlot};
+use crate::cs_slot::CsSlot;
+use crate::hs_slot::HsSlot;
 use crate::left::Left;
-use crate::md_slot::{MdReads, MdSlot};
-use crate::mm_slot::{MmReads, MmSlot};
-use crate::sc_slot::{ScReads, ScSlot};
-use crate::tables::Tables;
-use bus_pipes::Batch;
+use crate::md_slot::MdSlot;
+use crate::mm_slot::MmSlot;
+use crate::reads::Reads;
+use crate::sc_slot::ScSlot;
 use crew_board::Task;
-use memory_window::Window;
-use packet_forms::Counter;
 use scenario::App;
 use std::marker::Model;
-use table_files::Files;
 
-/// What all wakeups of a frame read: the applications with what they took, the tables, the files, memory, the frame's execution
-/// counters, and its time.
+/// The applications with what they took, and what all of them read.
 #[derive(Drop)]
-pub(crate) struct Scene<'a, 'n, 'f> {
+pub(crate) struct Scene<'a, 'r, 'n, 'f> {
     pub(crate) hs: &'a HsSlot,
-    pub(crate) events: &'a Batch,
     pub(crate) cs: &'a CsSlot,
     pub(crate) sc: &'a ScSlot,
     pub(crate) mm: &'a MmSlot,
     pub(crate) md: &'a MdSlot,
-    pub(crate) tables: &'a Tables<'f>,
-    pub(crate) files: &'f Files,
-    pub(crate) window: Window<'a>,
-    pub(crate) counters: &'n [Counter],
-    pub(crate) time: u32,
+    pub(crate) reads: Reads<'r, 'n, 'f>,
 }
 
-impl<'a, 'n, 'f> Model for Scene<'a, 'n, 'f> {
+impl<'a, 'r, 'n, 'f> Model for Scene<'a, 'r, 'n, 'f> {
     ghost use Rattle.memory_window.specs.Window.{seen};
     ghost use Rattle.frame_exec.specs.Turns.{Seen, CanWake};
 
     ghost Value = { Seen };
 
-    ghost view = { λ s. record { hs = s.hs.now; events = s.events.now; cs = s.cs.now; sc = s.sc.now; mm = s.mm.now; md = s.md.now; tables = s.tables.now; files = s.files.now; memory = seen s.window; counters = s.counters.now; time = s.time } };
+    ghost view = { λ s. record { hs = s.hs.now; events = s.reads.events.now; cs = s.cs.now; sc = s.sc.now; mm = s.mm.now; md = s.md.now; tables = s.reads.tables.now; files = s.reads.files.now; memory = seen s.reads.window; counters = s.reads.counters.now; time = s.reads.time } };
 
-    ghost invariant = { λ s. CanWake (record { hs = s.hs.now; events = s.events.now; cs = s.cs.now; sc = s.sc.now; mm = s.mm.now; md = s.md.now; tables = s.tables.now; files = s.files.now; memory = seen s.window; counters = s.counters.now; time = s.time }) };
+    ghost invariant = { λ s. CanWake (record { hs = s.hs.now; events = s.reads.events.now; cs = s.cs.now; sc = s.sc.now; mm = s.mm.now; md = s.md.now; tables = s.reads.tables.now; files = s.reads.files.now; memory = seen s.reads.window; counters = s.reads.counters.now; time = s.reads.time }) };
 }
 
 /// The wakeup of an application, as a job.
 #[derive(Drop)]
-pub(crate) struct Wakeup<'s, 'a, 'n, 'f> {
-    pub(crate) scene: &'s Scene<'a, 'n, 'f>,
+pub(crate) struct Wakeup<'s, 'a, 'r, 'n, 'f> {
+    pub(crate) scene: &'s Scene<'a, 'r, 'n, 'f>,
     pub(crate) app: App,
 }
 
-impl Task for Wakeup<'_, '_, '_, '_> {
+impl Task for Wakeup<'_, '_, '_, '_, '_> {
     ghost use Rattle.frame_exec.specs.Jobs.{Leaves};
 
     type Work = Left;
 
     ghost leaves = { λ w left. Leaves w.app w.scene.now left };
 
+    #[inline(always)]
     fn perform(&self, scratch: &mut Left) {
-        scratch.clear();
+        scratch.out.clear();
         match self.app {
             App::Hs => self.scene.wake_hs(scratch),
             App::Cs => self.scene.wake_cs(scratch),
@@ -69,24 +60,19 @@ impl Task for Wakeup<'_, '_, '_, '_> {
     }
 }
 
-impl<'a, 'n, 'f> Scene<'a, 'n, 'f> {
+impl<'a, 'r, 'n, 'f> Scene<'a, 'r, 'n, 'f> {
     ghost use Rattle.std.specs.Prelude.{◌≡◌, []};
     ghost use Rattle.scenario.specs.declared.frame.App.TheVariants as names;
     ghost use Rattle.frame_exec.specs.Jobs.{Leaves};
 
     // Wakes HS. The scratch is clear.
+    #[inline(always)]
     fn wake_hs(&self, scratch: &mut Left)
         requires { scratch.old.out.items ≡ [] }
         ensures { Leaves names.Hs self.now scratch.new }
     {
-        let reads = HsReads {
-            tables: self.tables.hs(),
-            events: self.events.packets(),
-            counters: self.counters,
-            time: self.time,
-        };
         self.hs.wake(
-            reads,
+            &self.reads,
             &mut scratch.stays,
             &mut scratch.hs,
             &mut scratch.out,
@@ -95,18 +81,13 @@ impl<'a, 'n, 'f> Scene<'a, 'n, 'f> {
     }
 
     // Wakes CS. The scratch is clear.
+    #[inline(always)]
     fn wake_cs(&self, scratch: &mut Left)
         requires { scratch.old.out.items ≡ [] }
         ensures { Leaves names.Cs self.now scratch.new }
     {
-        let reads = CsReads {
-            eeprom: self.tables.eeprom(),
-            memory: self.tables.memory(),
-            window: self.window,
-            time: self.time,
-        };
         self.cs.wake(
-            reads,
+            &self.reads,
             &mut scratch.stays,
             &mut scratch.cs,
             &mut scratch.out,
@@ -115,16 +96,13 @@ impl<'a, 'n, 'f> Scene<'a, 'n, 'f> {
     }
 
     // Wakes SC. The scratch is clear.
+    #[inline(always)]
     fn wake_sc(&self, scratch: &mut Left)
         requires { scratch.old.out.items ≡ [] }
         ensures { Leaves names.Sc self.now scratch.new }
     {
-        let reads = ScReads {
-            tables: self.tables.sc(),
-            time: self.time,
-        };
         self.sc.wake(
-            reads,
+            &self.reads,
             &mut scratch.stays,
             &mut scratch.sc,
             &mut scratch.out,
@@ -132,19 +110,15 @@ impl<'a, 'n, 'f> Scene<'a, 'n, 'f> {
         );
     }
 
-    // Wakes MM. The scratch is clear.
+    // Wakes MM. The scratch is clear but for operations.
+    #[inline(always)]
     fn wake_mm(&self, scratch: &mut Left)
-        requires clear { scratch.old.out.items ≡ [] }
-        requires none { scratch.old.ops.value ≡ [] }
+        requires { scratch.old.out.items ≡ [] }
         ensures { Leaves names.Mm self.now scratch.new }
     {
-        let reads = MmReads {
-            window: self.window,
-            files: self.files,
-            time: self.time,
-        };
+        scratch.ops.clear();
         self.mm.wake(
-            reads,
+            &self.reads,
             &mut scratch.stays,
             &mut scratch.mm,
             &mut scratch.out,
@@ -153,16 +127,13 @@ impl<'a, 'n, 'f> Scene<'a, 'n, 'f> {
     }
 
     // Wakes MD. The scratch is clear.
+    #[inline(always)]
     fn wake_md(&self, scratch: &mut Left)
         requires { scratch.old.out.items ≡ [] }
         ensures { Leaves names.Md self.now scratch.new }
     {
-        let reads = MdReads {
-            window: self.window,
-            time: self.time,
-        };
         self.md.wake(
-            reads,
+            &self.reads,
             &mut scratch.stays,
             &mut scratch.md,
             &mut scratch.out,

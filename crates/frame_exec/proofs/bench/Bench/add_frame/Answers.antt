@@ -10,53 +10,53 @@ use Rattle.frame_exec.proofs.Frames.{lines_are, has_next, ready_next, can_land_s
 use Rattle.frame_exec.proofs.Behind.{follows_next, cut_added, told_added}
 use Rattle.frame_exec.proofs.bench.Bench.add_frame.Goals as goal
 
-pub run-requires-clause-time : goal.run-requires-clause-time
-run-requires-clause-time g c = λ _ _. let s = c.requires.started in time_fits c.args.self.now s.0 (s.1 ++ s.2) c.args.input.now s.3.epoch s.3.has s.4
+pub run-silent-requires-clause-time : goal.run-silent-requires-clause-time
+run-silent-requires-clause-time g c = λ _ _. let s = c.requires.started in time_fits c.args.self.now s.0 (s.1 ++ s.2) c.args.input.now s.3.epoch s.3.has s.4
 
-pub run-requires-clause-upsets : goal.run-requires-clause-upsets
-run-requires-clause-upsets g c = λ _ _. let s = c.requires.started in upsets_mapped c.args.self.now s.0 (s.1 ++ s.2) c.args.input.now s.3.has s.4
+pub run-silent-requires-clause-upsets : goal.run-silent-requires-clause-upsets
+run-silent-requires-clause-upsets g c = λ _ _. let s = c.requires.started in upsets_mapped c.args.self.now s.0 (s.1 ++ s.2) c.args.input.now s.3.has s.4
 
 pub add_lines-requires : goal.add_lines-requires
 add_lines-requires g c =
     let s = c.requires.started in
     let fits = time_fits c.args.self.now s.0 (s.1 ++ s.2) c.args.input.now s.3.epoch s.3.has s.4 in
-    let same = c.run.ensures.run.number in
-    omega (arith, fits, same)
+    let same = c.run-silent.ensures.run.number in
+    record { number = omega (arith, fits, same); silent = c.run-silent.ensures.silent }
 
 pub land-requires-clause-number : goal.land-requires-clause-number
 land-requires-clause-number g c =
     let s = c.requires.started in
     let fits = time_fits c.args.self.now s.0 (s.1 ++ s.2) c.args.input.now s.3.epoch s.3.has s.4 in
-    let number = c.in-Ok.ensures.same.number ∙ c.run.ensures.run.number in
+    let number = c.in-Ok.ensures.same.number ∙ c.run-silent.ensures.run.number in
     λ _ _. omega (arith, fits, number)
 
 pub land-requires-clause-can_land : goal.land-requires-clause-can_land
-land-requires-clause-can_land g c = λ _ _. can_land_still c.run.new.self c.add_lines.new.self c.in-Ok.ensures.same c.run.ensures.can_land
+land-requires-clause-can_land g c = λ _ _. can_land_still c.run-silent.new.self c.add_lines.new.self c.in-Ok.ensures.same c.run-silent.ensures.can_land
 
 pub returns-in-Ok-clause-follows : goal.returns-in-Ok-clause-follows
 returns-in-Ok-clause-follows g c = λ setup earlier later follows.
-    let run = c.run.ensures.run in
+    let run = c.run-silent.ensures.run in
     let same = c.in-Ok.ensures.same in
-    let r = c.run.ensures.runs setup (run_of setup (earlier ++ later)) follows.epoch follows.files follows.has in
-    let lines = lines_are setup (earlier ++ later) c.args.input.now c.run.new.self.number _ c.run.new.self.drops.items (run.number ∙ follows.has.number) r.sent r.drops in
-    follows_next c.land.new.self setup earlier later c.args.input.now _ c.run.new.self.block c.add_lines.new.self.block _ _
+    let r = c.run-silent.ensures.runs setup (run_of setup (earlier ++ later)) follows.epoch follows.files follows.has in
+    let lines = lines_are setup (earlier ++ later) c.args.input.now c.run-silent.new.self.number _ c.run-silent.new.self.drops.items (run.number ∙ follows.has.number) r.sent r.drops in
+    follows_next c.land.new.self setup earlier later c.args.input.now _ c.run-silent.new.self.block c.add_lines.new.self.block _ _
     (c.land.ensures.epoch ∙ same.epoch ∙ run.epoch ∙ follows.epoch) (ap (λ (fs : Bor (List (List ℕ))). fs.now) (c.land.ensures.files ∙ same.files ∙ run.files) ∙ follows.files) (c.land.ensures.failed ∙ same.failed ∙ run.failed ∙ follows.well)
-    (has_next c.run.new.self c.add_lines.new.self c.land.new.self setup (earlier ++ later) c.args.input.now same c.land.ensures (ap (λ (fs : Bor (List (List ℕ))). fs.now) run.files ∙ follows.files) (run.number ∙ follows.has.number) (run.tables ∙ follows.has.tables) r)
-    (ready_next c.run.new.self c.add_lines.new.self c.land.new.self setup (earlier ++ later) c.args.input.now same c.land.ensures c.run.ensures.ready)
+    (has_next c.run-silent.new.self c.add_lines.new.self c.land.new.self setup (earlier ++ later) c.args.input.now same c.land.ensures (ap (λ (fs : Bor (List (List ℕ))). fs.now) run.files ∙ follows.files) (run.number ∙ follows.has.number) (run.tables ∙ follows.has.tables) r)
+    (ready_next c.run-silent.new.self c.add_lines.new.self c.land.new.self setup (earlier ++ later) c.args.input.now same c.land.ensures c.run-silent.ensures.ready)
     c.land.ensures.waits lines
     (subst (Notes (ends_from 0 (lines_behind setup earlier later)) (length (joined (lines_behind setup earlier later)))) (sym run.waits) follows.notes) c.in-Ok.ensures.adds
 
 pub returns-in-Ok-clause-told : goal.returns-in-Ok-clause-told
 returns-in-Ok-clause-told g c = λ setup earlier later follows.
-    let r = c.run.ensures.runs setup (run_of setup (earlier ++ later)) follows.epoch follows.files follows.has in
-    let lines = lines_are setup (earlier ++ later) c.args.input.now c.run.new.self.number _ c.run.new.self.drops.items (c.run.ensures.run.number ∙ follows.has.number) r.sent r.drops in
-    told_added _ _ c.args.self.now.block c.run.new.self.block c.add_lines.new.self.block c.land.new.self.block _ _ lines c.run.ensures.run.waits c.land.ensures.waits c.in-Ok.ensures.adds
+    let r = c.run-silent.ensures.runs setup (run_of setup (earlier ++ later)) follows.epoch follows.files follows.has in
+    let lines = lines_are setup (earlier ++ later) c.args.input.now c.run-silent.new.self.number _ c.run-silent.new.self.drops.items (c.run-silent.ensures.run.number ∙ follows.has.number) r.sent r.drops in
+    told_added _ _ c.args.self.now.block c.run-silent.new.self.block c.add_lines.new.self.block c.land.new.self.block _ _ lines c.run-silent.ensures.run.waits c.land.ensures.waits c.in-Ok.ensures.adds
 
 pub returns-in-Err-clause-cut : goal.returns-in-Err-clause-cut
 returns-in-Err-clause-cut g c = λ setup earlier later follows.
-    let r = c.run.ensures.runs setup (run_of setup (earlier ++ later)) follows.epoch follows.files follows.has in
-    let lines = lines_are setup (earlier ++ later) c.args.input.now c.run.new.self.number _ c.run.new.self.drops.items (c.run.ensures.run.number ∙ follows.has.number) r.sent r.drops in
-    cut_added {E = Failed} c.in-Err.field-0 setup earlier later c.args.input.now (lines_in c.run.new.self) c.args.self.now.block c.add_lines.new.self.block (g.O.Sink.held c.args.sink.now) (g.O.Sink.held c.add_lines.new.sink) c.cut.result.late
+    let r = c.run-silent.ensures.runs setup (run_of setup (earlier ++ later)) follows.epoch follows.files follows.has in
+    let lines = lines_are setup (earlier ++ later) c.args.input.now c.run-silent.new.self.number _ c.run-silent.new.self.drops.items (c.run-silent.ensures.run.number ∙ follows.has.number) r.sent r.drops in
+    cut_added {E = Failed} c.in-Err.field-0 setup earlier later c.args.input.now (lines_in c.run-silent.new.self) c.args.self.now.block c.add_lines.new.self.block (g.O.Sink.held c.args.sink.now) (g.O.Sink.held c.add_lines.new.sink) c.cut.result.late
     lines follows.notes
-    (subst (λ (block : Waiting). Adds {E = Failed} (Err c.in-Err.field-0) (lines_in c.run.new.self) block c.add_lines.new.self.block (g.O.Sink.held c.args.sink.now) (g.O.Sink.held c.add_lines.new.sink)) c.run.ensures.run.waits c.in-Err.ensures.adds)
+    (subst (λ (block : Waiting). Adds {E = Failed} (Err c.in-Err.field-0) (lines_in c.run-silent.new.self) block c.add_lines.new.self.block (g.O.Sink.held c.args.sink.now) (g.O.Sink.held c.add_lines.new.sink)) c.run-silent.ensures.run.waits c.in-Err.ensures.adds)
     c.cut.ensures.late

@@ -6,54 +6,54 @@ use Rattle.fsw_outside.specs.TellingLaws.{told_map}
 use Rattle.frame_exec.proofs.Frames.{lines_are, has_next, ready_next, can_land_still, upsets_mapped, time_fits}
 use Rattle.frame_exec.proofs.bench.Bench.frame.Goals as goal
 
-pub run-requires-clause-time : goal.run-requires-clause-time
-run-requires-clause-time g c = λ _ _. let s = c.requires.started in time_fits c.args.self.now s.0 s.1 c.args.input.now s.2.epoch s.2.has s.3
+pub run-silent-requires-clause-time : goal.run-silent-requires-clause-time
+run-silent-requires-clause-time g c = λ _ _. let s = c.requires.started in time_fits c.args.self.now s.0 s.1 c.args.input.now s.2.epoch s.2.has s.3
 
-pub run-requires-clause-upsets : goal.run-requires-clause-upsets
-run-requires-clause-upsets g c = λ _ _. let s = c.requires.started in upsets_mapped c.args.self.now s.0 s.1 c.args.input.now s.2.has s.3
+pub run-silent-requires-clause-upsets : goal.run-silent-requires-clause-upsets
+run-silent-requires-clause-upsets g c = λ _ _. let s = c.requires.started in upsets_mapped c.args.self.now s.0 s.1 c.args.input.now s.2.has s.3
 
 pub write-requires : goal.write-requires
 write-requires g c =
     let s = c.requires.started in
     let fits = time_fits c.args.self.now s.0 s.1 c.args.input.now s.2.epoch s.2.has s.3 in
-    let same = c.run.ensures.run.number in
-    record { number = omega (arith, fits, same); none = c.run.ensures.run.waits ∙ s.2.waits }
+    let same = c.run-silent.ensures.run.number in
+    record { number = omega (arith, fits, same); none = c.run-silent.ensures.run.waits ∙ s.2.waits; silent = c.run-silent.ensures.silent }
 
 pub land-requires-clause-number : goal.land-requires-clause-number
 land-requires-clause-number g c =
     let s = c.requires.started in
     let fits = time_fits c.args.self.now s.0 s.1 c.args.input.now s.2.epoch s.2.has s.3 in
-    let number = c.in-Ok.ensures.same.number ∙ c.run.ensures.run.number in
+    let number = c.in-Ok.ensures.same.number ∙ c.run-silent.ensures.run.number in
     λ _ _. omega (arith, fits, number)
 
 pub land-requires-clause-can_land : goal.land-requires-clause-can_land
-land-requires-clause-can_land g c = λ _ _. can_land_still c.run.new.self c.write.new.self c.in-Ok.ensures.same c.run.ensures.can_land
+land-requires-clause-can_land g c = λ _ _. can_land_still c.run-silent.new.self c.write.new.self c.in-Ok.ensures.same c.run-silent.ensures.can_land
 
 pub returns-in-Ok-clause-lines : goal.returns-in-Ok-clause-lines
 returns-in-Ok-clause-lines g c = λ setup frames stands.
-    let r = c.run.ensures.runs setup (run_of setup frames) stands.epoch stands.files stands.has in
-    let lines = lines_are setup frames c.args.input.now c.run.new.self.number _ c.run.new.self.drops.items (c.run.ensures.run.number ∙ stands.has.number) r.sent r.drops in
+    let r = c.run-silent.ensures.runs setup (run_of setup frames) stands.epoch stands.files stands.has in
+    let lines = lines_are setup frames c.args.input.now c.run-silent.new.self.number _ c.run-silent.new.self.drops.items (c.run-silent.ensures.run.number ∙ stands.has.number) r.sent r.drops in
     told_map c.in-Ok.ensures.content (λ before after written. written ∙ ap (λ (bytes : List ℕ). before ++ bytes) lines)
 
 pub returns-in-Ok-clause-stands : goal.returns-in-Ok-clause-stands
 returns-in-Ok-clause-stands g c = λ setup frames stands.
-    let run = c.run.ensures.run in
+    let run = c.run-silent.ensures.run in
     let same = c.in-Ok.ensures.same in
     record {
       epoch = c.land.ensures.epoch ∙ same.epoch ∙ run.epoch ∙ stands.epoch;
       files = ap (λ (fs : Bor (List (List ℕ))). fs.now) (c.land.ensures.files ∙ same.files ∙ run.files) ∙ stands.files;
       well = c.land.ensures.failed ∙ same.failed ∙ run.failed ∙ stands.well;
       waits = c.land.ensures.waits ∙ c.in-Ok.ensures.handed;
-      has = has_next c.run.new.self c.write.new.self c.land.new.self setup frames c.args.input.now same c.land.ensures (ap (λ (fs : Bor (List (List ℕ))). fs.now) run.files ∙ stands.files) (run.number ∙ stands.has.number) (run.tables ∙ stands.has.tables)
-          (c.run.ensures.runs setup (run_of setup frames) stands.epoch stands.files stands.has);
-      ready = ready_next c.run.new.self c.write.new.self c.land.new.self setup frames c.args.input.now same c.land.ensures c.run.ensures.ready;
+      has = has_next c.run-silent.new.self c.write.new.self c.land.new.self setup frames c.args.input.now same c.land.ensures (ap (λ (fs : Bor (List (List ℕ))). fs.now) run.files ∙ stands.files) (run.number ∙ stands.has.number) (run.tables ∙ stands.has.tables)
+          (c.run-silent.ensures.runs setup (run_of setup frames) stands.epoch stands.files stands.has);
+      ready = ready_next c.run-silent.new.self c.write.new.self c.land.new.self setup frames c.args.input.now same c.land.ensures c.run-silent.ensures.ready;
     }
 
 pub returns-in-Err-clause-interrupted : goal.returns-in-Err-clause-interrupted
-returns-in-Err-clause-interrupted g c = λ setup frames stands. record { memory = c.in-Err.ensures.same.memory ∙ (c.run.ensures.runs setup (run_of setup frames) stands.epoch stands.files stands.has).memory }
+returns-in-Err-clause-interrupted g c = λ setup frames stands. record { memory = c.in-Err.ensures.same.memory ∙ (c.run-silent.ensures.runs setup (run_of setup frames) stands.epoch stands.files stands.has).memory }
 
 pub returns-in-Err-clause-lines : goal.returns-in-Err-clause-lines
 returns-in-Err-clause-lines g c = λ setup frames stands.
-    let r = c.run.ensures.runs setup (run_of setup frames) stands.epoch stands.files stands.has in
-    let lines = lines_are setup frames c.args.input.now c.run.new.self.number _ c.run.new.self.drops.items (c.run.ensures.run.number ∙ stands.has.number) r.sent r.drops in
+    let r = c.run-silent.ensures.runs setup (run_of setup frames) stands.epoch stands.files stands.has in
+    let lines = lines_are setup frames c.args.input.now c.run-silent.new.self.number _ c.run-silent.new.self.drops.items (c.run-silent.ensures.run.number ∙ stands.has.number) r.sent r.drops in
     told_map c.in-Err.ensures.content (λ before after part. subst (λ (bytes : List ℕ). AppendsPart bytes before after) lines part)

@@ -6,9 +6,9 @@ use Rattle.frame_exec.proofs.Lines.{nothing_put}
 use Rattle.frame_exec.proofs.Handing.{lines_by}
 use Rattle.frame_exec.proofs.bench.Bench.put_lines.Goals as goal
 
-pub returns-then-is_silent-clause-puts : goal.returns-then-is_silent-clause-puts
-returns-then-is_silent-clause-puts g c =
-    subst (λ (text : List ℕ). Puts {E = Failed} (Ok tt) text c.args.self.now.block c.args.self.now.block (g.O.Sink.held c.args.sink.now) (g.O.Sink.held c.args.sink.now)) (sym (c.is_silent.ensures c.if-is_silent.true))
+pub returns-then-silent-clause-puts : goal.returns-then-silent-clause-puts
+returns-then-silent-clause-puts g c =
+    subst (λ (text : List ℕ). Puts {E = Failed} (Ok tt) text c.args.self.now.block c.args.self.now.block (g.O.Sink.held c.args.sink.now) (g.O.Sink.held c.args.sink.now)) (sym (c.requires.silent c.if-silent.true))
     (nothing_put c.args.self.now.block (g.O.Sink.held c.args.sink.now))
 
 pub returns-clause-puts : goal.returns-clause-puts

@@ -13,10 +13,10 @@ use Rattle.frame_exec.proofs.Stamping.{sent_none}
 use Rattle.frame_exec.proofs.bench.Bench.send.Goals as goal
 
 -- neither the frame nor an application gave anything
-pub returns-then-gave_nothing : goal.returns-then-gave_nothing
-returns-then-gave_nothing c =
+pub returns-then-is_empty-clause-sends : goal.returns-then-is_empty-clause-sends
+returns-then-is_empty-clause-sends c =
     let old = c.args.self.now in
-    let none : joined (items_in old) ≡ [] = c.gave_nothing.ensures c.if-gave_nothing.true in
+    let none : joined (items_in old) ≡ [] = c.requires.none c.if-none.true in
     let offered : c.args.input.now.sends ++ flat_map packet_in (joined (items_in old)) ≡ [] =
     offers_nothing c.args.input.now.sends (joined (items_in old)) (c.if-is_empty.ensures ∙ ap (λ (packets : List (List ℕ)). length packets == 0) c.sends.ensures.value) none in
     record {

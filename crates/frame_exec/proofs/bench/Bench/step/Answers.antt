@@ -18,7 +18,7 @@ use Rattle.frame_exec.proofs.bench.Bench.step.Goals as goal
 pub returns-clause-steps : goal.returns-clause-steps
 returns-clause-steps g c =
     let woken = c.wake.ensures in
-    let taken = c.take_over.ensures in
+    let taken = c.take_over.ensures.over in
     let slots = woken.slots in
     let run = woken.run in
     let more = taken.run in
@@ -40,7 +40,7 @@ returns-clause-can_send g c =
     let old = c.args.self.now in
     let new = c.take_over.new.self in
     let woken = c.wake.ensures in
-    let taken = c.take_over.ensures in
+    let taken = c.take_over.ensures.over in
     let slots = woken.slots in
     let land = (woken.mm taken.mm.0 taken.mm.1).1.can_land in
     let ram : new.ram ≡ old.ram = taken.memory ∙ slots.memory in
@@ -60,7 +60,7 @@ returns-clause-ready g c =
     let old = c.args.self.now in
     let new = c.take_over.new.self in
     let woken = c.wake.ensures in
-    let taken = c.take_over.ensures in
+    let taken = c.take_over.ensures.over in
     let slots = woken.slots in
     let ram : new.ram ≡ old.ram = taken.memory ∙ slots.memory in
     let tables : new.tables ≡ old.tables = taken.run.tables ∙ woken.run.tables in

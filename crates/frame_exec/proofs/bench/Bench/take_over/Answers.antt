@@ -1,22 +1,23 @@
-use Rattle.std.proofs.Common.{◌≡◌, Bool, Option, length, refl, ap, sym, ◌∙◌, arith}
+use Rattle.std.proofs.Common.{◌≡◌, Bool, length, refl, ap, sym, ◌∙◌, arith, Box, Global}
 use Rattle.std.proofs.lemmas.List.{get_or-set_other, get_or-set_same}
 use Rattle.bus_pipes.specs.Held.{Held}
 use Rattle.bus_pipes.specs.declared.names.Out.{Out}
 use Rattle.mm_core.specs.declared.state.Mm.{Mm}
 use Rattle.frame_exec.specs.declared.left.Left.{Left}
 use Rattle.frame_exec.specs.Wakes.{next_of}
+use Rattle.frame_exec.proofs.Taking.{none_given}
 use Rattle.frame_exec.proofs.bench.Bench.take_over.Goals as goal
 
-pub returns : goal.returns
-returns c =
-    let hs = c.take_over.ensures in
-    let cs = c.take_over-2.ensures in
-    let sc = c.take_over-3.ensures in
-    let mm = c.take_over-4.ensures in
-    let md = c.take_over-5.ensures in
+pub returns-clause-over : goal.returns-clause-over
+returns-clause-over c =
+    let hs = c.take_over-hs.ensures in
+    let cs = c.take_over-cs.ensures in
+    let sc = c.take_over-sc.ensures in
+    let mm = c.take_over-mm.ensures in
+    let md = c.take_over-md.ensures in
     let gave = c.give_operations.new.self in
     let left : Left = c.result_mut-left.result.now in
-    let behind = c.take_over-3.new.crew.results in
+    let behind = c.take_over-sc.new.crew.results in
     let count : length behind ≡ 5 = sc.count ∙ cs.count ∙ hs.count ∙ c.requires.five in
     let same = sym mm.from.1 ∙ get_or-set_same behind 3 gave mm.from.0 (omega (arith, count)) in
     record {
@@ -28,7 +29,7 @@ returns c =
         left,
         sym (hs.others 3 left (omega arith)) ∙ sym (cs.others 3 left (omega arith)) ∙ sym (sc.others 3 left (omega arith)) ∙ c.result_mut-left.ensures.value,
         (
-          mm.from.2 ∙ ap (λ (l : Left). next_of l.stays l.mm c.args.self.now.mm.state.value) same ∙ ap (λ (next : Option Mm). next_of gave.stays next c.args.self.now.mm.state.value) c.give_operations.ensures.next.0 ∙ ap (λ (stays : Bool). next_of stays left.mm c.args.self.now.mm.state.value) c.give_operations.ensures.next.1,
+          mm.from.2 ∙ ap (λ (l : Left). next_of l.stays l.mm.value c.args.self.now.mm.state.value) same ∙ ap (λ (next : Box Mm Global). next_of gave.stays next.value c.args.self.now.mm.state.value) c.give_operations.ensures.next.0 ∙ ap (λ (stays : Bool). next_of stays left.mm.value c.args.self.now.mm.state.value) c.give_operations.ensures.next.1,
           mm.from.3 ∙ ap (λ (l : Left). l.out.items) same ∙ ap (λ (held : Held Out). held.items) c.give_operations.ensures.items,
           c.give_operations.ensures.operations,
         ),
@@ -43,3 +44,6 @@ returns c =
       log = refl;
       memory = refl;
     }
+
+pub returns-clause-none : goal.returns-clause-none
+returns-clause-none c = none_given _ _ _ _ _ _ _ _ _ _ c.take_over-hs.ensures.none c.take_over-cs.ensures.none c.take_over-sc.ensures.none c.take_over-mm.ensures.none c.take_over-md.ensures.none

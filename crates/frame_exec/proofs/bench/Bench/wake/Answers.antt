@@ -31,11 +31,11 @@ returns g c =
       slots = record { hs = refl; cs = refl; sc = refl; mm = refl; md = refl; operations = refl; pipes = refl; log = refl; memory = refl };
       five = c.run.ensures.results.0 ∙ five;
       hs = λ left at. done 0 (omega (arith, five)) _ left refl at;
-      cs = λ left at. subst (λ (m : Memory). Gives (λ t. (old.tables.eeprom ≡ t.eeprom) × (old.tables.memory ≡ t.memory)) cs_stands cs_gives 33 old.cs.held (cs_reads time old.cs.commands m) old.cs.state.value left.stays left.cs left.out.items
-          × CsIsReady (regions_of m.areas) old.tables.eeprom old.tables.memory (next_of left.stays left.cs old.cs.state.value)) is (done 1 (omega (arith, five)) _ left refl at);
+      cs = λ left at. subst (λ (m : Memory). Gives (λ t. (old.tables.eeprom ≡ t.eeprom) × (old.tables.memory ≡ t.memory)) cs_stands cs_gives 33 old.cs.held (cs_reads time old.cs.commands m) old.cs.state.value left.stays left.cs.value left.out.items
+          × CsIsReady (regions_of m.areas) old.tables.eeprom old.tables.memory (next_of left.stays left.cs.value old.cs.state.value)) is (done 1 (omega (arith, five)) _ left refl at);
       sc = λ left at. done 2 (omega (arith, five)) _ left refl at;
-      mm = λ left at. subst (λ (m : Memory). Gives {Setup = TableSet} (λ t. Unit {0}) mm_stands mm_gives 272 old.mm.held (mm_reads (loads_in old) time old.mm.commands m) old.mm.state.value left.stays left.mm left.out.items
+      mm = λ left at. subst (λ (m : Memory). Gives {Setup = TableSet} (λ t. Unit {0}) mm_stands mm_gives 272 old.mm.held (mm_reads (loads_in old) time old.mm.commands m) old.mm.state.value left.stays left.mm.value left.out.items
           × Operates (loads_in old) old.mm.held time old.mm.commands m left.ops.value) is (done 3 (omega (arith, five)) _ left refl at);
-      md = λ left at. subst (λ (m : Memory). Gives {Setup = TableSet} (λ t. Unit {0}) md_stands md_gives 20 old.md.held (md_reads time old.md.commands m) old.md.state.value left.stays left.md left.out.items
-          × AllGiven (regions_of m.areas) (next_of left.stays left.md old.md.state.value)) is (done 4 (omega (arith, five)) _ left refl at);
+      md = λ left at. subst (λ (m : Memory). Gives {Setup = TableSet} (λ t. Unit {0}) md_stands md_gives 20 old.md.held (md_reads time old.md.commands m) old.md.state.value left.stays left.md.value left.out.items
+          × AllGiven (regions_of m.areas) (next_of left.stays left.md.value old.md.state.value)) is (done 4 (omega (arith, five)) _ left refl at);
     }

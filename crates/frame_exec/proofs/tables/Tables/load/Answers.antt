@@ -1,7 +1,7 @@
-use Rattle.std.proofs.Common.{◌≡◌, ◌+◌, ◌-◌, drop, Option, option_map, sym, ◌∙◌, ap, arith}
+use Rattle.std.proofs.Common.{◌+◌, drop, Option, option_map, sym, ◌∙◌, ap, arith}
 use Rattle.table_files.specs.Files.{file_at}
 use Rattle.table_files.specs.declared.fault.EntryFault.{EntryFault}
-use Rattle.frame_exec.specs.Tables.{said_or, first_said, entry_fault_in, fault_at, tables_of}
+use Rattle.frame_exec.specs.Tables.{said_or, first_said, entry_fault_in, fault_at}
 use Rattle.frame_exec.proofs.Files.{tables_none, tables_before, said_none, said_before, fault_of_all}
 use Rattle.frame_exec.proofs.tables.Tables.load.Goals as goal
 
