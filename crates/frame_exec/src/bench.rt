@@ -250,6 +250,7 @@ impl<'f> Bench<'f> {
     }
 
     // Lands the frame's operations bank by bank on the workers, and goes on to the next frame.
+    #[inline(always)]
     fn land<R: Threads + Sync, G: Gate>(&mut self, rt: &R, gate: &G)
         requires number { self.old.number < 4294967296 }
         requires can_land { CanLand (loads_in self.old) self.old.ram self.old.ops.value }
@@ -270,6 +271,7 @@ impl<'f> Bench<'f> {
     }
 
     // Each application takes what its pipes hold, unless it is held.
+    #[inline(always)]
     fn take(&mut self, held: &[App])
         ensures { Takes held.now self.old self.new }
     {
@@ -289,6 +291,7 @@ impl<'f> Bench<'f> {
 
     // Wakes the applications on what they took, on the frame's execution counters, and on its image, takes over what they left, and
     // tells whether no item was given.
+    #[inline(always)]
     fn step<R: Threads + Sync, G: Gate>(&mut self, rt: &R, gate: &G, counters: &[Counter]) -> bool
         requires time { self.old.epoch + self.old.number < 4294967296 }
         requires clear { IsClear self.old }
@@ -303,6 +306,7 @@ impl<'f> Bench<'f> {
     }
 
     // Wakes the applications, each as a job of the crew.
+    #[inline(always)]
     fn wake<R: Threads + Sync, G: Gate>(&mut self, rt: &R, gate: &G, counters: &[Counter])
         requires time { self.old.epoch + self.old.number < 4294967296 }
         requires ready { IsReady self.old }
@@ -352,6 +356,7 @@ impl<'f> Bench<'f> {
     }
 
     // Takes over what the jobs left, in the order of the applications, and tells whether no item was given.
+    #[inline(always)]
     fn take_over(&mut self) -> bool
         requires five { length self.old.crew.results ≡ 5 }
         requires clear { IsClear self.old }
@@ -369,6 +374,7 @@ impl<'f> Bench<'f> {
     }
 
     // Gives the items their counts, offers the frame's packets and theirs to the pipes, and tells whether nothing was sent nor dropped.
+    #[inline(always)]
     fn send(&mut self, input: &FrameInput, none: bool) -> bool
         requires can { CanSend self.old }
         requires none { none ≡ true → joined (items_in self.old) ≡ [] }
@@ -384,6 +390,7 @@ impl<'f> Bench<'f> {
     }
 
     // Gives the items their counts, and offers the frame's packets and theirs to the pipes. Nothing was dropped yet.
+    #[inline(never)]
     fn send_all(&mut self, input: &FrameInput)
         requires can { CanSend self.old }
         requires none { self.old.drops.items ≡ [] }

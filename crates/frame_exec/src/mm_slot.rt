@@ -40,6 +40,7 @@ impl Application<Ops> for Mm {
 
     ghost fills = { λ reads commands ops. (ops ≡ mm_operations (input_of reads.time commands reads.window reads.files.now)) × CanLand (loads_of reads.files.now) (seen reads.window) ops };
 
+    #[inline(always)]
     fn is_idle(&self, reads: &Reads<'_, '_, '_>, commands: &[Packet]) -> bool {
         let _ = reads;
         self.is_idle(commands)

@@ -36,6 +36,7 @@ impl Application<()> for Sc {
 
     ghost fills = { λ reads commands beside. Unit {0} };
 
+    #[inline(always)]
     fn is_idle(&self, reads: &Reads<'_, '_, '_>, commands: &[Packet]) -> bool {
         self.is_idle(commands, reads.time)
     }
