@@ -58,7 +58,11 @@ with_item f (Send p) = record f { sends = f.sends ++ p ∷ [] }
 with_item f (Count c) = record f { counters = f.counters ++ c ∷ [] }
 with_item f (Upset u) = record f { upsets = f.upsets ++ u ∷ [] }
 with_item f (Hold a) = record f { held = f.held ++ a ∷ [] }
-with_item f _ = no_items
+with_item f (Epoch n) = no_items
+with_item f (Region r) = no_items
+with_item f Start = no_items
+with_item f Tick = no_items
+with_item f End = no_items
 
 -- the frame that has begun: the items back to the last `tick`, or to `start`
 abbrev pub frame_of : List Sentence → Frame
@@ -85,4 +89,6 @@ refusal old End = None
 abbrev pub is_started : Place → Bool
 is_started places.Opening = false
 is_started places.Header = false
-is_started _ = true
+is_started places.Between = true
+is_started places.Inside = true
+is_started places.Ended = true
