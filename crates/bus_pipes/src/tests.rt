@@ -1,3 +1,4 @@
+//! Offers that are kept and dropped, routes, and lists with a room.
 ghost use Rattle.std.specs.Prelude.{◌≤◌};
 
 use super::*;

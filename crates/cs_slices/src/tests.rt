@@ -1,3 +1,4 @@
+//! Passes, slices and commands over a few frames.
 ghost use Rattle.std.specs.Prelude.{◌≡◌, ◌≤◌, ◌<◌, ◌++◌, List, [], ◌∷◌, length, true, None};
 ghost use Rattle.memory_window.specs.Memory.{regions_of};
 ghost use Rattle.cs_slices.specs.Given.{SegmentsGiven};

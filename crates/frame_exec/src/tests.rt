@@ -1,3 +1,4 @@
+//! A command that is answered in the next frame, and a sink that fails.
 ghost use Rattle.std.specs.Prelude.{IfOk};
 ghost use Rattle.scenario.specs.Standing.{Shows};
 

@@ -1,3 +1,4 @@
+//! Actions, their cooldowns, and resets up to their maximum.
 use crate::{Actions, Source, laws};
 use bus_pipes::{Out, Outbox};
 use hs_tables::{MsgActs, load_msgacts};

@@ -1,3 +1,4 @@
+//! Application monitors, event monitors and commands over a few frames.
 ghost use Rattle.std.specs.Prelude.{◌≡◌, ◌≤◌, length};
 
 use crate::{Hs, HsInput, MOST_ITEMS, laws};

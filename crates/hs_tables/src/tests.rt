@@ -1,3 +1,4 @@
+//! Payloads of the four tables, and their faults.
 use crate::{
     AppMon, EventMon, ExeCount, MsgActs, load_appmon, load_eventmon, load_execount, load_msgacts,
 };

@@ -1,3 +1,4 @@
+//! Commands of Memory Manager, their answers and operations.
 ghost use Rattle.std.specs.Prelude.{◌≡◌, ◌≤◌, length};
 
 use crate::{MOST_ITEMS, Mm, laws};

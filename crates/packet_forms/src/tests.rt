@@ -1,3 +1,4 @@
+//! Packets both ways, names and checks.
 use super::*;
 use std::test::Fail;
 

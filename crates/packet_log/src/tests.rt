@@ -1,3 +1,4 @@
+//! Lines, sequence counts, blocks and summaries.
 ghost use Rattle.std.specs.Prelude.{◌<◌};
 
 use super::*;

@@ -1,3 +1,4 @@
+//! Sequences over a few frames, and commands for them.
 ghost use Rattle.std.specs.Prelude.{◌≡◌, ◌≤◌, ◌<◌, ◌+◌, length};
 ghost use Rattle.sc_sequences.specs.State.{IsReady};
 

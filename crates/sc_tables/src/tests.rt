@@ -1,3 +1,4 @@
+//! Payloads of sequences, their order, and their faults.
 use crate::{RtsSet, ScTables, laws, load_ats, load_rts};
 use std::test::Fail;
 use table_files::EntryFault;

@@ -1,3 +1,4 @@
+//! Texts read in pieces, their endings, and generated texts.
 ghost use Rattle.std.specs.Prelude.{◌≤◌, ◌<◌};
 ghost use Rattle.scenario.specs.Standing.{Shows};
 
