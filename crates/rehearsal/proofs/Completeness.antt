@@ -14,7 +14,7 @@ use Rattle.rehearsal.specs.declared.report.Status.{Status}
 use Rattle.rehearsal.specs.declared.report.Status.TheVariants as statuses
 use Rattle.rehearsal.specs.declared.report.Report.{Report}
 use Rattle.rehearsal.specs.Words.{Asked, drill_in}
-use Rattle.rehearsal.specs.Files.{refusal_behind, refusal_after, first_refusal, AreTaken, RefusesFile, EndsAtFileBy}
+use Rattle.rehearsal.specs.Files.{refusal_of, refused_from, first_refusal, AreTaken, RefusesFile, EndsAtFileBy}
 use Rattle.frame_exec.specs.Tables.{tables_fault}
 use Rattle.rehearsal.specs.Outcome.{IsText, refused_read, GivesReads, OutcomeOf, Outcome, Seen, ReadsScenario, RunsBy, Rehearses, Completes}
 use Rattle.rehearsal.proofs.Gathered.{none_before}
@@ -134,13 +134,13 @@ front_named stored n names xs ys all front =
     same_contents ys (take n xs) (sym front ∙ sym (take-map (file_named stored) n names) ∙ ap (take n) all ∙ take-map Some n xs)
 
 -- where none of the files is refused, none of a front of them is
-pub none_of_front : (before files : List (List ℕ)) (n : ℕ) → refusal_after before files ≡ None → refusal_after before (take n files) ≡ None
-unfolding refusal_after
-none_of_front before files zero none = refl
-none_of_front before [] (suc n) none = refl
-none_of_front before (file ∷ files) (suc n) none =
-    let parts = none_before (length before + 1) (refusal_behind before file) (refusal_after (before ++ file ∷ []) files) none in
-    rw parts.0 (none_of_front (before ++ file ∷ []) files n parts.1)
+pub none_of_front : (first : ℕ) (files : List (List ℕ)) (n : ℕ) → refused_from first files ≡ None → refused_from first (take n files) ≡ None
+unfolding refused_from
+none_of_front first files zero none = refl
+none_of_front first [] (suc n) none = refl
+none_of_front first (file ∷ files) (suc n) none =
+    let parts = none_before first (refusal_of file) (refused_from (first + 1) files) none in
+    rw parts.0 (none_of_front (first + 1) files n parts.1)
 
 -- a FILE that is refused isn't one of files that are taken
 pub refused_taken : (report : Report) (stored : List Stored) (names files : List (List ℕ)) (rest : List ℕ) → RefusesFile report stored names rest → AreTaken stored names files → ⊥
@@ -148,7 +148,7 @@ unfolding first_refusal
 refused_taken report stored names files rest refuses taken =
     let read : List (List ℕ) = refuses.before ++ refuses.bytes ∷ [] in
     let front : read ≡ take report.file files = front_named stored report.file names files read taken.named refuses.named in
-    let none : refusal_after [] read ≡ None = ap (refusal_after []) front ∙ none_of_front [] files report.file taken.taken in
+    let none : refused_from 1 read ≡ None = ap (refused_from 1) front ∙ none_of_front 1 files report.file taken.taken in
     let is = refuses.refused in
     cc
 

@@ -11,7 +11,7 @@ use Rattle.rehearsal.specs.declared.report.Report.{Report}
 use Rattle.rehearsal.specs.declared.report.Status.{Status}
 use Rattle.rehearsal.specs.declared.report.Status.TheVariants as statuses
 use Rattle.rehearsal.specs.Words.{Asked, drill_in}
-use Rattle.rehearsal.specs.Files.{Refusal, refused_or, refusal_behind, refusal_after, first_refusal, AreTaken, EndsAtFileBy, RefusesFile, FailsAtFile}
+use Rattle.rehearsal.specs.Files.{Refusal, refused_or, refusal_of, refused_from, first_refusal, AreTaken, EndsAtFileBy, RefusesFile, FailsAtFile}
 use Rattle.rehearsal.specs.Lines.{Rehearsed, FailsOn, Refuses, ReadsText, IsDrill}
 use Rattle.rehearsal.specs.Outcome.{frames_of, IsText, IsCut, refused_read, GivesReads, IsRefusedAt, OutcomeOf, Outcome, DrillOutcomeOf, DrillOutcome, Seen, RunsDrill, RunsBy, Rehearses}
 use Rattle.rehearsal.proofs.Outcomes.{refused_none}
@@ -88,11 +88,11 @@ or_kept : (n : ℕ) (reason : Option ℕ) (few more : Option Refusal) (refusal :
 or_kept n None few more refusal step is = step is
 or_kept n (Some reason) few more refusal step is = is
 
-refusal_kept : (before files more : List (List ℕ)) (refusal : Refusal) → refusal_after before files ≡ Some refusal → refusal_after before (files ++ more) ≡ Some refusal
-unfolding refusal_after
-refusal_kept before [] more refusal is = let wrong : ⊥ = cc in absurd wrong
-refusal_kept before (file ∷ files) more refusal is =
-    or_kept (length before + 1) (refusal_behind before file) (refusal_after (before ++ file ∷ []) files) (refusal_after (before ++ file ∷ []) (files ++ more)) refusal (refusal_kept (before ++ file ∷ []) files more refusal) is
+refusal_kept : (n : ℕ) (files more : List (List ℕ)) (refusal : Refusal) → refused_from n files ≡ Some refusal → refused_from n (files ++ more) ≡ Some refusal
+unfolding refused_from
+refusal_kept n [] more refusal is = let wrong : ⊥ = cc in absurd wrong
+refusal_kept n (file ∷ files) more refusal is =
+    or_kept n (refusal_of file) (refused_from (n + 1) files) (refused_from (n + 1) (files ++ more)) refusal (refusal_kept (n + 1) files more refusal) is
 
 same_refusal : (a b : Refusal) → ◌≡◌ {A = Option Refusal} (Some a) (Some b) → a ≡ b
 same_refusal a b same = cc
@@ -104,8 +104,8 @@ unfolding first_refusal
 further stored names few more m n a b within front all first second =
     let shorter : map (file_named stored) (take m (take n names)) ≡ map Some few = ap (map (file_named stored)) (take-take m n names within) ∙ front in
     let is : few ≡ take m more = front_named stored m (take n names) more few all shorter in
-    let kept : refusal_after [] (take m more ++ drop m more) ≡ Some a = refusal_kept [] (take m more) (drop m more) a (ap (refusal_after []) (sym is) ∙ first) in
-    same_refusal a b (sym kept ∙ ap (refusal_after []) (take-append-drop m more) ∙ second)
+    let kept : refused_from 1 (take m more ++ drop m more) ≡ Some a = refusal_kept 1 (take m more) (drop m more) a (ap (refused_from 1) (sym is) ∙ first) in
+    same_refusal a b (sym kept ∙ ap (refused_from 1) (take-append-drop m more) ∙ second)
 
 first_is_one : (stored : List Stored) (names xs ys : List (List ℕ)) (m n : ℕ) (a b : Refusal) → (m ≤ n) ⊎ (n ≤ m) → map (file_named stored) (take m names) ≡ map Some xs → map (file_named stored) (take n names) ≡ map Some ys
     → first_refusal xs ≡ Some a → first_refusal ys ≡ Some b → a ≡ b
@@ -122,7 +122,7 @@ none_refused : (asked : Asked) (seen : Seen) (before : Content) (refusal : Refus
 unfolding first_refusal
 none_refused asked seen before refusal files taken refuses =
     let front : refuses.files ≡ take refuses.count files = front_named before.files refuses.count asked.files files refuses.files taken.named refuses.named in
-    let none : refusal_after [] refuses.files ≡ None = ap (refusal_after []) front ∙ none_of_front [] files refuses.count taken.taken in
+    let none : refused_from 1 refuses.files ≡ None = ap (refused_from 1) front ∙ none_of_front 1 files refuses.count taken.taken in
     let is = refuses.refused in
     cc
 

@@ -4,7 +4,7 @@ use Rattle.std.proofs.Math.ListN.{get_or-append}
 use Rattle.std.proofs.Math.Seq.{take-suc, get_or-append_seam}
 use Rattle.std.proofs.lemmas.List.{map-append, take_all}
 use Rattle.fsw_outside.specs.Files.{Stored, Content, file_named}
-use Rattle.rehearsal.specs.Files.{AsksFor, OpensOnce, noted_name, Refusal, refused_or, refusal_behind, refusal_after, first_refusal, AreTaken, EndsAtFile, stop_report, Takes}
+use Rattle.rehearsal.specs.Files.{AsksFor, OpensOnce, noted_name, Refusal, refused_or, refusal_of, refused_from, first_refusal, AreTaken, EndsAtFile, stop_report, Takes}
 use Rattle.rehearsal.specs.declared.files.Stop.{Stop}
 use Rattle.rehearsal.specs.declared.files.Stop.TheVariants as stops
 
@@ -14,28 +14,25 @@ none_before n None behind none = (refl, none)
 none_before n (Some reason) behind none = cc
 
 -- with one file more it is that file alone that may be refused
-refusal_more : (before files : List (List ℕ)) (file : List ℕ) → refusal_after before files ≡ None
-    → refusal_after before (files ++ file ∷ []) ≡ refused_or (length before + length files + 1) (refusal_behind (before ++ files) file) None
-unfolding refusal_after
-refusal_more before [] file none = rw (append-nil before, add-zero (length before)) refl
-refusal_more before (first ∷ files) file none =
-    let parts = none_before (length before + 1) (refusal_behind before first) (refusal_after (before ++ first ∷ []) files) none in
-    let front = append_assoc before (first ∷ []) files in
-    let size : length (before ++ first ∷ []) + length files + 1 ≡ length before + suc (length files) + 1 = omega (arith, length-append before (first ∷ [])) in
-    rw parts.0 (refusal_more (before ++ first ∷ []) files file parts.1 ∙ ap (λ (n : ℕ). refused_or n (refusal_behind ((before ++ first ∷ []) ++ files) file) None) size
-    ∙ ap (λ (b : List (List ℕ)). refused_or (length before + suc (length files) + 1) (refusal_behind b file) None) front)
+refusal_more : (n : ℕ) (files : List (List ℕ)) (file : List ℕ) → refused_from n files ≡ None → refused_from n (files ++ file ∷ []) ≡ refused_or (n + length files) (refusal_of file) None
+unfolding refused_from
+refusal_more n [] file none = rw (add-zero n) refl
+refusal_more n (first ∷ files) file none =
+    let parts = none_before n (refusal_of first) (refused_from (n + 1) files) none in
+    let size : n + 1 + length files ≡ n + suc (length files) = omega arith in
+    rw parts.0 (refusal_more (n + 1) files file parts.1 ∙ ap (λ (k : ℕ). refused_or k (refusal_of file) None) size)
 
 -- the file behind those that were taken
-first_more : (files : List (List ℕ)) (file : List ℕ) (reason : Option ℕ) → first_refusal files ≡ None → refusal_behind files file ≡ reason
+first_more : (files : List (List ℕ)) (file : List ℕ) (reason : Option ℕ) → first_refusal files ≡ None → refusal_of file ≡ reason
     → first_refusal (files ++ file ∷ []) ≡ refused_or (length files + 1) reason None
 unfolding first_refusal
 first_more files file reason none is =
-    let size : 0 + length files + 1 ≡ length files + 1 = omega arith in
-    refusal_more [] files file none ∙ ap (λ (n : ℕ). refused_or n (refusal_behind files file) None) size ∙ ap (λ (r : Option ℕ). refused_or (length files + 1) r None) is
+    let size : 1 + length files ≡ length files + 1 = omega arith in
+    refusal_more 1 files file none ∙ ap (λ (n : ℕ). refused_or n (refusal_of file) None) size ∙ ap (λ (r : Option ℕ). refused_or (length files + 1) r None) is
 
 -- no FILE at all
 pub taken_none : (stored : List Stored) (names files : List (List ℕ)) → files ≡ [] → AreTaken stored (take (length files) names) files
-unfolding first_refusal refusal_after
+unfolding first_refusal refused_from
 taken_none stored names files none = rw none (record { named = refl; taken = refl })
 
 -- the names so far with one more
@@ -50,7 +47,7 @@ named_more stored names files file within named is =
 
 -- one FILE more is taken
 pub taken_more : (stored : List Stored) (names files now : List (List ℕ)) (file : List ℕ) → length files < length names → AreTaken stored (take (length files) names) files
-    → file_named stored (slice_index_or names (length files) []) ≡ Some file → refusal_behind files file ≡ None → now ≡ files ++ file ∷ [] → AreTaken stored (take (length now) names) now
+    → file_named stored (slice_index_or names (length files) []) ≡ Some file → refusal_of file ≡ None → now ≡ files ++ file ∷ [] → AreTaken stored (take (length now) names) now
 taken_more stored names files now file within taken is good grown =
     let size : length now ≡ length files + 1 = omega (arith, ap length grown, length-append files (file ∷ [])) in
     rw (size, grown) (record { named = named_more stored names files file within taken.named is; taken = first_more files file None taken.taken good })

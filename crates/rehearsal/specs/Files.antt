@@ -1,15 +1,13 @@
 -- Which files are asked for and taken, the first that is refused, how much of them is read, and what a rehearsal that ends at one says.
-use Rattle.std.specs.Prelude.{◌≡◌, ℕ, ◌+◌, ◌-◌, ◌<◌, ◌≤◌, List, [], Option, Some, None, is_some, length, slice_index_or, if◌then◌else◌, nat_lt, ◌∷◌, ◌++◌, map, ◌≢◌, Bool, IsTrue, Result, Ok, Err, take}
+use Rattle.std.specs.Prelude.{◌≡◌, ℕ, ◌+◌, ◌-◌, ◌<◌, ◌≤◌, List, [], Option, Some, None, is_some, option_map, length, slice_index_or, if◌then◌else◌, nat_lt, ◌∷◌, ◌++◌, map, ◌≢◌, Bool, IsTrue, Result, Ok, Err, take}
 use Rattle.fsw_outside.specs.Files.{Stored, Content, file_named}
 use Rattle.table_files.specs.Faults.{file_fault_number}
-use Rattle.table_files.specs.Files.{addition_of}
-use Rattle.table_files.specs.declared.fault.AddFault.{AddFault}
+use Rattle.table_files.specs.Headers.{file_fault_of}
 use Rattle.fsw_outside.specs.Causes.{HasRisen}
 use Rattle.rehearsal.specs.declared.files.Unread.{Unread}
 use Rattle.rehearsal.specs.declared.files.Stop.{Stop}
 use Rattle.rehearsal.specs.declared.report.Status.{Status}
 use Rattle.rehearsal.specs.declared.report.Report.{Report}
-use Rattle.table_files.specs.declared.fault.AddFault.TheVariants as adds
 use Rattle.rehearsal.specs.declared.files.Unread.TheVariants as unread
 use Rattle.rehearsal.specs.declared.files.Stop.TheVariants as stops
 use Rattle.rehearsal.specs.declared.report.Status.TheVariants as statuses
@@ -38,16 +36,9 @@ pub record AsksFor (words : List (List ℕ)) (count : ℕ) (old new : Content) :
   pub name : 0 < count → new.name ≡ noted_name old.files (slice_index_or words (count - 1) [])
   pub nothing : count ≡ 0 → new ≡ old
 
--- the reason for which a file is refused where adding it meets a fault: 1 to 7 for its headers, 8 where its table is there already
-abbrev pub addition_reason : Option AddFault → Option ℕ
-addition_reason None = None
-addition_reason (Some (adds.File fault)) = Some (file_fault_number fault)
-addition_reason (Some adds.Twice) = Some 8
-addition_reason (Some adds.NoMemory) = None
-
--- the reason for which a file is refused behind the files before it: 9 where it has over 65,700 bytes
-unfoldable pub refusal_behind : List (List ℕ) → List ℕ → Option ℕ
-refusal_behind before file = if nat_lt 65700 (length file) then Some 9 else addition_reason (addition_of before file)
+-- the reason for which a file is refused: 9 where it has over 65,700 bytes, else 1 to 7 for its headers
+unfoldable pub refusal_of : List ℕ → Option ℕ
+refusal_of file = if nat_lt 65700 (length file) then Some 9 else option_map file_fault_number (file_fault_of file)
 
 -- a file that is refused: its number, counted from 1, and the reason
 pub record Refusal : Type 0 where
@@ -59,14 +50,14 @@ abbrev pub refused_or : ℕ → Option ℕ → Option Refusal → Option Refusal
 refused_or n None behind = behind
 refused_or n (Some reason) behind = Some (record { file = n; reason = reason })
 
--- the first of the files that is refused behind those before it, which are these and some others before them
-unfoldable pub refusal_after : List (List ℕ) → List (List ℕ) → Option Refusal
-refusal_after before [] = None
-refusal_after before (file ∷ files) = refused_or (length before + 1) (refusal_behind before file) (refusal_after (before ++ file ∷ []) files)
+-- the first of the files that is refused, the first of which has number n
+unfoldable pub refused_from : ℕ → List (List ℕ) → Option Refusal
+refused_from n [] = None
+refused_from n (file ∷ files) = refused_or n (refusal_of file) (refused_from (n + 1) files)
 
--- the first of the files that is refused behind those before it
+-- the first of the files that is refused
 unfoldable pub first_refusal : List (List ℕ) → Option Refusal
-first_refusal files = refusal_after [] files
+first_refusal files = refused_from 1 files
 
 -- these are the files that the names name, in order, and none of them is refused
 pub record AreTaken (stored : List Stored) (names files : List (List ℕ)) : Type 0 where
@@ -115,9 +106,9 @@ UnreadCause told before now unread.NoMemory = now ≡ before
 
 -- what taking the file of a name behind others comes to, and what is left of it
 abbrev pub Takes : Result (Unit {0}) Stop → Bool → Option (List ℕ) → List ℕ → List (List ℕ) → List (List ℕ) → Type 0
-Takes (Ok done) is_open file rest old new = (bytes : List ℕ) × (file ≡ Some bytes) × (refusal_behind old bytes ≡ None) × (new ≡ old ++ bytes ∷ []) × (rest ≡ [])
+Takes (Ok done) is_open file rest old new = (bytes : List ℕ) × (file ≡ Some bytes) × (refusal_of bytes ≡ None) × (new ≡ old ++ bytes ∷ []) × (rest ≡ [])
 Takes (Err stops.Failed) is_open file rest old new = IsTrue is_open → (bytes : List ℕ) × (file ≡ Some bytes) × IsShortPart bytes rest
-Takes (Err (stops.Refused reason)) is_open file rest old new = (bytes : List ℕ) × (file ≡ Some bytes) × (refusal_behind old bytes ≡ Some reason) × IsLeft reason bytes rest
+Takes (Err (stops.Refused reason)) is_open file rest old new = (bytes : List ℕ) × (file ≡ Some bytes) × (refusal_of bytes ≡ Some reason) × IsLeft reason bytes rest
 Takes (Err stops.NoMemory) is_open file rest old new = Unit {0}
 
 -- what a file that isn't taken says of the count of faults

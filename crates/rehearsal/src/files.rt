@@ -114,7 +114,7 @@ pub enum Stop {
 }
 
 /// Reads the file of this name, and adds it to the files.
-#[tactic(auto, unfolding(crate::specs::Files::refusal_behind))]
+#[tactic(auto, unfolding(crate::specs::Files::refusal_of))]
 fn take_file<S: Shelf>(
     alloc: Global,
     shelf: &mut S,
@@ -143,7 +143,6 @@ fn take_file<S: Shelf>(
         Err(AddFault::File(fault)) => Err(Stop::Refused {
             reason: fault.number(),
         }),
-        Err(AddFault::Twice) => Err(Stop::Refused { reason: 8 }),
         Err(AddFault::NoMemory) => Err(Stop::NoMemory),
     }
 }

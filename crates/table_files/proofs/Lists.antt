@@ -1,20 +1,13 @@
--- Lists of files: a file of the list, one file more, and tables that are there already.
-use Rattle.std.proofs.Common.{◌↔◌, All, cond, slice_get, ◌≡◌, ℕ, ◌<◌, Bool, true, false, List, [], ◌∷◌, ◌++◌, length, map, get_or, refl, sym, ap, subst, ◌∙◌, arith, zero, suc, Option, Some, None, length-append, Vec, Global}
+-- Lists of files: a file of the list, one file more, and the files of numbers.
+use Rattle.std.proofs.Common.{◌↔◌, All, cond, slice_get, ◌≡◌, ℕ, ◌-◌, ◌<◌, ◌≤◌, nat_le, Bool, true, false, List, [], ◌∷◌, ◌++◌, length, map, get_or, refl, sym, ap, subst, ◌∙◌, arith, zero, suc, Option, Some, None, length-append, Vec, Global}
 use Rattle.std.proofs.lemmas.Bool.Decides.{nat_tests}
-use Rattle.std.specs.Prelude.{◌==◌, ◌||◌, filter, option_map}
-use Rattle.std.specs.List.{list_any}
+use Rattle.std.specs.Prelude.{filter, option_map}
 use Rattle.std.proofs.lemmas.List.{get_or-map, length-map}
 use Rattle.std.proofs.lemmas.List.Elements.{All-append}
-use Rattle.std.proofs.lemmas.List.Folds.{list_any-append}
-use Rattle.std.proofs.lemmas.Grind.{common_steps}
-use Rattle.table_files.specs.declared.fault.FileFault.{FileFault}
-use Rattle.table_files.specs.declared.fault.AddFault.TheVariants.{File, Twice}
 use Rattle.table_files.specs.declared.kinds.TableKind.{TableKind}
-use Rattle.table_files.specs.declared.kinds.TableKind.TheVariants.{AppMon, EventMon, ExeCount, MsgActs, Ats, Rts, Dwell, Eeprom, Memory}
-use Rattle.table_files.specs.Kinds.{is_same_kind}
 use Rattle.table_files.specs.Headers.{file_fault_of, IsFile, is_load, kind_of_file}
 use Rattle.table_files.proofs.Accepted.{loaded_size}
-use Rattle.table_files.specs.Files.{are_same, are_same_table, is_there, has_twice, addition_of, load_in, nth, loads_of, IsLoadable, AreFiles}
+use Rattle.table_files.specs.Files.{file_at, kind_in, kind_at, load_in, nth, loads_of, IsLoadable, AreFiles}
 
 -- a file of the list has no fault
 pub accepted_at : (held : List (Vec ℕ Global)) (i : ℕ) (file : Vec ℕ Global) → All IsFile (map (λ f. f.items) held) → file ≡ get_or held i file → i < length held → IsFile file.items
@@ -22,61 +15,10 @@ accepted_at held i file files found within =
     let there : get_or (map (λ (f : Vec ℕ Global). f.items) held) i [] ≡ file.items = get_or-map (λ (f : Vec ℕ Global). f.items) held i file [] within ∙ ap (λ (f : Vec ℕ Global). f.items) (sym found) in
     subst IsFile there (files i [] (rw (length-map held (λ (f : Vec ℕ Global). f.items)) within))
 
--- a test of the bytes, over the files
-pub any_of_bytes : (p : List ℕ → Bool) (held : List (Vec ℕ Global)) → list_any p (map (λ f. f.items) held) ≡ list_any (λ f. p f.items) held
-any_of_bytes p [] = refl
-any_of_bytes p (f ∷ held) = ap (λ (rest : Bool). p f.items || rest) (any_of_bytes p held)
-
-none_same : (kind : Option TableKind) → are_same kind None ≡ false
-none_same None = refl
-none_same (Some kind) = refl
-
--- a file that is no table is not there
-pub no_table_there : (files : List (List ℕ)) (file : List ℕ) → kind_of_file file ≡ None → is_there files file ≡ false
-unfolding is_there
-no_table_there [] file none = refl
-no_table_there (held ∷ files) file none =
-    let here : are_same (kind_of_file held) (kind_of_file file) ≡ false = rw none (none_same (kind_of_file held)) in
-    rw here (no_table_there files file none)
-
--- a table is there where one of its kind is
-pub table_there : (held : List (Vec ℕ Global)) (file : List ℕ) (kind : TableKind) → kind_of_file file ≡ Some kind → is_there (map (λ f. f.items) held) file ≡ list_any (λ f. are_same (kind_of_file f.items) (Some kind)) held
-unfolding is_there
-table_there held file kind is =
-    ap (λ (k : Option TableKind). list_any (λ (f : List ℕ). are_same (kind_of_file f) k) (map (λ (f : Vec ℕ Global). f.items) held)) is
-    ∙ any_of_bytes (λ (f : List ℕ). are_same (kind_of_file f) (Some kind)) held
-
--- the test at lists and bytes that are the same
-pub same_there : (held lent : List (Vec ℕ Global)) (files : List (List ℕ)) (bytes file : List ℕ) → map (λ f. f.items) held ≡ files → lent ≡ held → file ≡ bytes
-    → is_there files bytes ≡ is_there (map (λ f. f.items) lent) file
-same_there held lent files bytes file view is same = rw (← view, is, same) refl
-
-pub adds_faulty : (files : List (List ℕ)) (file : List ℕ) (fault : FileFault) → file_fault_of file ≡ Some fault → addition_of files file ≡ Some (File fault)
-unfolding addition_of
-adds_faulty files file fault is = rw is refl
-
-pub adds_twice : (files : List (List ℕ)) (file : List ℕ) → file_fault_of file ≡ None → is_there files file ≡ true → addition_of files file ≡ Some Twice
-unfolding addition_of
-adds_twice files file ok there = rw (ok, there) refl
-
-pub adds_well : (files : List (List ℕ)) (file : List ℕ) → file_fault_of file ≡ None → is_there files file ≡ false → addition_of files file ≡ None
-unfolding addition_of
-adds_well files file ok new = rw (ok, new) refl
-
--- one file more, whose table isn't among them
-once_more : (files : List (List ℕ)) (file : List ℕ) → has_twice files ≡ false → list_any (λ held. are_same_table held file) files ≡ false → has_twice (files ++ file ∷ []) ≡ false
-once_more [] file once new = refl
-once_more (held ∷ files) file once new =
-    let rest : has_twice (files ++ file ∷ []) ≡ false = once_more files file (grind (arith, common_steps)) (grind (arith, common_steps)) in
-    let here : list_any (are_same_table held) files ≡ false = grind (arith, common_steps) in
-    let other : are_same_table held file ≡ false = grind (arith, common_steps) in
-    rw (list_any-append (are_same_table held) files (file ∷ []), rest, here, other) refl
-
-pub one_more : (files : List (List ℕ)) (file : List ℕ) → AreFiles files → length files < 100 → file_fault_of file ≡ None → is_there files file ≡ false → AreFiles (files ++ file ∷ [])
-unfolding is_there
-one_more files file are room ok new = record {
+-- one file more
+pub one_more : (files : List (List ℕ)) (file : List ℕ) → AreFiles files → length files < 100 → file_fault_of file ≡ None → AreFiles (files ++ file ∷ [])
+one_more files file are room ok = record {
   accepted = All-append IsFile files (file ∷ []) are.accepted (λ k d lt. one k d lt);
-  once = once_more files file are.once new;
   few = simp length-append (omega arith);
 }
   where
@@ -115,56 +57,46 @@ loads_fit (file ∷ files) all = by_load (is_load file) refl (loads_fit files (�
     by_load true load rest = all_more IsLoadable (load_in file) (map load_in (filter is_load files)) (loaded_size file (all 0 [] (omega arith)) load) rest
     by_load false table rest = rest
 
--- a kind is the same as itself
-same_self : (kind : TableKind) → is_same_kind kind kind ≡ true
-unfolding is_same_kind
-same_self kind = grind (arith, nat_tests)
+-- the file of a number is there
+get_there : (files : List (List ℕ)) (i : ℕ) → i < length files → slice_get files i ≡ Some (get_or files i [])
+get_there [] i within = absurd (omega arith)
+get_there (file ∷ files) zero within = refl
+get_there (file ∷ files) (suc i) within = get_there files i (omega arith)
 
-same_number : (n m : ℕ) → (n == m) ≡ true → n ≡ m
-same_number n m h = grind (arith, nat_tests)
+get_past : (files : List (List ℕ)) (i : ℕ) → length files ≤ i → slice_get files i ≡ None
+get_past [] i past = refl
+get_past (file ∷ files) zero past = absurd (omega arith)
+get_past (file ∷ files) (suc i) past = get_past files i (omega arith)
 
--- kinds that are the same table are equal
-equal_same : (kind other : TableKind) → is_same_kind kind other ≡ true → kind ≡ other
-unfolding is_same_kind
-equal_same AppMon AppMon h = refl
-equal_same EventMon EventMon h = refl
-equal_same ExeCount ExeCount h = refl
-equal_same MsgActs MsgActs h = refl
-equal_same (Ats n) (Ats m) h = ap Ats (same_number n m h)
-equal_same (Rts n) (Rts m) h = ap Rts (same_number n m h)
-equal_same (Dwell n) (Dwell m) h = ap Dwell (same_number n m h)
-equal_same Eeprom Eeprom h = refl
-equal_same Memory Memory h = refl
-equal_same _ _ h = let wrong : ⊥ = cc in absurd wrong
+-- a number of a file has the kind of that file, and another has none
+pub kind_there : (files : List (List ℕ)) (n : ℕ) → 1 ≤ n → n ≤ length files → kind_at files n ≡ kind_of_file (file_at files n)
+unfolding kind_at
+kind_there files zero least most = absurd (omega arith)
+kind_there files (suc i) least most =
+    let back : suc i - 1 ≡ i = omega arith in
+    ap kind_in (get_there files i (omega arith)) ∙ ap (λ (k : ℕ). kind_of_file (get_or files k [])) (sym back)
 
-pub same_is_equal : (kind other : TableKind) → (is_same_kind kind other ≡ true) ↔ (kind ≡ other)
-same_is_equal kind other = (equal_same kind other, λ same. subst (λ (k : TableKind). is_same_kind kind k ≡ true) same (same_self kind))
+pub kind_past : (files : List (List ℕ)) (n : ℕ) → length files < n → kind_at files n ≡ None
+unfolding kind_at
+kind_past files zero past = absurd (omega arith)
+kind_past files (suc i) past = ap kind_in (get_past files i (omega arith))
 
-same_tables : (file other : List ℕ) (kind : TableKind) → kind_of_file file ≡ Some kind → kind_of_file other ≡ Some kind → are_same_table file other ≡ true
-same_tables file other kind is also = rw (is, also) (same_self kind)
+pub kind_before : (files : List (List ℕ)) (n : ℕ) → n ≡ 0 → kind_at files n ≡ None
+unfolding kind_at
+kind_before files n is = rw is refl
 
-any_false : {X : Type 0} (p : X → Bool) (xs : List X) (d : X) (j : ℕ) → list_any p xs ≡ false → j < length xs → p (get_or xs j d) ≡ false
-any_false p [] d j none lt = absurd (omega arith)
-any_false p (x ∷ xs) d zero none lt = grind (arith, common_steps)
-any_false p (x ∷ xs) d (suc j) none lt = any_false p xs d j (grind (arith, common_steps)) (omega arith)
+-- the number of a table file
+numbered : (files : List (List ℕ)) (n : ℕ) (kind : TableKind) → kind_at files n ≡ Some kind → (1 ≤ n) × (n ≤ length files) × (kind_of_file (file_at files n) ≡ Some kind)
+numbered files zero kind is = let none = kind_before files 0 refl in let wrong : ⊥ = cc in absurd wrong
+numbered files (suc i) kind is = by_place (nat_le (suc i) (length files)) refl
+  where
+    by_place : (b : Bool) → nat_le (suc i) (length files) ≡ b → (1 ≤ suc i) × (suc i ≤ length files) × (kind_of_file (file_at files (suc i)) ≡ Some kind)
+    by_place true within =
+        let most : suc i ≤ length files = grind (arith, nat_tests) in
+        (omega arith, most, sym (kind_there files (suc i) (omega arith) most) ∙ is)
+    by_place false past =
+        let none = kind_past files (suc i) (grind (arith, nat_tests)) in
+        let wrong : ⊥ = cc in absurd wrong
 
--- a table and a later one have different kinds
-apart : (files : List (List ℕ)) (i j : ℕ) (kind : TableKind) → has_twice files ≡ false → i < j → j < length files
-    → kind_of_file (get_or files i []) ≡ Some kind → kind_of_file (get_or files j []) ≡ Some kind → ⊥
-apart [] i j kind once before within is also = omega arith
-apart (file ∷ files) i zero kind once before within is also = omega arith
-apart (file ∷ files) zero (suc j) kind once before within is also =
-    let rest : list_any (are_same_table file) files ≡ false = grind (arith, common_steps) in
-    let no : are_same_table file (get_or files j []) ≡ false = any_false (are_same_table file) files [] j rest (omega arith) in
-    let yes : are_same_table file (get_or files j []) ≡ true = same_tables file (get_or files j []) kind is also in
-    let wrong : true ≡ false = sym yes ∙ no in
-    absurd (cc)
-apart (file ∷ files) (suc i) (suc j) kind once before within is also = apart files i j kind (grind (arith, common_steps)) (omega arith) (omega arith) is also
-
--- of the files at most one is a table of a kind
-pub one_of_kind : (files : List (List ℕ)) (i j : ℕ) (kind : TableKind) → has_twice files ≡ false → i < length files → j < length files
-    → kind_of_file (get_or files i []) ≡ Some kind → kind_of_file (get_or files j []) ≡ Some kind → i ≡ j
-one_of_kind files i j kind once within also_within is also =
-    let not_before : ¬ (i < j) = λ lt. apart files i j kind once lt also_within is also in
-    let not_behind : ¬ (j < i) = λ lt. apart files j i kind once lt within also is in
-    omega arith
+pub numbers_of_tables : (files : List (List ℕ)) (n : ℕ) (kind : TableKind) → (kind_at files n ≡ Some kind) ↔ ((1 ≤ n) × (n ≤ length files) × (kind_of_file (file_at files n) ≡ Some kind))
+numbers_of_tables files n kind = (numbered files n kind, λ there. kind_there files n there.0 there.1 ∙ there.2)

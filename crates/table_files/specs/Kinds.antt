@@ -5,22 +5,6 @@ use Rattle.table_files.specs.declared.kinds.TableKind.{TableKind}
 use Rattle.table_files.specs.declared.kinds.TableRow.{TableRow}
 use Rattle.table_files.specs.declared.kinds.TableKind.TheVariants.{AppMon, EventMon, ExeCount, MsgActs, Ats, Rts, Dwell, Eeprom, Memory}
 
--- which sort of tables a kind is of, and its number among them
-abbrev pub sort_of : TableKind → ℕ × ℕ
-sort_of AppMon = (0, 0)
-sort_of EventMon = (1, 0)
-sort_of ExeCount = (2, 0)
-sort_of MsgActs = (3, 0)
-sort_of (Ats n) = (4, n)
-sort_of (Rts n) = (5, n)
-sort_of (Dwell n) = (6, n)
-sort_of Eeprom = (7, 0)
-sort_of Memory = (8, 0)
-
--- whether two kinds are the same table
-unfoldable pub is_same_kind : TableKind → TableKind → Bool
-is_same_kind kind other = ((sort_of kind).0 == (sort_of other).0) && ((sort_of kind).1 == (sort_of other).1)
-
 -- whether the payload of a table may have so many bytes
 abbrev pub fits_kind : TableKind → ℕ → Bool
 fits_kind AppMon size = size == 768

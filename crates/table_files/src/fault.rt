@@ -44,13 +44,11 @@ impl FileFault {
     }
 }
 
-/// Why a file isn't added. `File` and `Twice` are asked first; where one of them holds, `NoMemory` isn't answered.
+/// Why a file isn't added. `File` is asked first; where it holds, `NoMemory` isn't answered.
 #[derive(Clone, Copy, Debug, PartialEq, Eq, Error)]
 pub enum AddFault {
     #[error("the file is refused")]
     File(FileFault),
-    #[error("a table of this kind is there already")]
-    Twice,
     #[error("memory ran out")]
     NoMemory,
 }

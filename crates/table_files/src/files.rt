@@ -1,18 +1,17 @@
 //! The files that were handed over.
-ghost use Rattle.std.specs.Prelude.{◌≡◌, ◌<◌, ◌≤◌, [], ◌∷◌, ◌++◌, length, filter, map, All, option_map, true, IsOkAnd, OnOk, OnErr, IfErr, IfSome, None, Some};
-ghost use Rattle.std.specs.List.{list_any};
-ghost use Rattle.table_files.specs.Headers.{IsFile, is_load, kind_of_file, Shows};
-ghost use Rattle.table_files.specs.Files.{AreFiles, addition_of, Refuses, are_same, is_there, file_at, loads_of, nth, IsLoadable};
+ghost use Rattle.std.specs.Prelude.{◌≡◌, ◌<◌, ◌≤◌, [], ◌∷◌, ◌++◌, length, filter, map, All, option_map, true, IsOkAnd, OnOk, OnErr, IfErr, IfSome, None};
+ghost use Rattle.table_files.specs.Headers.{IsFile, file_fault_of, is_load, Shows};
+ghost use Rattle.table_files.specs.Files.{AreFiles, Refuses, file_at, kind_at, loads_of, nth, IsLoadable};
 
 use crate::fault::AddFault;
-use crate::headers::{FileImage, find_fault, image_of, is_load, kind_of_file, load_in};
+use crate::headers::{FileImage, find_fault, image_of, is_load, load_in};
 use crate::kinds::TableKind;
 use fsw_outside::NoMemory;
 use std::alloc::Global;
 use std::marker::Model;
 
-/// The files that were handed over, seen as the list of their bytes in the order of adding. There are at most 100,
-/// `read_file` accepts each, and no two are tables of one kind.
+/// The files that were handed over, seen as the list of their bytes in the order of adding. There are at most 100, and
+/// `read_file` accepts each. Several may be tables of one kind.
 #[derive(Drop)]
 pub struct Files {
     files: Vec<Vec<u8>>,
@@ -49,21 +48,18 @@ impl Files {
     }
 
     /// Adds a file, whose bytes are moved in. There may be fewer than 100 files before, and `bytes` may have at most
-    /// 65,700. After an `Err` the files are as before: `File` where `read_file` refuses the bytes, `Twice` where they
-    /// are a table of a kind that is there already; `NoMemory` comes only where neither holds.
+    /// 65,700. After an `Err` the files are as before: `File` where `read_file` refuses the bytes; `NoMemory` comes only
+    /// where it accepts them.
     pub fn add(&mut self, bytes: Vec<u8>) -> Result<(), AddFault>
         requires room { length self.old < 100 }
         requires small { length bytes.items ≤ 65700 }
         ensures added { OnOk result (self.new ≡ self.old ++ bytes.items ∷ []) }
-        ensures accepted { OnOk result (addition_of self.old bytes.items ≡ None) }
-        ensures refused { IfErr result (Refuses (addition_of self.old bytes.items)) }
+        ensures accepted { OnOk result (file_fault_of bytes.items ≡ None) }
+        ensures refused { IfErr result (Refuses (file_fault_of bytes.items)) }
         ensures same { OnErr result (self.new ≡ self.old) }
     {
         if let Some(fault) = find_fault(&bytes) {
             return Err(AddFault::File(fault));
-        }
-        if is_there(&self.files, &bytes) {
-            return Err(AddFault::Twice);
         }
         let Ok(()) = self.files.push(bytes) else {
             return Err(AddFault::NoMemory);
@@ -78,6 +74,23 @@ impl Files {
         ensures { Shows (file_at self.now file) result }
     {
         image_of(&self.files[file as usize - 1])
+    }
+
+    /// The kind of the table file of this number, counted from 1 in the order of adding; None exactly where no table file
+    /// has it.
+    pub fn kind(&self, file: u32) -> Option<TableKind>
+        ensures { result ≡ kind_at self.now file }
+    {
+        if file == 0 {
+            return None;
+        }
+        if file as usize > self.files.len() {
+            return None;
+        }
+        match self.get(file) {
+            FileImage::Table { kind, payload: _ } => Some(kind),
+            FileImage::Load { at: _, bytes: _ } => None,
+        }
     }
 
     /// Address and bytes of the n-th load file, counted from 1 among the load files alone in the order of adding; None
@@ -112,22 +125,4 @@ fn nth_load(files: &[Vec<u8>], n: u32) -> Option<&[u8]>
         }
     }
     None
-}
-
-/// Whether a table of the file's kind is among the files. Neither has a fault.
-fn is_there(files: &[Vec<u8>], file: &[u8]) -> bool
-    ensures { result ≡ is_there (map (λ held. held.items) files.now) file.now }
-{
-    match kind_of_file(file) {
-        None => false,
-        Some(kind) => has_kind(files, kind),
-    }
-}
-
-/// Whether a table of this kind is among the files.
-#[tactic(auto, unfolding(crate::specs::Kinds::is_same_kind))]
-fn has_kind(files: &[Vec<u8>], kind: TableKind) -> bool
-    ensures { result ≡ list_any (λ held. are_same (kind_of_file held.items) (Some kind)) files.now }
-{
-    files.iter().any(|held| kind_of_file(held) == Some(kind))
 }

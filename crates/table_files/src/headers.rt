@@ -178,18 +178,6 @@ pub(crate) fn image_of(bytes: &[u8]) -> FileImage<'_>
     }
 }
 
-/// The kind of a table file; None where the file has a fault or is no table.
-#[tactic(auto, unfolding(crate::specs::Headers::kind_of_file))]
-pub(crate) fn kind_of_file(bytes: &[u8]) -> Option<TableKind>
-    ensures { result ≡ kind_of_file bytes.now }
-{
-    match read_file(bytes) {
-        Ok(FileImage::Table { kind, payload: _ }) => Some(kind),
-        Ok(FileImage::Load { at: _, bytes: _ }) => None,
-        Err(_) => None,
-    }
-}
-
 /// The kind of a table file without a fault.
 fn kind_of(bytes: &[u8]) -> TableKind
     requires file { IsFile bytes.now }

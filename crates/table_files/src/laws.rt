@@ -8,9 +8,9 @@ ghost use Rattle.table_files.specs.declared.fault.EntryFault.{EntryFault};
 ghost use Rattle.table_files.specs.declared.fault.FileFault.TheVariants.{Short, ContentType, Subtype, Partial, Name, Size, LoadCrc};
 ghost use Rattle.table_files.specs.Entries.{first_fault, IsFirstReason};
 ghost use Rattle.table_files.specs.Faults.{file_fault_number};
-ghost use Rattle.table_files.specs.Kinds.{IsTable, IsKnown, is_same_kind, named_kind, fits_kind};
+ghost use Rattle.table_files.specs.Kinds.{IsTable, IsKnown, named_kind, fits_kind};
 ghost use Rattle.table_files.specs.Headers.{IsFile, IsTableOf, IsLoadOf, content_type, subtype, table_offset, table_size, table_name, load_size, load_crc, is_load_size, is_load, kind_of_file, payload_of_file, address_of_file, file_fault_of};
-ghost use Rattle.table_files.specs.Files.{AreFiles, file_at, loads_of, IsLoadable};
+ghost use Rattle.table_files.specs.Files.{AreFiles, file_at, kind_at, loads_of, IsLoadable};
 ghost use Rattle.table_files.specs.Rows.{dwell_headers, dwell_file, load_file, eeprom_name, memory_name, appmon_name, eventmon_name, execount_name, msgacts_name};
 
 /// The files without a fault are those with the headers of a known table, or of bytes to be loaded with their check, and no
@@ -26,20 +26,14 @@ pub fn load_files_have_bytes()
     ensures { (files : List (List ℕ)) → AreFiles files → All IsLoadable (loads_of files) }
 {}
 
+/// The numbers of table files are those from 1 to the number of files at which a table file stands; its kind is the number's.
+pub fn table_files_have_numbers()
+    ensures { (files : List (List ℕ)) (n : ℕ) (kind : TableKind) → (kind_at files n ≡ Some kind) ↔ ((1 ≤ n) × (n ≤ length files) × (kind_of_file (file_at files n) ≡ Some kind)) }
+{}
+
 /// The payload of a table has the size of its kind.
 pub fn payloads_have_the_kinds_size()
     ensures { (file : List ℕ) (kind : TableKind) → kind_of_file file ≡ Some kind → IsTable kind (length (payload_of_file file)) }
-{}
-
-/// Two kinds are the same table exactly where they are equal.
-pub fn same_kinds_are_equal()
-    ensures { (kind other : TableKind) → (is_same_kind kind other ≡ true) ↔ (kind ≡ other) }
-{}
-
-/// Of the files that are held at most one is a table of a kind.
-pub fn kinds_differ()
-    ensures { (files : List (List ℕ)) → AreFiles files → (i j : ℕ) (kind : TableKind) → 1 ≤ i → i ≤ length files → 1 ≤ j → j ≤ length files
-        → kind_of_file (file_at files i) ≡ Some kind → kind_of_file (file_at files j) ≡ Some kind → i ≡ j }
 {}
 
 /// The kinds whose tables are known by a name: exactly these are the kinds of files.

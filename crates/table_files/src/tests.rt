@@ -267,6 +267,13 @@ fn load_files_are_numbered_among_themselves(rt: HostRuntime) -> Result<(), Fail>
     let file = load_of(rt.alloc(), second)?;
     assert_eq!(rt; add_to(&mut files, file), Some(Ok(())));
     assert_eq!(rt; files.len(), 5);
+    assert_eq!(rt; files.kind(0), None);
+    assert_eq!(rt; files.kind(1), Some(TableKind::Eeprom));
+    assert_eq!(rt; files.kind(2), None);
+    assert_eq!(rt; files.kind(3), Some(TableKind::Dwell(1)));
+    assert_eq!(rt; files.kind(5), None);
+    assert_eq!(rt; files.kind(6), None);
+    assert_eq!(rt; files.kind(u32::MAX), None);
     assert!(rt; files.load(0).is_none());
     assert!(rt; files.load(1) == Some((0x2000, [7u8].as_slice())));
     assert!(rt; files.load(2) == Some((0x1000, [7u8].as_slice())));
@@ -277,21 +284,23 @@ fn load_files_are_numbered_among_themselves(rt: HostRuntime) -> Result<(), Fail>
 }
 
 #[test]
-fn files_are_held_once(rt: HostRuntime) -> Result<(), Fail> {
+fn files_of_a_kind_may_be_several(rt: HostRuntime) -> Result<(), Fail> {
     let mut files = Files::open(rt.alloc())?;
     assert_eq!(rt; files.len(), 0);
     for (name, kind, size) in TABLES {
         let file = table_of(rt.alloc(), name, size)?;
         assert_eq!(rt; add_to(&mut files, file), Some(Ok(())));
         let file = table_of(rt.alloc(), name, size)?;
-        assert_eq!(rt; add_to(&mut files, file), Some(Err(AddFault::Twice)));
+        assert_eq!(rt; add_to(&mut files, file), Some(Ok(())));
         assert!(rt; shown(&files, files.len()) == Some((kind, size as usize)));
+        assert_eq!(rt; files.kind(files.len()), Some(kind));
     }
     let file = file_of(rt.alloc(), (TYPE, 8, 0, 204, "MD.DWELL_TABLE1", 319))?;
     let fault = AddFault::File(FileFault::Size);
     assert_eq!(rt; add_to(&mut files, file), Some(Err(fault)));
-    assert_eq!(rt; files.len(), 15);
-    assert!(rt; shown(&files, 9) == Some((TableKind::Eeprom, 192)));
+    assert_eq!(rt; files.len(), 30);
+    assert!(rt; shown(&files, 17) == Some((TableKind::Eeprom, 192)));
+    assert!(rt; shown(&files, 18) == Some((TableKind::Eeprom, 192)));
     assert_eq!(rt; last_bytes(&files), [7; 4]);
     assert!(rt; files.load(0).is_none());
     assert!(rt; files.load(1).is_none());
