@@ -7,7 +7,7 @@ use Rattle.frame_exec.specs.Runs.{Setup}
 
 -- a frame in which MM alone is woken
 abbrev pub quiet : Frame
-quiet = record { sends = []; counters = []; upsets = []; held = Hs ∷ Cs ∷ Sc ∷ Md ∷ [] }
+quiet = record { sends = []; counters = []; upsets = []; held = Hs ∷ Cs ∷ Sc ∷ Md ∷ []; activations = [] }
 
 -- such a frame that sends the no-op of MM
 abbrev pub noop_sent : Frame

@@ -222,6 +222,7 @@ head_on old (says.Send p) gave h k head = head_same (header_of old) gave head
 head_on old (says.Count c) gave h k head = head_same (header_of old) gave head
 head_on old (says.Upset u) gave h k head = head_same (header_of old) gave head
 head_on old (says.Hold a) gave h k head = head_same (header_of old) gave head
+head_on old (says.Activate n) gave h k head = head_same (header_of old) gave head
 head_on old says.Tick gave h k head = head_more (header_of old) gave _ (sym k ∙ started_tick _ h) head
 head_on old says.End gave h k head = head_same (header_of old) gave head
 

@@ -26,6 +26,7 @@ item_said (Some (says.Send p)) = None
 item_said (Some (says.Count c)) = None
 item_said (Some (says.Upset u)) = None
 item_said (Some (says.Hold a)) = None
+item_said (Some (says.Activate n)) = None
 item_said (Some says.Tick) = Some answers.Frame
 item_said (Some says.End) = None
 

@@ -32,6 +32,7 @@ HasRoom p (says.Send q) = items_in p.frame.value < 64
 HasRoom p (says.Count c) = items_in p.frame.value < 64
 HasRoom p (says.Upset u) = items_in p.frame.value < 64
 HasRoom p (says.Hold a) = items_in p.frame.value < 64
+HasRoom p (says.Activate n) = items_in p.frame.value < 64
 HasRoom p says.Tick = p.ticks < 100000
 HasRoom p says.End = Unit {0}
 

@@ -7,7 +7,7 @@ use Rattle.scenario.specs.declared.reason.Reason.TheVariants as reasons
 use Rattle.scenario.specs.declared.sentence.Place.{Place}
 use Rattle.scenario.specs.declared.sentence.Place.TheVariants as places
 use Rattle.scenario.specs.declared.sentence.Sentence.{Sentence}
-use Rattle.scenario.specs.declared.sentence.Sentence.TheVariants.{Epoch, Region, Start, Send, Count, Upset, Hold, Tick, End}
+use Rattle.scenario.specs.declared.sentence.Sentence.TheVariants.{Epoch, Region, Start, Send, Count, Upset, Hold, Activate, Tick, End}
 use Rattle.scenario.specs.declared.progress.Header.{Header}
 use Rattle.scenario.specs.FrameLists.{Frame, no_items, items_in}
 
@@ -20,6 +20,7 @@ place_behind (Send p) = places.Inside
 place_behind (Count c) = places.Inside
 place_behind (Upset u) = places.Inside
 place_behind (Hold a) = places.Inside
+place_behind (Activate n) = places.Inside
 place_behind Tick = places.Between
 place_behind End = places.Ended
 
@@ -58,6 +59,7 @@ with_item f (Send p) = record f { sends = f.sends ++ p ∷ [] }
 with_item f (Count c) = record f { counters = f.counters ++ c ∷ [] }
 with_item f (Upset u) = record f { upsets = f.upsets ++ u ∷ [] }
 with_item f (Hold a) = record f { held = f.held ++ a ∷ [] }
+with_item f (Activate n) = record f { activations = f.activations ++ n ∷ [] }
 with_item f (Epoch n) = no_items
 with_item f (Region r) = no_items
 with_item f Start = no_items
@@ -82,6 +84,7 @@ refusal old (Send p) = room_for_item old
 refusal old (Count c) = room_for_item old
 refusal old (Upset u) = if is_mapped (regions_of old) u.at then room_for_item old else Some reasons.Map
 refusal old (Hold a) = room_for_item old
+refusal old (Activate n) = room_for_item old
 refusal old Tick = if nat_lt (ticks_of old) 100000 then None else Some reasons.TooLong
 refusal old End = None
 

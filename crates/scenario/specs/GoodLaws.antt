@@ -109,6 +109,10 @@ good_on old (says.Hold a) h r g =
     let room = has_room (items_in (frame_of old)) r in
     let size = length-append (frame_of old).held (a ∷ []) in
     record { place = place_on old (says.Hold a) h.placed g.place; before = g.before; epoch = g.epoch; ticks = g.ticks; few = omega arith; upsets = g.upsets; map = g.map }
+good_on old (says.Activate n) h r g =
+    let room = has_room (items_in (frame_of old)) r in
+    let size = length-append (frame_of old).activations (n ∷ []) in
+    record { place = place_on old (says.Activate n) h.placed g.place; before = g.before; epoch = g.epoch; ticks = g.ticks; few = omega arith; upsets = g.upsets; map = g.map }
 good_on old says.Tick h r g =
     let room = has_ticks (ticks_of old) r in
     record {
@@ -196,6 +200,7 @@ said_step old (says.Send p) rest h r g k = k
 said_step old (says.Count c) rest h r g k = k
 said_step old (says.Upset u) rest h r g k = k
 said_step old (says.Hold a) rest h r g k = k
+said_step old (says.Activate n) rest h r g k = k
 said_step old says.End rest h r g k = k
 
 line_step : (old : Before) (line : Line) (said : Option Sentence) (rest : List Given) → IsGoodSaid old.sentences said → Good old.sentences

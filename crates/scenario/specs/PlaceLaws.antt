@@ -41,6 +41,11 @@ started_hold places.Between h = refl
 started_hold places.Inside h = refl
 started_hold _ h = absurd (false≢true h)
 
+started_activate : (p : Place) → stands_at p verbs.Activate ≡ true → is_started p ≡ true
+started_activate places.Between h = refl
+started_activate places.Inside h = refl
+started_activate _ h = absurd (false≢true h)
+
 pub started_tick : (p : Place) → stands_at p verbs.Tick ≡ true → is_started p ≡ true
 started_tick places.Between h = refl
 started_tick places.Inside h = refl
@@ -62,5 +67,6 @@ place_on old (says.Send p) h k = sym (started_send _ h) ∙ k
 place_on old (says.Count c) h k = sym (started_app _ h) ∙ k
 place_on old (says.Upset u) h k = sym (started_upset _ h) ∙ k
 place_on old (says.Hold a) h k = sym (started_hold _ h) ∙ k
+place_on old (says.Activate n) h k = sym (started_activate _ h) ∙ k
 place_on old says.Tick h k = sym (started_tick _ h) ∙ k
 place_on old says.End h k = sym (started_end _ h) ∙ k

@@ -9,7 +9,7 @@ use Rattle.scenario.specs.declared.sentence.Sentence.TheVariants as says
 use Rattle.scenario.specs.declared.sentence.Verb.{Verb}
 use Rattle.scenario.specs.declared.sentence.Verb.TheVariants as verbs
 use Rattle.scenario.specs.Words.{words, number, any_number, at_most, hex, name_said, app_of, kind_of}
-use Rattle.scenario.specs.Sentences.{◌>>=◌, or_bad, largest, stands_at, placed, verb_of, verb_at, verb_said, packet_of, none, one, two, three, number_or_bad, epoch_line, region_line, send_line, app_line, upset_line, hold_line, bare_line, sentence_of, said, line_says}
+use Rattle.scenario.specs.Sentences.{◌>>=◌, or_bad, largest, stands_at, placed, verb_of, verb_at, verb_said, packet_of, none, one, two, three, number_or_bad, epoch_line, region_line, send_line, app_line, upset_line, hold_line, activate_line, bare_line, sentence_of, said, line_says}
 
 -- the epoch is bounded
 abbrev pub IsBounded : Sentence → Type 0
@@ -85,6 +85,13 @@ says_hold others s e =
     let a = then_ok (or_bad reasons.Word (app_of w.0)) (λ app. Ok (says.Hold app)) s w.2 in
     subst (SaysAs verbs.Hold) (ok_is (says.Hold a.0) s a.2) (refl, tt)
 
+says_activate : (others : List (List ℕ)) (s : Sentence) → activate_line others ≡ Ok s → SaysAs verbs.Activate s
+unfolding activate_line
+says_activate others s e =
+    let w = then_ok (one others) (λ word. number_or_bad largest word >>= (λ file. Ok (says.Activate file))) s e in
+    let n = then_ok (number_or_bad largest w.0) (λ file. Ok (says.Activate file)) s w.2 in
+    subst (SaysAs verbs.Activate) (ok_is (says.Activate n.0) s n.2) (refl, tt)
+
 says_bare : (verb : Verb) (bare s : Sentence) (others : List (List ℕ)) → SaysAs verb bare → bare_line bare others ≡ Ok s → SaysAs verb s
 says_bare verb bare s others h e = let w = then_ok (none others) (λ _. Ok bare) s e in subst (SaysAs verb) (ok_is bare s w.2) h
 
@@ -97,6 +104,7 @@ says_as verbs.Send others s e = says_send others s e
 says_as verbs.App others s e = says_app others s e
 says_as verbs.Upset others s e = says_upset others s e
 says_as verbs.Hold others s e = says_hold others s e
+says_as verbs.Activate others s e = says_activate others s e
 says_as verbs.Tick others s e = says_bare verbs.Tick says.Tick s others (refl, tt) e
 says_as verbs.End others s e = says_bare verbs.End says.End s others (refl, tt) e
 

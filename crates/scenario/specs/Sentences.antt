@@ -42,6 +42,7 @@ verb_of word =
     else if bytes_eq word (codes "app") then Some verbs.App
     else if bytes_eq word (codes "upset") then Some verbs.Upset
     else if bytes_eq word (codes "hold") then Some verbs.Hold
+    else if bytes_eq word (codes "activate") then Some verbs.Activate
     else if bytes_eq word (codes "tick") then Some verbs.Tick
     else if bytes_eq word (codes "end") then Some verbs.End
     else None
@@ -87,6 +88,7 @@ stands_at place verbs.Send = is_in_frames place
 stands_at place verbs.App = is_in_frames place
 stands_at place verbs.Upset = is_in_frames place
 stands_at place verbs.Hold = is_in_frames place
+stands_at place verbs.Activate = is_in_frames place
 stands_at place verbs.Tick = is_in_frames place
 stands_at place verbs.End = is_between place
 
@@ -109,6 +111,7 @@ verb_said (says.Send p) = verbs.Send
 verb_said (says.Count c) = verbs.App
 verb_said (says.Upset u) = verbs.Upset
 verb_said (says.Hold a) = verbs.Hold
+verb_said (says.Activate n) = verbs.Activate
 verb_said says.Tick = verbs.Tick
 verb_said says.End = verbs.End
 
@@ -211,6 +214,13 @@ hold_line others = do
   app ← or_bad reasons.Word (app_of word)
   Ok (says.Hold app)
 
+-- `activate N`
+unfoldable pub activate_line : List (List ℕ) → Result Sentence Reason
+activate_line others = do
+  word ← one others
+  file ← number_or_bad largest word
+  Ok (says.Activate file)
+
 -- a line of its first word alone
 abbrev pub bare_line : Sentence → List (List ℕ) → Result Sentence Reason
 bare_line sentence others = do
@@ -226,6 +236,7 @@ sentence_of verbs.Send others = send_line others
 sentence_of verbs.App others = app_line others
 sentence_of verbs.Upset others = upset_line others
 sentence_of verbs.Hold others = hold_line others
+sentence_of verbs.Activate others = activate_line others
 sentence_of verbs.Tick others = bare_line says.Tick others
 sentence_of verbs.End others = bare_line says.End others
 

@@ -80,6 +80,7 @@ given old (Some (says.Send p)) = []
 given old (Some (says.Count c)) = []
 given old (Some (says.Upset u)) = []
 given old (Some (says.Hold a)) = []
+given old (Some (says.Activate n)) = []
 given old (Some says.Tick) = Whole (frame_of old) ∷ []
 given old (Some says.End) = []
 

@@ -32,13 +32,14 @@ pub struct Upset {
     pub value: u8,
 }
 
-/// What one frame is given, as four lists in the order of their lines: at most 64 items together.
+/// What one frame is given, as five lists in the order of their lines: at most 64 items together.
 #[derive(Drop)]
 pub struct FrameInput {
     sends: SendList,
     counters: ArrayVec<Counter, 64>,
     upsets: ArrayVec<Upset, 64>,
     held: ArrayVec<App, 64>,
+    activations: ArrayVec<u32, 64>,
 }
 
 impl Model for FrameInput {
@@ -47,9 +48,9 @@ impl Model for FrameInput {
 
     ghost Value = { Frame };
 
-    ghost view = { λ f. record { sends = f.sends; counters = f.counters.items; upsets = f.upsets.items; held = f.held.items } };
+    ghost view = { λ f. record { sends = f.sends; counters = f.counters.items; upsets = f.upsets.items; held = f.held.items; activations = f.activations.items } };
 
-    ghost invariant = { λ f. length f.sends + length f.counters.items + length f.upsets.items + length f.held.items ≤ 64 };
+    ghost invariant = { λ f. length f.sends + length f.counters.items + length f.upsets.items + length f.held.items + length f.activations.items ≤ 64 };
 }
 
 impl FrameInput {
@@ -61,6 +62,7 @@ impl FrameInput {
             counters: ArrayVec::new(),
             upsets: ArrayVec::new(),
             held: ArrayVec::new(),
+            activations: ArrayVec::new(),
         }
     }
 
@@ -71,13 +73,18 @@ impl FrameInput {
         self.counters.clear();
         self.upsets.clear();
         self.held.clear();
+        self.activations.clear();
     }
 
     pub(crate) fn len(&self) -> usize
         ensures value { result ≡ items_in self.now }
         ensures limit { result ≤ 64 }
     {
-        self.sends.len() + self.counters.len() + self.upsets.len() + self.held.len()
+        self.sends.len()
+            + self.counters.len()
+            + self.upsets.len()
+            + self.held.len()
+            + self.activations.len()
     }
 
     /// The packets that are sent.
@@ -112,6 +119,14 @@ impl FrameInput {
         self.held.as_slice()
     }
 
+    /// The numbers of the files whose tables become active, counted from 1. No file needs to have one of them.
+    pub fn activations(&self) -> &[u32]
+        ensures value { result.now ≡ self.now.activations }
+        ensures limit { items_in self.now ≤ 64 }
+    {
+        self.activations.as_slice()
+    }
+
     pub(crate) fn send(&mut self, packet: &Packet)
         requires { items_in self.old < 64 }
         ensures { self.new ≡ record self.old { sends = self.old.sends ++ packet.now ∷ [] } }
@@ -138,5 +153,12 @@ impl FrameInput {
         ensures { self.new ≡ record self.old { held = self.old.held ++ app ∷ [] } }
     {
         self.held.push(app);
+    }
+
+    pub(crate) fn activate(&mut self, file: u32)
+        requires { items_in self.old < 64 }
+        ensures { self.new ≡ record self.old { activations = self.old.activations ++ file ∷ [] } }
+    {
+        self.activations.push(file);
     }
 }

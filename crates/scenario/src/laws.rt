@@ -58,12 +58,12 @@ pub fn stops_stay()
 /// What some texts give, computed from the definitions.
 pub fn worked_texts()
     ensures empty { (reading (record { bytes = []; closed = true })).ending ≡ Unended 0 }
-    ensures whole { reading (record { bytes = codes "epoch 5\nregion RAM 0 8\nstart\nupset 0x4 9\nhold MM\ntick\nend"; closed = true })
+    ensures whole { reading (record { bytes = codes "epoch 5\nregion RAM 0 8\nstart\nupset 0x4 9\nhold MM\nactivate 2\ntick\nend"; closed = true })
         ≡ record {
           items = Head 5 (record { kind = kinds.Ram; start = 0; len = 8 } ∷ [])
-              ∷ Whole (record { sends = []; counters = []; upsets = record { at = 4; value = 9 } ∷ []; held = apps.Mm ∷ [] }) ∷ [];
+              ∷ Whole (record { sends = []; counters = []; upsets = record { at = 4; value = 9 } ∷ []; held = apps.Mm ∷ []; activations = 2 ∷ [] }) ∷ [];
           ending = Ended;
-          stops = 29 ∷ 54 ∷ [];
+          stops = 29 ∷ 65 ∷ [];
         } }
     ensures packet { (reading (record { bytes = codes "epoch 5\nregion RAM 0 8\nstart\nsend 00\n"; closed = false })).ending ≡ Bad 4 reasons.Packet }
     ensures map { (reading (record { bytes = codes "epoch 5\nregion RAM 0 8\nregion RAM 4 4\nstart\n"; closed = false })).ending ≡ Bad 4 reasons.Map }

@@ -144,6 +144,7 @@ impl Progress {
                 self.room_for_item()
             }
             Sentence::Hold(_) => self.room_for_item(),
+            Sentence::Activate(_) => self.room_for_item(),
             Sentence::Tick => self.tick_refusal(),
             Sentence::End => None,
         }
@@ -268,6 +269,10 @@ impl Progress {
             Sentence::Hold(app) => {
                 self.place = Place::Inside;
                 self.frame.hold(*app);
+            }
+            Sentence::Activate(file) => {
+                self.place = Place::Inside;
+                self.frame.activate(*file);
             }
         }
     }

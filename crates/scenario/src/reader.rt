@@ -62,6 +62,7 @@ fn item_of(said: &Option<Sentence>) -> Option<Item>
             | Sentence::Count(_)
             | Sentence::Upset(_)
             | Sentence::Hold(_)
+            | Sentence::Activate(_)
             | Sentence::End,
         ) => None,
     }

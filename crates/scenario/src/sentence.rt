@@ -1,7 +1,7 @@
 //! What a line says by itself, where it stands.
 ghost use Rattle.std.specs.Prelude.{◌≡◌, ◌≤◌, ◌∷◌, ℕ, List, [], length, IfOk, IfSome, Some, None, true};
 ghost use Rattle.scenario.specs.Words.{words};
-ghost use Rattle.scenario.specs.Sentences.{Gives, IsPlaced, IsOfVerb, as_said, verb_of, Begins, stands_at, none, one, two, three, number_or_bad, epoch_line, region_line, hex_said, send_line, app_line, upset_line, hold_line, bare_line, sentence_of, line_says, packet_of, packet_said, verb_at};
+ghost use Rattle.scenario.specs.Sentences.{Gives, IsPlaced, IsOfVerb, as_said, verb_of, Begins, stands_at, none, one, two, three, number_or_bad, epoch_line, region_line, hex_said, send_line, app_line, upset_line, hold_line, activate_line, bare_line, sentence_of, line_says, packet_of, packet_said, verb_at};
 
 use crate::frame::{App, Upset};
 use crate::reason::Reason;
@@ -34,6 +34,7 @@ pub(crate) enum Verb {
     App,
     Upset,
     Hold,
+    Activate,
     Tick,
     End,
 }
@@ -48,6 +49,7 @@ pub(crate) enum Sentence {
     Count(Counter),
     Upset(Upset),
     Hold(App),
+    Activate(u32),
     Tick,
     End,
 }
@@ -58,6 +60,9 @@ fn known_verb(word: &[u8]) -> Option<Verb>
 {
     if word == b"region".as_slice() {
         return Some(Verb::Region);
+    }
+    if word == b"activate".as_slice() {
+        return Some(Verb::Activate);
     }
     match word {
         b"epoch" => Some(Verb::Epoch),
@@ -78,7 +83,7 @@ fn may_stand(place: Place, verb: Verb) -> bool
     match verb {
         Verb::Epoch => matches!(place, Place::Opening),
         Verb::Region | Verb::Start => matches!(place, Place::Header),
-        Verb::Send | Verb::App | Verb::Upset | Verb::Hold | Verb::Tick => {
+        Verb::Send | Verb::App | Verb::Upset | Verb::Hold | Verb::Activate | Verb::Tick => {
             matches!(place, Place::Between | Place::Inside)
         }
         Verb::End => matches!(place, Place::Between),
@@ -272,6 +277,18 @@ fn hold_line(rest: &[u8], said: &mut Option<Sentence>) -> Result<(), Reason>
     Ok(())
 }
 
+/// `activate N`
+#[tactic(auto, unfolding(crate::specs::Sentences::activate_line))]
+fn activate_line(rest: &[u8], said: &mut Option<Sentence>) -> Result<(), Reason>
+    ensures value { Gives (λ _. said.new) result (as_said (activate_line (words rest.now))) }
+    ensures verb { IfOk result (λ _. IsOfVerb Verb.Activate said.new) }
+{
+    let word = one_word(rest)?;
+    let file = number_or_bad(u32::MAX, word)?;
+    *said = Some(Sentence::Activate(file));
+    Ok(())
+}
+
 fn start_line(rest: &[u8], said: &mut Option<Sentence>) -> Result<(), Reason>
     ensures value { Gives (λ _. said.new) result (as_said (bare_line Sentence.Start (words rest.now))) }
     ensures verb { IfOk result (λ _. IsOfVerb Verb.Start said.new) }
@@ -327,6 +344,7 @@ fn read_sentence(
         Verb::App => app_line(rest, said),
         Verb::Upset => upset_line(rest, said),
         Verb::Hold => hold_line(rest, said),
+        Verb::Activate => activate_line(rest, said),
         Verb::Tick => tick_line(rest, said),
         Verb::End => end_line(rest, said),
     }

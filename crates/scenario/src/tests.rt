@@ -18,6 +18,7 @@ struct Seen {
     counters: u32,
     upsets: u32,
     held: u32,
+    activations: u32,
     last: Item,
 }
 
@@ -35,6 +36,7 @@ fn with_frame(seen: Seen, reader: &Reader) -> Seen
         counters: count(seen.counters, frame.counters().len()),
         upsets: count(seen.upsets, frame.upsets().len()),
         held: count(seen.held, frame.held().len()),
+        activations: count(seen.activations, frame.activations().len()),
         ..seen
     }
 }
@@ -49,6 +51,7 @@ fn read_text(alloc: Global, text: &[u8], size: usize) -> Result<Seen, Fail> {
         counters: 0,
         upsets: 0,
         held: 0,
+        activations: 0,
         last: Item::More,
     };
     let mut rest = text;
@@ -128,7 +131,7 @@ fn check_row(rt: &impl Abort, alloc: Global, row: &str) -> Result<(), Fail> {
 
 /// A scenario with an item of every kind.
 const EVERY_LINE: &str =
-    "epoch 1000\nregion RAM 0x1000 256\n\nstart\n send 1888C00000010300 \napp LOAD 0xFFFFFFFF\nupset 0x10ff 255\nhold MM\nhold HS\ntick\n# nothing\ntick\nend";
+    "epoch 1000\nregion RAM 0x1000 256\n\nstart\n send 1888C00000010300 \napp LOAD 0xFFFFFFFF\nupset 0x10ff 255\nhold MM\nactivate 4294967295\nhold HS\ntick\n# nothing\ntick\nend";
 
 /// The head of most texts below.
 const HEAD: &str = "epoch 5/region RAM 0 4/start/";
@@ -178,6 +181,14 @@ const TEXTS: &str = "\
 0|4|1|1|H|hold\tMM|\n\
 0|4|1|1|H|hold MM\0|\n\
 0|4|1|1|H|hold \u{e9}|\n\
+0|4|7|1|H|activate 0|\n\
+0|4|2|1|H|activate 4294967296|\n\
+0|4|2|1|H|activate MM|\n\
+0|4|1|1|H|activate|\n\
+0|4|1|1|H|activate 1 2|\n\
+0|4|1|1|H|activates 1|\n\
+0|2|1|1||epoch 5/activate 1/|\n\
+0|5|1|1|H|activate 1/end/|\n\
 0|10|4|8|epoch 5/|region RAM 0 4/|region RAM 32 4/\n\
 0|10|1|8|epoch 5/|region RAM 0 4/|region ROM 32 4/\n\
 0|10|2|8|epoch 5/|region RAM 0 4/|region RAM 32 x/\n\
@@ -188,6 +199,10 @@ const TEXTS: &str = "\
 0|1|6|5000|| |/end/\n\
 0|1|6|634|| |epoch 5/\n\
 1|0|0|64|H|hold MM/|tick/end/\n\
+1|0|0|63|H|hold MM/|activate 1/tick/end/\n\
+1|0|0|64|H|activate 1/|tick/end/\n\
+0|68|5|64|H|hold MM/|activate 1/\n\
+0|68|5|64|H|activate 1/|hold MM/\n\
 0|68|4|64|H|hold MM/|upset 9 1/\n\
 0|68|5|65|H|hold MM/|\n\
 100000|0|0|100000|H|tick/|end/\n\
@@ -215,6 +230,7 @@ fn one_scenario_in_pieces(rt: HostRuntime) -> Result<(), Fail> {
         counters: 1,
         upsets: 1,
         held: 2,
+        activations: 1,
         last: Item::End,
     };
     assert_eq!(rt; whole, wanted);
@@ -271,7 +287,7 @@ fn header_shows_the_text(rt: HostRuntime) -> Result<(), Fail> {
 fn frame_shows_the_text(rt: HostRuntime) -> Result<(), Fail> {
     let mut reader = Reader::open(rt.alloc())?;
     let mut rest =
-        "epoch 5\nregion RAM 0 4\nstart\nhold MM\nsend 1888C00000010301\nupset 3 9\napp LOAD 2\nhold SC\ntick\n".as_bytes();
+        "epoch 5\nregion RAM 0 4\nstart\nhold MM\nsend 1888C00000010301\nactivate 3\nupset 3 9\nactivate 0x10\napp LOAD 2\nhold SC\nactivate 3\ntick\n".as_bytes();
     for _ in 0..20 {
         match reader.next() {
             Item::More => {
@@ -281,6 +297,7 @@ fn frame_shows_the_text(rt: HostRuntime) -> Result<(), Fail> {
             Item::Frame => {
                 let frame = reader.frame();
                 assert_eq!(rt; frame.held(), [App::Mm, App::Sc].as_slice());
+                assert_eq!(rt; frame.activations(), [3, 16, 3].as_slice());
                 assert_eq!(rt; frame.upsets(), [Upset { at: 3, value: 9 }].as_slice());
                 assert_eq!(rt; frame.sends().len(), 1);
                 assert_eq!(rt;
@@ -334,6 +351,7 @@ fn drills_have_2000_frames(rt: HostRuntime) -> Result<(), Fail> {
         counters: 2000,
         upsets: 511,
         held: 0,
+        activations: 0,
         last: Item::End,
     };
     assert_eq!(rt; seen, wanted);
