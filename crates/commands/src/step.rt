@@ -48,7 +48,7 @@ pub fn handle_all<R: Copy + Drop, S: Commanded<R>>(
     }
 }
 
-// Handles one packet. What a command asks for is decoded into one place and lent from there on, since it may carry many bytes.
+/// Handles one packet. What a command asks for is decoded into one place and lent from there on, since it may carry many bytes.
 #[tactic(auto, using(bus_pipes::proofs::Deliveries::adding_none), unfolding(bus_pipes::specs::Held::adding))]
 fn handle<R: Copy + Drop, S: Commanded<R>>(
     counts: &mut Counts,
@@ -99,7 +99,7 @@ fn handle<R: Copy + Drop, S: Commanded<R>>(
     }
 }
 
-// What a packet is by its form: a command that is accepted here is still to be judged by what it asks for.
+/// What a packet is by its form: a command that is accepted here is still to be judged by what it asks for.
 #[tactic(auto, unfolding(crate::specs::Verdicts::verdict_at))]
 fn judge<R: Copy + Drop, S: Commanded<R>>(packet: &Packet) -> Verdict<()>
     ensures verdict { (basis : S.Basis) (orders : List S.Instruction)

@@ -20,7 +20,7 @@ impl Segments {
     }
 }
 
-// Whether an entry is empty, or memory of the map gives all its bytes.
+/// Whether an entry is empty, or memory of the map gives all its bytes.
 #[tactic(auto, unfolding(crate::specs::Given::is_given))]
 fn is_given(map: &Map, segment: Segment) -> bool
     ensures { result ≡ is_given map.now segment }

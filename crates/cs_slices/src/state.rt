@@ -30,7 +30,7 @@ pub struct Cs {
 }
 
 impl Course {
-    // Before the first wakeup.
+    /// Before the first wakeup.
     fn start(eeprom: &Segments, memory: &Segments) -> Course
         ensures { StandsAt (eeprom.now ++ memory.now) [] [] [] result }
     {

@@ -168,7 +168,7 @@ impl Cs {
     }
 }
 
-// Puts the packet of a report behind the items.
+/// Puts the packet of a report behind the items.
 #[tactic(auto, using(bus_pipes::proofs::Deliveries::adding_none, commands::proofs::Heard::one_more_counted), unfolding(bus_pipes::specs::Held::adding))]
 fn reply(tally: &Tally, order: &Instruction, now: u32, out: &mut Outbox)
     requires named { IsNamed order.now }
@@ -185,7 +185,7 @@ fn reply(tally: &Tally, order: &Instruction, now: u32, out: &mut Outbox)
     out.push(Out::Made(baseline_packet(*table, *number, base, now)));
 }
 
-// Reads the next slice, where a place takes part.
+/// Reads the next slice, where a place takes part.
 #[tactic(auto, using(bus_pipes::proofs::Deliveries::adding_none))]
 fn read_next(
     course: &mut Course,
@@ -211,7 +211,7 @@ fn read_next(
     }
 }
 
-// Reads the next slice of a place.
+/// Reads the next slice of a place.
 #[tactic(auto, using(bus_pipes::proofs::Deliveries::adding_none, commands::proofs::Heard::event_behind))]
 fn read_slice(
     course: &mut Course,

@@ -88,7 +88,7 @@ impl Switches {
         any
     }
 
-    // Whether the table of a place is on.
+    /// Whether the table of a place is on.
     fn is_table_on(&self, place: u8) -> bool
         requires { place < 32 }
         ensures { (entries : List Segment) (orders : List Instruction) → SwitchesStand entries orders self.now → result ≡ is_table_on (table_of place) orders }

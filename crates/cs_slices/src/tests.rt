@@ -21,7 +21,7 @@ const REGIONS: [Region; 1] = [Region {
     len: 4096,
 }];
 
-// The table whose entry `number` is this one, and all others are empty.
+/// The table whose entry `number` is this one, and all others are empty.
 fn one_entry(number: usize, state: u8, start: u32, len: u32) -> Result<Segments, EntryFault>
     requires { (1 ≤ number) × (number ≤ 16) }
 {
@@ -44,7 +44,7 @@ fn is_given(map: &Map, table: &Segments) -> bool
     }
 }
 
-// One frame: a wakeup, and what it sent.
+/// One frame: a wakeup, and what it sent.
 fn frame(
     cs: Cs,
     eeprom: &Segments,
@@ -67,7 +67,7 @@ fn frame(
     next
 }
 
-// Some frames without commands, in which nothing is sent.
+/// Some frames without commands, in which nothing is sent.
 fn quiet(
     rt: &impl Abort,
     cs: Cs,
@@ -98,7 +98,7 @@ fn made_event(id: u16, kind: u16, now: u32) -> Out {
     }
 }
 
-// A byte that changes is a miscompare of the pass in which it is read and of each later one.
+/// A byte that changes is a miscompare of the pass in which it is read and of each later one.
 #[test]
 fn changed_byte_miscompares(rt: HostRuntime) -> Result<(), Fail> {
     let map = Map::new(&REGIONS)?;
@@ -120,7 +120,7 @@ fn changed_byte_miscompares(rt: HostRuntime) -> Result<(), Fail> {
     Ok(())
 }
 
-// A byte that changes behind the slice that reads it is found in the next pass.
+/// A byte that changes behind the slice that reads it is found in the next pass.
 #[test]
 fn byte_changed_behind_its_slice(rt: HostRuntime) -> Result<(), Fail> {
     let map = Map::new(&REGIONS)?;
@@ -162,7 +162,7 @@ fn housekeeping(now: u32, counts: [u8; 2], flags: u8, memory: u8, passes: u8) ->
     ))
 }
 
-// Switched off and on again in the middle of a pass, an entry is read from its first byte on.
+/// Switched off and on again in the middle of a pass, an entry is read from its first byte on.
 fn begins_anew(
     rt: &impl Abort,
     ram: &Ram,
@@ -214,7 +214,7 @@ fn pass_is_abandoned(rt: HostRuntime) -> Result<(), Fail> {
     Ok(())
 }
 
-// An entry of 1,024 bytes has one slice, one of 1,025 bytes two.
+/// An entry of 1,024 bytes has one slice, one of 1,025 bytes two.
 #[test]
 fn slices_of_long_entries(rt: HostRuntime) -> Result<(), Fail> {
     let map = Map::new(&REGIONS)?;
@@ -250,7 +250,7 @@ fn slices_of_long_entries(rt: HostRuntime) -> Result<(), Fail> {
     Ok(())
 }
 
-// The table with 16 entries of four bytes from 0x10000 on.
+/// The table with 16 entries of four bytes from 0x10000 on.
 fn full_table() -> Result<Segments, EntryFault> {
     let mut payload = [0; 192];
     for n in 0..16 {
@@ -261,7 +261,7 @@ fn full_table() -> Result<Segments, EntryFault> {
     load_segments(&payload)
 }
 
-// All 32 entries are read, one a wakeup, and the last one's baseline is there after the last.
+/// All 32 entries are read, one a wakeup, and the last one's baseline is there after the last.
 #[test]
 fn all_places_round_the_ring(rt: HostRuntime) -> Result<(), Fail> {
     let map = Map::new(&REGIONS)?;

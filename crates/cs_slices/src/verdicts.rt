@@ -48,7 +48,7 @@ pub(crate) fn own_refusal(
     }
 }
 
-// The refusal of a table that there isn't.
+/// The refusal of a table that there isn't.
 fn table_refusal(table: u16) -> Option<Refusal>
     ensures { result ≡ table_refusal table }
 {
@@ -59,7 +59,7 @@ fn table_refusal(table: u16) -> Option<Refusal>
     }
 }
 
-// The refusal of an entry.
+/// The refusal of an entry.
 fn entry_refusal(eeprom: &Segments, memory: &Segments, table: u16, number: u16) -> Option<Refusal>
     ensures { result ≡ entry_refusal (eeprom.now ++ memory.now) table number }
 {

@@ -102,7 +102,7 @@ fn put_message(from: Source, place: u16, acts: &MsgActs, went: bool, now: u32, o
     }
 }
 
-// Puts the n-th event of a monitor.
+/// Puts the n-th event of a monitor.
 #[tactic(auto, unfolding(crate::specs::Items::event_out))]
 fn put_event(from: Source, n: u16, now: u32, out: &mut Outbox)
     requires number { n ≤ 5 }
@@ -124,7 +124,7 @@ fn event_base(from: Source) -> u16
     }
 }
 
-// The name of Health and Safety.
+/// The name of Health and Safety.
 #[tactic(auto, unfolding(crate::specs::Items::hs_name, packet_forms::specs::Names::is_name_text))]
 fn hs_name() -> Name
     ensures { result ≡ hs_name }

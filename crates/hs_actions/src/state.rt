@@ -115,7 +115,7 @@ impl Actions {
         put_items(from, name, action, acts, went, now, out);
     }
 
-    // Whether an attempt goes, and the state after it.
+    /// Whether an attempt goes, and the state after it.
     fn attempt(&mut self, action: Action, acts: &MsgActs) -> bool
         requires { HasPlace action }
         ensures stands { (past : Past) (a : Attempt) → a.action ≡ action → a.wakeup + 1 ≡ past.wakeups
@@ -131,7 +131,7 @@ impl Actions {
         }
     }
 
-    // A reset goes where fewer were made than the maximum.
+    /// A reset goes where fewer were made than the maximum.
     fn reset(&mut self) -> bool
         ensures stands { (acts : List ActRow) (past : Past) (a : Attempt) → a.action ≡ Reset
             → ActionsStand acts past self.old → ActionsStand acts (with_more past (Attempts a ∷ [])) self.new }
@@ -145,7 +145,7 @@ impl Actions {
         true
     }
 
-    // A message action goes where its entry is used and no cooldown of it runs.
+    /// A message action goes where its entry is used and no cooldown of it runs.
     fn send(&mut self, place: u16, acts: &MsgActs) -> bool
         requires { place < 8 }
         ensures stands { (past : Past) (a : Attempt) → a.action ≡ Message place → a.wakeup + 1 ≡ past.wakeups
@@ -165,7 +165,7 @@ impl Actions {
     }
 }
 
-// One wakeup less is left of each cooldown that isn't over.
+/// One wakeup less is left of each cooldown that isn't over.
 fn cool(cooldowns: &mut [u16; 8])
     ensures { (place : ℕ) → place < 8 → get_or cooldowns.new place 0 ≡ get_or cooldowns.old place 0 - 1 }
 {

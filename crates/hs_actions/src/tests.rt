@@ -7,7 +7,7 @@ use std::test::Fail;
 
 const NOOP: [u8; 8] = [0x18, 0x88, 0xC0, 0, 0, 1, 0, 0xAE];
 
-// A table whose message action 0 has the no-op of MM.
+/// A table whose message action 0 has the no-op of MM.
 fn one_act(state: u8, cooldown: u8) -> Option<MsgActs> {
     let mut bytes = [0; 544];
     bytes[1] = state;

@@ -29,7 +29,7 @@ pub(crate) fn places_in(apps: &AppMon) -> u8
     places
 }
 
-// The same with one place more.
+/// The same with one place more.
 fn places_with(apps: &AppMon, place: u32, places: u8) -> u8
     requires { place < 32 }
     ensures { result ≡ (if is_entry (row_at apps.now place) then place + 1 else places) }
@@ -86,7 +86,7 @@ pub(crate) fn check_all(
     }
 }
 
-// Checks the entry in a place, where it is used.
+/// Checks the entry in a place, where it is used.
 #[tactic(auto, unfolding(crate::specs::Monitors::app_attempt))]
 fn check_place(
     tables: &HsTables,
@@ -123,7 +123,7 @@ fn check_place(
     }
 }
 
-// Checks an entry, and performs its action where it acts.
+/// Checks an entry, and performs its action where it acts.
 fn check_entry(
     entry: &AppEntry,
     watched: Watched,

@@ -38,7 +38,7 @@ pub(crate) fn hear_all(
     }
 }
 
-// Compares a packet of the event pipe with the entries, where it is an event message.
+/// Compares a packet of the event pipe with the entries, where it is an event message.
 #[tactic(auto, unfolding(crate::specs::Events::event_attempts))]
 fn hear(tables: &HsTables, packet: &Packet, now: u32, actions: &mut Actions, out: &mut Outbox)
     requires room { length out.old.items + 32 ≤ out.old.room }
@@ -53,7 +53,7 @@ fn hear(tables: &HsTables, packet: &Packet, now: u32, actions: &mut Actions, out
     compare_all(tables, packet, now, actions, out);
 }
 
-// Compares an event message with all entries.
+/// Compares an event message with all entries.
 fn compare_all(
     tables: &HsTables,
     packet: &Packet,
@@ -73,7 +73,7 @@ fn compare_all(
     }
 }
 
-// Compares an event message with the entry in a place, where it is used.
+/// Compares an event message with the entry in a place, where it is used.
 #[tactic(auto, unfolding(crate::specs::Events::event_attempt))]
 fn compare(
     tables: &HsTables,
@@ -116,7 +116,7 @@ fn is_event(packet: &Packet) -> bool
     packet.mid() == EVENT && packet.bytes().len() == EVENT_BYTES
 }
 
-// Whether an entry has the name and the id of an event message.
+/// Whether an entry has the name and the id of an event message.
 #[tactic(auto, unfolding(crate::specs::Events::is_matched))]
 fn is_matched(packet: &Packet, entry: &EventEntry) -> bool
     requires { length packet.now ≡ 44 }

@@ -65,7 +65,7 @@ fn flag_of(on: bool) -> u8
     if on { 1 } else { 0 }
 }
 
-// Puts the resets made, their maximum, the message actions sent and 0 behind the bytes.
+/// Puts the resets made, their maximum, the message actions sent and 0 behind the bytes.
 #[tactic(auto, unfolding(packet_forms::specs::Numbers::be16_bytes))]
 fn tell_actions(payload: &mut Payload, actions: &Actions)
     requires { length payload.old ≡ 4 }
@@ -79,7 +79,7 @@ fn tell_actions(payload: &mut Payload, actions: &Actions)
     payload.append(&[a, b, c, d, e, f, 0, 0]);
 }
 
-// Puts the counters of all names behind the bytes.
+/// Puts the counters of all names behind the bytes.
 fn show_counters(payload: &mut Payload, names: &ExeCount, counters: &[Counter])
     requires { length payload.old ≡ 16 }
     ensures bytes { payload.new ≡ payload.old ++ flat_map (shown_bytes counters.now) names.now }
@@ -91,7 +91,7 @@ fn show_counters(payload: &mut Payload, names: &ExeCount, counters: &[Counter])
     }
 }
 
-// The counter that is shown of an entry.
+/// The counter that is shown of an entry.
 fn shown_in(names: &ExeCount, place: u32, counters: &[Counter]) -> u32
     requires { place < 32 }
     ensures { result ≡ shown_of counters.now (name_of (count_at names.now place)) }
@@ -114,7 +114,7 @@ pub(crate) fn watching_of(apps: &AppMon, kept: &[Watched; PLACES]) -> u32
     bits_of(&bits) as u32
 }
 
-// Whether an entry is used and counts down.
+/// Whether an entry is used and counts down.
 fn is_watching(apps: &AppMon, place: u32, watched: Watched) -> bool
     requires { place < 32 }
     ensures { (checks : List (List Counter)) → ((e : AppEntry) → entry_of (row_at apps.now place) ≡ Some e → EntryStands e checks watched) → result ≡ is_watching checks (row_at apps.now place) }

@@ -74,7 +74,7 @@ impl Monitors {
         }
     }
 
-    // Switches application monitoring on, with a refresh, or off.
+    /// Switches application monitoring on, with a refresh, or off.
     fn monitor(&mut self, apps: &AppMon, on: bool)
         ensures monitoring { self.new.monitoring ≡ on }
         ensures listening { self.new.listening ≡ self.old.listening }
@@ -176,7 +176,7 @@ impl Monitors {
         !self.watch() && !self.actions.is_cooling()
     }
 
-    // Whether a used entry may be checked: without one, no more is asked.
+    /// Whether a used entry may be checked: without one, no more is asked.
     #[tactic(auto, using(crate::proofs::Acting::and_no))]
     #[inline(always)]
     fn watch(&self) -> bool

@@ -12,7 +12,7 @@ const HS: u16 = 0x18AE;
 
 const LOAD: [u8; 4] = [0x4C, 0x4F, 0x41, 0x44];
 
-// Tables with an application monitor on LOAD in the first place.
+/// Tables with an application monitor on LOAD in the first place.
 fn one_app(cycles: u8, action: u8) -> Option<HsTables> {
     let mut bytes = [0; 768];
     bytes[..4].copy_from_slice(&LOAD);
@@ -23,7 +23,7 @@ fn one_app(cycles: u8, action: u8) -> Option<HsTables> {
     Some(tables)
 }
 
-// Tables with 16 event monitors of LOAD's event 7, and a message action with the no-op of MM and the cooldown 2.
+/// Tables with 16 event monitors of LOAD's event 7, and a message action with the no-op of MM and the cooldown 2.
 fn all_events(action: u8) -> Option<HsTables> {
     let mut bytes = [0; 384];
     for n in 0..16 {
@@ -41,7 +41,7 @@ fn all_events(action: u8) -> Option<HsTables> {
     Some(tables)
 }
 
-// One frame: a wakeup, and what it sent.
+/// One frame: a wakeup, and what it sent.
 fn frame(
     hs: Hs,
     tables: &HsTables,

@@ -113,7 +113,7 @@ pub fn load_msgacts(payload: &[u8]) -> Result<MsgActs, EntryFault>
     }
 }
 
-// The packet of at most 64 bytes that begins an entry's area, if one does.
+/// The packet of at most 64 bytes that begins an entry's area, if one does.
 fn packet_in(area: &[u8]) -> Option<Packet>
     requires { length area.now ≡ 64 }
     ensures { result ≡ packet_in area.now }

@@ -34,7 +34,7 @@ pub struct Md {
 }
 
 impl Streams {
-    // The streams before the first wakeup.
+    /// The streams before the first wakeup.
     fn start(tables: &[Dwell; 4]) -> Streams
         ensures stands { StandsAt tables.now [] [] result }
         ensures given { (regions : List Region) → TablesGiven regions tables.now → StreamsGiven regions result }
@@ -47,7 +47,7 @@ impl Streams {
         }
     }
 
-    // Table n, 1 to 4, becomes active.
+    /// Table n, 1 to 4, becomes active.
     fn activate(&mut self, n: u8, table: &Dwell)
         requires { (1 ≤ n) × (n ≤ 4) }
         ensures stands { (tables : List DwellTable) (history : List MdEntry) → StandsAt tables history [] self.old → StandsAt tables (history ++ Activated (activation_of n table.now) ∷ []) [] self.new }
@@ -61,7 +61,7 @@ impl Streams {
         }
     }
 
-    // Whether a table is enabled whose list has a delay.
+    /// Whether a table is enabled whose list has a delay.
     #[inline(always)]
     fn dwell(&self) -> bool
         ensures { result ≡ ((self.now.first.enabled && nat_lt 0 (delays (list_of self.now.first.plan))) || (self.now.second.enabled && nat_lt 0 (delays (list_of self.now.second.plan)))

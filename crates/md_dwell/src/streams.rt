@@ -76,7 +76,7 @@ impl Stream {
         self.enabled = enabled;
     }
 
-    // Begins with the first entry of the list in the next wakeup.
+    /// Begins with the first entry of the list in the next wakeup.
     fn restart(&mut self)
         ensures plan { self.new.plan ≡ self.old.plan }
         ensures enabled { self.new.enabled ≡ self.old.enabled }
@@ -156,7 +156,7 @@ impl Stream {
         }
     }
 
-    // Reads the entries that are due, where the next one is.
+    /// Reads the entries that are due, where the next one is.
     #[inline(never)]
     fn read_on(&mut self, table: u16, window: &Window<'_>, now: u32, out: &mut Outbox)
         requires table { (1 ≤ table) × (table ≤ 4) }
@@ -186,7 +186,7 @@ impl Stream {
         }
     }
 
-    // Reads entries from the next one on, up to one with a delay or the last.
+    /// Reads entries from the next one on, up to one with a delay or the last.
     fn gather(&mut self, window: &Window<'_>)
         ensures read { (list : List DwellEntry) (from : ℕ) (past : List Memory) → list ≡ list_of self.old.plan
             → IsReadTo list from (past ++ seen window.now ∷ []) self.old.next 0 self.old.bytes
@@ -204,7 +204,7 @@ impl Stream {
     }
 }
 
-// Reads entries of a list from a place on, up to one with a delay or the last.
+/// Reads entries of a list from a place on, up to one with a delay or the last.
 fn gather(list: &[DwellEntry], next: usize, window: &Window<'_>, bytes: &mut Payload) -> Pause
     requires few { length list.now ≤ 25 }
     requires within { next ≤ length list.now }
@@ -234,7 +234,7 @@ fn gather(list: &[DwellEntry], next: usize, window: &Window<'_>, bytes: &mut Pay
     }
 }
 
-// Whether a mask names a table, 1 to 4.
+/// Whether a mask names a table, 1 to 4.
 fn names(mask: u16, table: u16) -> bool
     requires { (1 ≤ table) × (table ≤ 4) }
     ensures { result ≡ names mask table }

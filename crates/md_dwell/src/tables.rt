@@ -179,7 +179,7 @@ impl Plan {
     }
 }
 
-// How many entries stand before the first of length 0.
+/// How many entries stand before the first of length 0.
 fn list_len(entries: &[DwellEntry; ENTRIES]) -> usize
     ensures count { result ≡ length (list_of entries.now) }
     ensures list { take result entries.now ≡ list_of entries.now }
@@ -193,7 +193,7 @@ fn list_len(entries: &[DwellEntry; ENTRIES]) -> usize
     ENTRIES
 }
 
-// The delays of these entries together.
+/// The delays of these entries together.
 fn delays(entries: &[DwellEntry]) -> u32
     requires { length entries.now ≤ 25 }
     ensures { result ≡ delays entries.now }

@@ -16,7 +16,7 @@ fn entry(len: u16, delay: u16, at: u32) -> DwellEntry {
     DwellEntry { len, delay, at }
 }
 
-// A table whose first entries are these.
+/// A table whose first entries are these.
 fn table(enabled: bool, first: DwellEntry, second: DwellEntry, third: DwellEntry) -> Dwell {
     let mut entries = [DwellEntry::BLANK; 25];
     entries[0] = first;
@@ -25,7 +25,7 @@ fn table(enabled: bool, first: DwellEntry, second: DwellEntry, third: DwellEntry
     Dwell::of(enabled, entries)
 }
 
-// The two tables of the worked rows.
+/// The two tables of the worked rows.
 fn three_bytes(enabled: bool) -> Dwell {
     table(
         enabled,
@@ -52,7 +52,7 @@ fn one_region() -> Region {
     }
 }
 
-// The state before the first wakeup, where memory gives all entries.
+/// The state before the first wakeup, where memory gives all entries.
 fn start(map: &Map, tables: &[Dwell; 4]) -> Option<Md>
     ensures { IfSome result (λ md. AllGiven map.now md) }
 {
@@ -67,7 +67,7 @@ fn start(map: &Map, tables: &[Dwell; 4]) -> Option<Md>
     }
 }
 
-// One wakeup.
+/// One wakeup.
 fn frame(md: &Md, ram: &Ram, commands: &[Packet], now: u32, out: &mut Outbox) -> Md
     requires commands { length commands.now ≤ 16 }
     requires room { MOST_ITEMS ≤ out.old.room }
@@ -81,7 +81,7 @@ fn frame(md: &Md, ram: &Ram, commands: &[Packet], now: u32, out: &mut Outbox) ->
     next
 }
 
-// Writes a byte of memory.
+/// Writes a byte of memory.
 fn set(ram: &mut Ram, map: &Map, at: u32, value: u8)
     requires { regions_of ram.old.areas ≡ map.now }
     ensures { regions_of ram.new.areas ≡ map.now }
@@ -208,7 +208,7 @@ fn jam_and_start_begin_anew(rt: HostRuntime) -> Result<(), Fail> {
     Ok(())
 }
 
-// Makes a table active whose entries memory gives.
+/// Makes a table active whose entries memory gives.
 fn activate(md: &mut Md, map: &Map, n: u8, table: &Dwell)
     requires number { (1 ≤ n) × (n ≤ 4) }
     requires gives { AllGiven map.now md.old }
@@ -219,7 +219,7 @@ fn activate(md: &mut Md, map: &Map, n: u8, table: &Dwell)
     }
 }
 
-// Wakeup k of the worked rows: the first three bytes are set to what it reads.
+/// Wakeup k of the worked rows: the first three bytes are set to what it reads.
 fn wakeup(md: &Md, ram: &mut Ram, map: &Map, k: u8, commands: &[Packet], out: &mut Outbox) -> Md
     requires few { k ≤ 9 }
     requires commands { length commands.now ≤ 16 }
@@ -380,7 +380,7 @@ fn refusals_in_order(rt: HostRuntime) -> Result<(), Fail> {
     Ok(())
 }
 
-// A payload with the enabled flag, the reserved number 7, and one entry in a place from 0.
+/// A payload with the enabled flag, the reserved number 7, and one entry in a place from 0.
 fn payload(enabled: u8, place: u8, len: u8, at: u8) -> [u8; 204]
     requires { place < 25 }
     ensures { length result ≡ 204 }

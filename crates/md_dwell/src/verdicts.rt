@@ -53,7 +53,7 @@ pub(crate) fn own_refusal(window: Window<'_>, instruction: &Instruction) -> Opti
     }
 }
 
-// The refusal of a mask that names no table or one over 4.
+/// The refusal of a mask that names no table or one over 4.
 fn mask_refusal(mask: u16) -> Option<Refusal>
     ensures { result ≡ mask_refusal mask }
 {

@@ -29,7 +29,7 @@ struct Span {
 }
 
 impl Span {
-    // The span with what one operation more writes.
+    /// The span with what one operation more writes.
     fn with(self, op: &MemOp) -> Span
         ensures wider { (result.first ≤ self.first) × (self.end ≤ result.end) }
         ensures holds { 0 < op_len op.now → (result.first ≤ op_at op.now) × (op_at op.now + op_len op.now ≤ result.end) }
@@ -46,7 +46,7 @@ impl Span {
     }
 }
 
-// Where operations write.
+/// Where operations write.
 fn span_of(ops: &[MemOp]) -> Span
     ensures { WriteWithin result.first result.end ops.now }
 {
@@ -60,7 +60,7 @@ fn span_of(ops: &[MemOp]) -> Span
     span
 }
 
-// The banks of a region in which operations with this span may write: from one to before another.
+/// The banks of a region in which operations with this span may write: from one to before another.
 fn busy_banks(at: u32, len: usize, span: Span) -> (usize, usize)
     ensures order { result.0 ≤ result.1 }
     ensures inside { result.1 * bank_size < len + bank_size }
@@ -74,7 +74,7 @@ fn busy_banks(at: u32, len: usize, span: Span) -> (usize, usize)
     (from, to.max(from))
 }
 
-// Enters the gate for banks of a region on which nothing is to land.
+/// Enters the gate for banks of a region on which nothing is to land.
 fn pass_banks<G: Gate>(gate: &G, from: usize, to: usize)
     requires { to ≤ 65536 }
 {
@@ -83,8 +83,8 @@ fn pass_banks<G: Gate>(gate: &G, from: usize, to: usize)
     }
 }
 
-// Lands operations on banks that lie side by side, one after another. The first byte has the address `at`, and the first bank
-// is the one of number `place` in its region.
+/// Lands operations on banks that lie side by side, one after another. The first byte has the address `at`, and the first bank
+/// is the one of number `place` in its region.
 fn land_in_turn<G: Gate>(gate: &G, at: u32, place: u32, landing: &Landing<'_, '_>, bytes: &mut [u8])
     requires place { place * bank_size ≤ at }
     requires fits { at + length bytes.old ≤ 2 ^ 32 }
@@ -105,7 +105,7 @@ fn land_in_turn<G: Gate>(gate: &G, at: u32, place: u32, landing: &Landing<'_, '_
     }
 }
 
-// The same in as many threads as there are workers, each of which lands a run of banks; one worker, and one bank, start no thread.
+/// The same in as many threads as there are workers, each of which lands a run of banks; one worker, and one bank, start no thread.
 fn land_beside<R: Threads + Sync, G: Gate>(
     rt: &R,
     workers: u32,
@@ -139,8 +139,8 @@ fn land_beside<R: Threads + Sync, G: Gate>(
     thread::for_each_chunk_mut(rt, bytes, share, &land);
 }
 
-// Lands operations on a region whose first byte has the address `at`: those banks in which they may write by the workers, each
-// other one is entered alone.
+/// Lands operations on a region whose first byte has the address `at`: those banks in which they may write by the workers, each
+/// other one is entered alone.
 fn land_region<R: Threads + Sync, G: Gate>(
     rt: &R,
     workers: u32,

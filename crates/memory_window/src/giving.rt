@@ -26,14 +26,14 @@ impl Map {
     }
 }
 
-// The region in which a range lies.
+/// The region in which a range lies.
 fn home(regions: &[Region], at: u32, len: u32) -> Option<Region>
     ensures { result ≡ find (spans at len) regions.now }
 {
     regions.iter().copied().find(|region| region.spans(at, len))
 }
 
-// Whether the region in which a read lies gives it.
+/// Whether the region in which a read lies gives it.
 fn fits_read(region: Option<Region>, size: u8, at: u32) -> bool
     requires { IsTrue (is_size size) }
     ensures { result ≡ read_fits size at region }
@@ -44,7 +44,7 @@ fn fits_read(region: Option<Region>, size: u8, at: u32) -> bool
     at % u32::from(size / 8) == 0 && region.kind.allows(size)
 }
 
-// Whether the region in which a range lies gives it.
+/// Whether the region in which a range lies gives it.
 fn fits_range(region: Option<Region>, at: u32, len: u32) -> bool
     ensures { result ≡ bytes_fit at len region }
 {

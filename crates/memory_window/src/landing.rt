@@ -45,7 +45,7 @@ pub fn bank_land(at: u32, bank: &mut [u8], ops: &[MemOp], files: &Files)
     }
 }
 
-// Writes those bytes of an operation that lie in the bank.
+/// Writes those bytes of an operation that lie in the bank.
 fn land_one(at: u32, bank: &mut [u8], op: &MemOp, files: &Files)
     requires fits { at + length bank.old ≤ 2 ^ 32 }
     requires sound { IsSound op.now }
@@ -63,7 +63,7 @@ fn land_one(at: u32, bank: &mut [u8], op: &MemOp, files: &Files)
     }
 }
 
-// Writes the bytes of an operation from the one in place `skip` on.
+/// Writes the bytes of an operation from the one in place `skip` on.
 fn write(part: &mut [u8], op: &MemOp, skip: u32, files: &Files)
     requires sound { IsSound op.now }
     requires backed { IsBacked (loads_of files.now) op.now }
@@ -84,7 +84,7 @@ fn write(part: &mut [u8], op: &MemOp, skip: u32, files: &Files)
     }
 }
 
-// Copies the bytes from the one in place `skip` on.
+/// Copies the bytes from the one in place `skip` on.
 fn copy(part: &mut [u8], bytes: &[u8], skip: u32)
     requires { skip + length part.old ≤ length bytes.now }
     ensures { (k : ℕ) → k < length part.old → slice_index part.new k ≡ slice_index bytes.now (skip + k) }
@@ -93,7 +93,7 @@ fn copy(part: &mut [u8], bytes: &[u8], skip: u32)
     part.copy_from_slice(&bytes[from..from + part.len()]);
 }
 
-// Writes the bytes of a value of `size` bits, the most significant first, from the one in place `skip` on.
+/// Writes the bytes of a value of `size` bits, the most significant first, from the one in place `skip` on.
 fn write_value(part: &mut [u8], size: u8, value: u32, skip: u32)
     requires size { size ≤ 32 }
     requires within { skip + length part.old ≤ size / 8 }

@@ -143,7 +143,7 @@ impl Ram {
     }
 }
 
-// Changes the bytes of each region.
+/// Changes the bytes of each region.
 fn change_store<C: Change>(store: &mut Store, regions: &[Region], change: &C)
     requires whole { total_of regions.now ≡ length store.old }
     requires within { list_any ends_late regions.now ≡ false }
@@ -155,7 +155,7 @@ fn change_store<C: Change>(store: &mut Store, regions: &[Region], change: &C)
     change_all(store.part_mut(0, size), regions, change);
 }
 
-// Lands operations on each region, bank by bank.
+/// Lands operations on each region, bank by bank.
 fn land_store<R: Threads + Sync, G: Gate>(
     rt: &R,
     workers: u32,
@@ -176,7 +176,7 @@ fn land_store<R: Threads + Sync, G: Gate>(
     land_regions(rt, workers, gate, landing, regions, store.part_mut(0, size));
 }
 
-// The flags at the start: EEPROM regions are protected.
+/// The flags at the start: EEPROM regions are protected.
 fn start_flags(regions: &[Region]) -> [bool; MOST_REGIONS]
     requires { length regions.now ≤ 8 }
     ensures flags { take (length regions.now) result ≡ map (λ r. is_eeprom r.kind) regions.now }
@@ -189,7 +189,7 @@ fn start_flags(regions: &[Region]) -> [bool; MOST_REGIONS]
     flags
 }
 
-// Sets and takes away those of the first flags that the operations name.
+/// Sets and takes away those of the first flags that the operations name.
 fn protect_first(flags: &mut [bool; MOST_REGIONS], count: usize, ops: &[MemOp])
     requires count { count ≤ 8 }
     requires eight { length flags.old ≡ 8 }
@@ -199,7 +199,7 @@ fn protect_first(flags: &mut [bool; MOST_REGIONS], count: usize, ops: &[MemOp])
     protect_all(&mut flags[..count], ops);
 }
 
-// Sets and takes away the flags that the operations name, in their order.
+/// Sets and takes away the flags that the operations name, in their order.
 fn protect_all(flags: &mut [bool], ops: &[MemOp])
     ensures { flags.new ≡ protected_by ops.now flags.old }
 {

@@ -240,7 +240,7 @@ fn one_is_unaligned(regions: &[Region]) -> bool
     regions.iter().any(|region| region.is_unaligned())
 }
 
-// The regions, and blank ones up to the eighth place.
+/// The regions, and blank ones up to the eighth place.
 fn padded(regions: &[Region]) -> [Region; MOST_REGIONS]
     requires { length regions.now ≤ 8 }
     ensures { result ≡ regions.now ++ replicate (8 - length regions.now) blank }

@@ -43,7 +43,7 @@ fn read(window: Window<'_>, size: u8, at: u32) -> Result<u32, AccessFault> {
     }
 }
 
-// Lands one operation where it is admitted.
+/// Lands one operation where it is admitted.
 fn change(ram: &mut Ram, op: MemOp, files: &Files) -> Result<(), AccessFault>
     requires ask { CanAsk ram.old op }
     requires backed { IsBacked (loads_of files.now) op }
@@ -53,7 +53,7 @@ fn change(ram: &mut Ram, op: MemOp, files: &Files) -> Result<(), AccessFault>
     Ok(())
 }
 
-// Lands one operation bank by bank where it is admitted.
+/// Lands one operation bank by bank where it is admitted.
 fn change_banks<R: Threads + Sync, G: Gate>(
     rt: &R,
     workers: u32,
@@ -71,7 +71,7 @@ fn change_banks<R: Threads + Sync, G: Gate>(
     Ok(())
 }
 
-// A file whose bytes, this many times this byte, are to be loaded at an address.
+/// A file whose bytes, this many times this byte, are to be loaded at an address.
 fn load_file(alloc: Global, at: u32, len: u16, byte: u8) -> Result<Vec<u8>, Fail> {
     let mut bytes = Vec::new(alloc);
     bytes.resize(usize::from(len), byte)?;
@@ -87,7 +87,7 @@ fn load_file(alloc: Global, at: u32, len: u16, byte: u8) -> Result<Vec<u8>, Fail
     Ok(file)
 }
 
-// Adds a file, where it may be added.
+/// Adds a file, where it may be added.
 fn add_to(files: &mut Files, file: Vec<u8>) -> bool {
     if files.len() < 100 && file.len() <= 65_700 {
         files.add(file).is_ok()
@@ -96,7 +96,7 @@ fn add_to(files: &mut Files, file: Vec<u8>) -> bool {
     }
 }
 
-// Lands the load file of a number where there is one that is admitted.
+/// Lands the load file of a number where there is one that is admitted.
 fn load(ram: &mut Ram, number: u32, files: &Files) -> bool {
     let Some((at, bytes)) = files.load(number) else {
         return false;
@@ -110,7 +110,7 @@ fn load(ram: &mut Ram, number: u32, files: &Files) -> bool {
     change(ram, op, files).is_ok()
 }
 
-// Sets or takes away the protection of a region that has one.
+/// Sets or takes away the protection of a region that has one.
 fn protect(ram: &mut Ram, region: u32, on: bool, files: &Files) -> bool {
     match ram.window().protected(region) {
         Some(_) => change(ram, MemOp::Protect { region, on }, files).is_ok(),
@@ -173,7 +173,7 @@ const KINDS: [Region; 5] = [
     },
 ];
 
-// Memory of every kind in which each byte holds its place in its region, from 1 on.
+/// Memory of every kind in which each byte holds its place in its region, from 1 on.
 fn numbered(rt: &impl Abort, alloc: Global, files: &Files) -> Ram {
     let Ok(map) = Map::new(&KINDS) else {
         panic!(rt; "the regions are a map");
@@ -290,7 +290,7 @@ fn eeprom_protection_is_taken_away_and_set_again(rt: HostRuntime) {
     assert!(rt; ram.window().read8(0x1007) == Ok(3));
 }
 
-// Whether the bytes of a load file of this length may be written from an address on.
+/// Whether the bytes of a load file of this length may be written from an address on.
 fn admits_file(window: Window<'_>, at: u32, len: u32) -> Result<(), AccessFault>
     requires { 0 < len }
 {
@@ -346,7 +346,7 @@ fn operations_land_in_command_order(rt: HostRuntime) {
     );
 }
 
-// The bytes of a range, where they are all this one.
+/// The bytes of a range, where they are all this one.
 fn are_all(window: Window<'_>, at: u32, len: u16, byte: u8) -> bool {
     if len == 0 {
         return true;
@@ -428,7 +428,7 @@ impl Gate for Counting {
     }
 }
 
-// A load across two banks of five, with so many workers.
+/// A load across two banks of five, with so many workers.
 fn load_across<R: Threads + Abort + Sync>(
     rt: &R,
     alloc: Global,
@@ -469,7 +469,7 @@ fn loads_cross_banks_on_workers(rt: HostRuntime) -> Result<(), Fail> {
     load_across(&rt, rt.alloc(), 16, &files)
 }
 
-// Fills over the first banks of a region of 64, with so many workers.
+/// Fills over the first banks of a region of 64, with so many workers.
 fn fill_many<R: Threads + Abort + Sync>(
     rt: &R,
     alloc: Global,

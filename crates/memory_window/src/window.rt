@@ -42,7 +42,7 @@ impl<'a> Window<'a> {
     ghost use Rattle.memory_window.specs.Access.{read_of, bytes_of, is_protected, is_guarded, unless_guarded, admits_of, CanAsk};
     ghost use Rattle.memory_window.specs.Window.{area_of, seen};
 
-    // The window on a block in which the regions lie side by side.
+    /// The window on a block in which the regions lie side by side.
     pub(crate) fn over(regions: &'a [Region], flags: &'a [bool], block: &'a [u8]) -> Window<'a>
         requires few { length regions.now ≤ 8 }
         requires flags { length flags.now ≡ 8 }
@@ -57,7 +57,7 @@ impl<'a> Window<'a> {
         }
     }
 
-    // The part in which a range lies.
+    /// The part in which a range lies.
     fn home(self, at: u32, len: u32) -> Option<Part<'a>>
         ensures area { home (seen self.entry).areas at len ≡ option_map area_of result }
         ensures inside { IfSome result (λ p. (p.region.start ≤ at) × (at + len ≤ p.region.start + length p.bytes.now)) }
@@ -79,7 +79,7 @@ impl<'a> Window<'a> {
         None
     }
 
-    // The part that a read of `size` bits reaches.
+    /// The part that a read of `size` bits reaches.
     fn reach(self, size: u8, at: u32) -> Result<Part<'a>, AccessFault>
         requires { IsTrue (is_size size) }
         ensures ok { IfOk result (λ p. read_of size (seen self.entry) at ≡ Ok (number_of (part_of at (size / 8) (area_of p)))) }
@@ -100,7 +100,7 @@ impl<'a> Window<'a> {
         Ok(part)
     }
 
-    // The part that holds a range.
+    /// The part that holds a range.
     fn reach_range(self, at: u32, len: u32) -> Result<Part<'a>, AccessFault>
         ensures ok { IfOk result (λ p. bytes_of (seen self.entry) at len ≡ Ok (part_of at len (area_of p))) }
         ensures fault { IfErr result (λ fault. bytes_of (seen self.entry) at len ≡ Err fault) }

@@ -45,7 +45,7 @@ pub(crate) fn reply(window: Window<'_>, instruction: &Instruction, now: u32, out
     }
 }
 
-// Puts the packet of a read behind the items, where it meets no fault.
+/// Puts the packet of a read behind the items, where it meets no fault.
 #[tactic(auto, using(bus_pipes::proofs::Deliveries::adding_none, commands::proofs::Heard::one_more_counted), unfolding(bus_pipes::specs::Held::adding))]
 fn reply_read(window: Window<'_>, size: u8, at: u32, now: u32, out: &mut Outbox)
     requires sized { is_size size ≡ true }
@@ -61,7 +61,7 @@ fn reply_read(window: Window<'_>, size: u8, at: u32, now: u32, out: &mut Outbox)
     push_peek(size, at, value, now, out);
 }
 
-// Puts the packets of a range behind the items, where it meets no fault.
+/// Puts the packets of a range behind the items, where it meets no fault.
 #[tactic(auto, using(bus_pipes::proofs::Deliveries::adding_none), unfolding(bus_pipes::specs::Held::adding))]
 fn reply_range(window: Window<'_>, at: u32, len: u32, now: u32, out: &mut Outbox)
     requires sized { is_dump_len len ≡ true }
@@ -77,7 +77,7 @@ fn reply_range(window: Window<'_>, at: u32, len: u32, now: u32, out: &mut Outbox
     dump(bytes, at, now, out);
 }
 
-// Puts the packets of a dump behind the items: parts of 128 bytes from its start, the last one shorter.
+/// Puts the packets of a dump behind the items: parts of 128 bytes from its start, the last one shorter.
 fn dump(bytes: &[u8], at: u32, now: u32, out: &mut Outbox)
     requires most { length bytes.now ≤ 2048 }
     requires ends { at + length bytes.now ≤ 2 ^ 32 }
@@ -94,7 +94,7 @@ fn dump(bytes: &[u8], at: u32, now: u32, out: &mut Outbox)
     }
 }
 
-// The part of a dump that begins in a place.
+/// The part of a dump that begins in a place.
 fn part_from(bytes: &[u8], from: usize) -> &[u8]
     ensures part { result.now ≡ take PART_BYTES (drop from bytes.now) }
     ensures few { length result.now ≤ PART_BYTES }
@@ -102,7 +102,7 @@ fn part_from(bytes: &[u8], from: usize) -> &[u8]
     front(behind(bytes, from), PART_BYTES)
 }
 
-// Puts the packet with the value that a peek read behind the items.
+/// Puts the packet with the value that a peek read behind the items.
 #[tactic(auto, unfolding(crate::specs::Answers::peek_packet, packet_forms::specs::Numbers::be32_bytes, bus_pipes::specs::Counted::is_counted))]
 fn push_peek(size: u8, at: u32, value: u32, now: u32, out: &mut Outbox)
     requires room { length out.old.items < out.old.room }
@@ -116,7 +116,7 @@ fn push_peek(size: u8, at: u32, value: u32, now: u32, out: &mut Outbox)
     push_telemetry(out, MM_PEEK, now, &[size, a, b, c, d, e, f, g, h]);
 }
 
-// The packet with a part of a dump.
+/// The packet with a part of a dump.
 #[tactic(auto, unfolding(crate::specs::Answers::dump_packet, packet_forms::specs::Numbers::be16_bytes, packet_forms::specs::Numbers::be32_bytes, bus_pipes::specs::Counted::is_counted))]
 fn dump_packet(part: &[u8], at: u32, now: u32) -> Packet
     requires { length part.now ≤ PART_BYTES }

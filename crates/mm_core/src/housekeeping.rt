@@ -27,7 +27,7 @@ pub(crate) fn housekeeping(window: Window<'_>, counts: Counts, now: u32) -> Pack
     )
 }
 
-// Bit i - 1 is set for EEPROM region i that isn't protected.
+/// Bit i - 1 is set for EEPROM region i that isn't protected.
 #[tactic(auto, unfolding(crate::specs::Housekeeping::open_regions))]
 fn open_regions(window: Window<'_>) -> u8
     ensures { result ≡ open_regions (seen window.entry) }

@@ -132,7 +132,7 @@ pub(crate) fn leave_operation(files: &Files, instruction: &Instruction, ops: &mu
     }
 }
 
-// Puts the operation that loads the file of a number behind the others, where there is one.
+/// Puts the operation that loads the file of a number behind the others, where there is one.
 fn leave_file(files: &Files, load: u16, ops: &mut Ops)
     requires room { length ops.old < 16 }
     ensures { ops.new ≡ ops.old ++ cons_option (file_operation load (nth (loads_of files.now) load)) [] }

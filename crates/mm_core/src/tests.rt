@@ -11,7 +11,7 @@ use table_files::Files;
 
 const MM: u16 = 0x1888;
 
-// One frame: a wakeup, and the landing of what it left.
+/// One frame: a wakeup, and the landing of what it left.
 fn frame(
     mm: Mm,
     files: &Files,
@@ -217,7 +217,7 @@ fn dump(at: u16, len: u16) -> Packet {
     command(MM, 13, &[0, 0, high, low, 0, 0, c, d])
 }
 
-// The packet of a part of a dump, whose bytes are all this one.
+/// The packet of a part of a dump, whose bytes are all this one.
 fn dumped(now: u32, at: u32, len: u8, byte: u8) -> Out
     requires { len ≤ 128 }
 {
@@ -227,7 +227,7 @@ fn dumped(now: u32, at: u32, len: u8, byte: u8) -> Out
     Out::Made(telemetry(0x088B, now, &payload[..usize::from(len) + 6]))
 }
 
-// A file whose three bytes are to be loaded at an address.
+/// A file whose three bytes are to be loaded at an address.
 fn load_file(alloc: Global, at: u16) -> Result<Vec<u8>, Fail> {
     let mut file = Vec::new(alloc);
     file.extend_from_slice(&[0x63, 0x46, 0x45, 0x31, 0, 0, 0, 100])?;

@@ -14,7 +14,7 @@ pub fn crc16(start: u16, bytes: &[u8]) -> u16
     after_few(after_pieces(start, bytes), &bytes[whole..])
 }
 
-// The check of the bytes that come in whole pieces of 1,024.
+/// The check of the bytes that come in whole pieces of 1,024.
 fn after_pieces(start: u16, bytes: &[u8]) -> u16
     ensures { result ≡ crc_of start (take (length bytes.now / 1024 * 1024) bytes.now) }
 {
@@ -25,7 +25,7 @@ fn after_pieces(start: u16, bytes: &[u8]) -> u16
     crc
 }
 
-// The check of fewer than 1,024 bytes, folded where there are enough of them.
+/// The check of fewer than 1,024 bytes, folded where there are enough of them.
 #[inline(always)]
 fn after_few(start: u16, bytes: &[u8]) -> u16
     requires { length bytes.now < 1024 }
@@ -55,7 +55,7 @@ fn after_looked_up(start: u16, bytes: &[u8]) -> u16
     after_each(after_blocks(start, bytes), &bytes[whole..])
 }
 
-// The check of the bytes that come in whole blocks of eight, each looked up.
+/// The check of the bytes that come in whole blocks of eight, each looked up.
 fn after_blocks(start: u16, bytes: &[u8]) -> u16
     ensures { result ≡ crc_of start (take (length bytes.now / 8 * 8) bytes.now) }
 {
@@ -66,7 +66,7 @@ fn after_blocks(start: u16, bytes: &[u8]) -> u16
     crc
 }
 
-// The check of all bytes, one at a time.
+/// The check of all bytes, one at a time.
 fn after_each(start: u16, bytes: &[u8]) -> u16
     ensures { result ≡ crc_of start bytes.now }
 {
@@ -100,7 +100,7 @@ fn after_eight(crc: u16, bytes: &[u8]) -> u16
                         ^ (entry(2, bytes[5]) ^ (entry(1, bytes[6]) ^ entry(0, bytes[7])))))))
 }
 
-// The check that began with 0, after a byte and k zero bytes.
+/// The check that began with 0, after a byte and k zero bytes.
 #[inline(always)]
 pub(crate) fn entry(k: usize, byte: u8) -> u16
     requires { k < 8 }

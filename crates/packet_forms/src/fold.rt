@@ -34,7 +34,7 @@ pub(crate) fn after_words(start: u16, bytes: &[u8]) -> u16
     after_last(&sums, bytes) ^ odd_part(taken)
 }
 
-// The sums before the first word. The start is added to that word alone.
+/// The sums before the first word. The start is added to that word alone.
 #[inline(always)]
 fn sums_of(start: u16) -> [u16; SUMS]
     ensures first { slice_index result 0 ≡ start }
@@ -45,7 +45,7 @@ fn sums_of(start: u16) -> [u16; SUMS]
     sums
 }
 
-// Takes words away, eight at a time, while more than 22 are left, and gives the exclusive or of what it took.
+/// Takes words away, eight at a time, while more than 22 are left, and gives the exclusive or of what it took.
 #[inline(always)]
 fn fold_front(sums: &mut [u16; SUMS], bytes: &[u8]) -> u16
     requires many { 30 ≤ length bytes.now }
@@ -60,8 +60,8 @@ fn fold_front(sums: &mut [u16; SUMS], bytes: &[u8]) -> u16
     taken.reduce_xor()
 }
 
-// Takes eight words away, from one on, and adds them to what was taken. Each is added to words behind all eight, so that none
-// has to wait for another.
+/// Takes eight words away, from one on, and adds them to what was taken. Each is added to words behind all eight, so that none
+/// has to wait for another.
 #[inline(always)]
 fn fold_eight(sums: &mut [u16; SUMS], taken: u16x8, bytes: &[u8], from: usize) -> u16x8
     requires lanes { length taken ≡ 8 }
@@ -78,7 +78,7 @@ fn fold_eight(sums: &mut [u16; SUMS], taken: u16x8, bytes: &[u8], from: usize) -
     taken ^ here
 }
 
-// Writes eight sums from place `at` on.
+/// Writes eight sums from place `at` on.
 #[inline(always)]
 fn put_eight(sums: &mut [u16], at: usize, eight: u16x8)
     requires { at + 8 ≤ length sums.old }
@@ -87,7 +87,7 @@ fn put_eight(sums: &mut [u16], at: usize, eight: u16x8)
     eight.copy_to_slice(&mut sums[at..at + 8]);
 }
 
-// Eight words from one on, and with each the sums that stand 14 and 15 before it.
+/// Eight words from one on, and with each the sums that stand 14 and 15 before it.
 #[inline(always)]
 fn eight_at(bytes: &[u8], sums: &[u16; SUMS], from: usize) -> u16x8
     requires within { 2 * from + 16 ≤ length bytes.now }
@@ -117,7 +117,7 @@ fn words_at(bytes: &[u8], from: usize) -> u16x8
     u16x8::from_le_bytes(u8x16::from_slice(&bytes[2 * from..]))
 }
 
-// The check of the words that are left.
+/// The check of the words that are left.
 #[inline(always)]
 fn after_last(sums: &[u16; SUMS], bytes: &[u8]) -> u16
     requires many { 30 ≤ length bytes.now }
@@ -131,7 +131,7 @@ fn after_last(sums: &[u16; SUMS], bytes: &[u8]) -> u16
     crc
 }
 
-// Word i, and with it the sums that stand 14 and 15 before it.
+/// Word i, and with it the sums that stand 14 and 15 before it.
 #[inline(always)]
 fn word_at(bytes: &[u8], sums: &[u16; SUMS], i: usize) -> u16
     requires word { 2 * i + 2 ≤ length bytes.now }
@@ -149,7 +149,7 @@ fn after_word(crc: u16, word: u16) -> u16
     entry(1, (both % 256) as u8) ^ entry(0, (both / 256) as u8)
 }
 
-// What the ones of a word add to the check.
+/// What the ones of a word add to the check.
 #[inline(always)]
 fn odd_part(word: u16) -> u16
     ensures { result ≡ odd_part 16 word }

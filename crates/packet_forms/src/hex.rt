@@ -23,7 +23,7 @@ pub fn place_hex(places: &mut [u8], at: usize, bytes: &[u8])
     place_few(places, at + 2 * whole, &bytes[whole..]);
 }
 
-// The same of bytes whose number is a multiple of eight.
+/// The same of bytes whose number is a multiple of eight.
 fn place_eights(places: &mut [u8], at: usize, bytes: &[u8])
     requires eights { length bytes.now / 8 * 8 ≡ length bytes.now }
     requires room { at + 2 * length bytes.now ≤ length places.old }
@@ -39,7 +39,7 @@ fn place_eights(places: &mut [u8], at: usize, bytes: &[u8])
     }
 }
 
-// Writes sixteen digits from place `at` on.
+/// Writes sixteen digits from place `at` on.
 #[inline(always)]
 fn place_lanes(places: &mut [u8], at: usize, digits: u8x16)
     requires lanes { length digits ≡ 16 }
@@ -49,7 +49,7 @@ fn place_lanes(places: &mut [u8], at: usize, digits: u8x16)
     digits.copy_to_slice(&mut places[at..]);
 }
 
-// The hexadecimal digits of eight bytes.
+/// The hexadecimal digits of eight bytes.
 #[inline(always)]
 fn digits_of_eight(bytes: &[u8]) -> u8x16
     requires { length bytes.now ≡ 8 }
@@ -59,7 +59,7 @@ fn digits_of_eight(bytes: &[u8]) -> u8x16
     digits_of_lanes(halves_of(u8x8::from_slice(bytes)))
 }
 
-// The halves of eight bytes, the higher one of each first.
+/// The halves of eight bytes, the higher one of each first.
 #[inline(always)]
 fn halves_of(bytes: u8x8) -> u8x16
     requires { length bytes ≡ 8 }
@@ -79,7 +79,7 @@ fn digits_of_lanes(halves: u8x16) -> u8x16
     u8x16::from_array(DIGITS).swizzle_dyn(halves)
 }
 
-// The same of fewer bytes: of four in a turn, and then of the rest.
+/// The same of fewer bytes: of four in a turn, and then of the rest.
 fn place_few(places: &mut [u8], at: usize, bytes: &[u8])
     requires { at + 2 * length bytes.now ≤ length places.old }
     ensures { places.new ≡ take at places.old ++ (hex bytes.now ++ drop (at + 2 * length bytes.now) places.old) }
@@ -89,7 +89,7 @@ fn place_few(places: &mut [u8], at: usize, bytes: &[u8])
     place_each(places, at + 2 * whole, &bytes[whole..]);
 }
 
-// The same of bytes whose number is a multiple of four.
+/// The same of bytes whose number is a multiple of four.
 fn place_fours(places: &mut [u8], at: usize, bytes: &[u8])
     requires fours { length bytes.now / 4 * 4 ≡ length bytes.now }
     requires room { at + 2 * length bytes.now ≤ length places.old }
@@ -101,7 +101,7 @@ fn place_fours(places: &mut [u8], at: usize, bytes: &[u8])
     }
 }
 
-// The same of four bytes.
+/// The same of four bytes.
 #[inline(always)]
 fn place_four(places: &mut [u8], at: usize, bytes: &[u8])
     requires four { length bytes.now ≡ 4 }
@@ -114,7 +114,7 @@ fn place_four(places: &mut [u8], at: usize, bytes: &[u8])
     place_pair(places, at + 6, digits_of(bytes[3]));
 }
 
-// Writes two digits from place `at` on. A copy of a slice would ask each time whether the two overlap.
+/// Writes two digits from place `at` on. A copy of a slice would ask each time whether the two overlap.
 #[inline(always)]
 fn place_pair(places: &mut [u8], at: usize, pair: [u8; 2])
     requires two { length pair ≡ 2 }
@@ -125,7 +125,7 @@ fn place_pair(places: &mut [u8], at: usize, pair: [u8; 2])
     places[at + 1] = pair[1];
 }
 
-// The same of bytes one at a time.
+/// The same of bytes one at a time.
 fn place_each(places: &mut [u8], at: usize, bytes: &[u8])
     requires { at + 2 * length bytes.now ≤ length places.old }
     ensures { places.new ≡ take at places.old ++ (hex bytes.now ++ drop (at + 2 * length bytes.now) places.old) }
@@ -135,7 +135,7 @@ fn place_each(places: &mut [u8], at: usize, bytes: &[u8])
     }
 }
 
-// The two hexadecimal digits of a byte, in upper case.
+/// The two hexadecimal digits of a byte, in upper case.
 #[inline(always)]
 fn digits_of(byte: u8) -> [u8; 2]
     ensures { result ≡ hex_pair byte }

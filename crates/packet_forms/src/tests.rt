@@ -97,7 +97,7 @@ fn names(rt: HostRuntime) -> Result<(), Fail> {
     Ok(())
 }
 
-// The check value of CRC-16/ARC and of CRC-16/MODBUS, which begins with 0xFFFF, and two frames of Modbus.
+/// The check value of CRC-16/ARC and of CRC-16/MODBUS, which begins with 0xFFFF, and two frames of Modbus.
 #[test]
 fn published_checks(rt: HostRuntime) -> Result<(), Fail> {
     assert_eq!(rt; crc16(0, b"123456789"), 0xBB3D);
@@ -112,7 +112,7 @@ fn published_checks(rt: HostRuntime) -> Result<(), Fail> {
     Ok(())
 }
 
-// A check goes on from that of the first part, wherever the list is cut.
+/// A check goes on from that of the first part, wherever the list is cut.
 #[test]
 fn check_in_two_parts(rt: HostRuntime) -> Result<(), Fail> {
     let text = b"The quick brown fox jumps over the lazy dog";
@@ -123,7 +123,7 @@ fn check_in_two_parts(rt: HostRuntime) -> Result<(), Fail> {
     Ok(())
 }
 
-// Lists of several lengths, with the checks of another program that takes one bit at a time.
+/// Lists of several lengths, with the checks of another program that takes one bit at a time.
 #[test]
 fn long_checks(rt: HostRuntime) -> Result<(), Fail> {
     let mut bytes = [0; 3000];

@@ -135,7 +135,7 @@ impl Block {
     }
 }
 
-// How many of these ends are behind the bytes that a sink took.
+/// How many of these ends are behind the bytes that a sink took.
 #[tactic(auto, unfolding(crate::specs::Blocks::late_in))]
 fn late_among(ends: &[usize], taken: usize) -> usize
     ensures value { result ≡ late_in ends.now taken }

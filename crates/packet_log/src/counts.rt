@@ -101,7 +101,7 @@ impl Log {
         }
     }
 
-    // The count of the next packet of an id, which is counted with it.
+    /// The count of the next packet of an id, which is counted with it.
     fn next_count(&mut self, id: u16) -> u16
         requires { is_counted id ≡ true }
         ensures small { result < 16384 }

@@ -71,7 +71,7 @@ impl Line {
         self.len += piece.len();
     }
 
-    // Appends the bytes in hexadecimal digits.
+    /// Appends the bytes in hexadecimal digits.
     fn append_hex(&mut self, bytes: &[u8])
         requires { length self.old + 2 * length bytes.now ≤ LINE_BYTES }
         ensures value { self.new ≡ self.old ++ hex bytes.now }
@@ -119,7 +119,7 @@ pub fn write_drop(line: &mut Line, head: &[u8], lost: &Dropped)
     line.append("\n".as_bytes());
 }
 
-// Makes the line that of a packet that was sent.
+/// Makes the line that of a packet that was sent.
 #[tactic(auto, unfolding(crate::specs::Lines::packet_line))]
 fn write_packet(line: &mut Line, head: &[u8], packet: &Packet)
     requires { length head.now ≤ HEAD_BYTES }
@@ -132,7 +132,7 @@ fn write_packet(line: &mut Line, head: &[u8], packet: &Packet)
     line.append("\n".as_bytes());
 }
 
-// Makes the line that of a request.
+/// Makes the line that of a request.
 #[tactic(auto, unfolding(crate::specs::Items::request_line))]
 fn write_request(line: &mut Line, head: &[u8], item: &Out)
     requires short { length head.now ≤ HEAD_BYTES }
@@ -145,7 +145,7 @@ fn write_request(line: &mut Line, head: &[u8], item: &Out)
     line.append("\n".as_bytes());
 }
 
-// Appends what a line says of a request.
+/// Appends what a line says of a request.
 #[tactic(auto, unfolding(packet_forms::specs::Names::is_name_text))]
 fn append_request(line: &mut Line, item: &Out)
     requires { length line.old ≤ HEAD_BYTES }
@@ -167,7 +167,7 @@ fn append_request(line: &mut Line, item: &Out)
     }
 }
 
-// What a line calls a pipe.
+/// What a line calls a pipe.
 fn pipe_text(pipe: PipeName) -> &'static str
     ensures value { result.now ≡ pipe_text pipe }
     ensures short { length result.now ≤ 5 }
@@ -182,7 +182,7 @@ fn pipe_text(pipe: PipeName) -> &'static str
     }
 }
 
-// What a line says of why a packet was dropped.
+/// What a line says of why a packet was dropped.
 fn cause_text(full: bool) -> &'static str
     ensures value { result.now ≡ cause_text full }
     ensures short { length result.now ≤ 7 }

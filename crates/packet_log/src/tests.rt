@@ -164,7 +164,7 @@ fn a_block_is_cut_at_each_byte(rt: HostRuntime) -> Result<(), Fail> {
     Ok(())
 }
 
-// What doesn't fit is written behind what waited, and a frame's end behind the 1,024 that were noted.
+/// What doesn't fit is written behind what waited, and a frame's end behind the 1,024 that were noted.
 #[test]
 fn a_full_block_is_handed_on(rt: HostRuntime) -> Result<(), Fail> {
     let mut block = Block::open(rt.alloc())?;

@@ -102,7 +102,7 @@ impl Cursors {
     }
 }
 
-// The soonest of the times of these cursors, the first where several have it.
+/// The soonest of the times of these cursors, the first where several have it.
 fn soonest(all: &[KeptCursor]) -> Option<Due>
     requires { length all.now ≡ 66 }
     ensures { result ≡ soonest (next_times all.now) }
@@ -115,7 +115,7 @@ fn soonest(all: &[KeptCursor]) -> Option<Due>
     best
 }
 
-// The soonest with one time more: the earlier one stays where they are the same.
+/// The soonest with one time more: the earlier one stays where they are the same.
 fn sooner(best: Option<Due>, next: Option<u64>, place: u8) -> Option<Due>
     ensures { (times : List (Option ℕ)) → time_in times place ≡ next → SoonestOf times place best → SoonestOf times (place + 1) result }
 {

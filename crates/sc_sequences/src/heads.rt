@@ -29,7 +29,7 @@ pub(crate) fn cursor_at(
     }
 }
 
-// The time of command `at`, where a sequence goes on with it at the time `now`.
+/// The time of command `at`, where a sequence goes on with it at the time `now`.
 fn next_at(tables: &ScTables<'_>, place: usize, at: u32, now: u32) -> Option<u64>
     requires { place < 66 }
     ensures time { result ≡ first_time (base_at place now) (drop at (commands_in tables.now place)) }
@@ -41,7 +41,7 @@ fn next_at(tables: &ScTables<'_>, place: usize, at: u32, now: u32) -> Option<u64
     Some(base_at(place, now) + u64::from(tables.tag(place, at)))
 }
 
-// What tags count from.
+/// What tags count from.
 fn base_at(place: usize, now: u32) -> u64
     ensures base { result ≡ base_at place now }
     ensures small { result < 4294967296 }

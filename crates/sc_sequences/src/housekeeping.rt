@@ -60,7 +60,7 @@ pub(crate) fn report_on(sequencer: &Sequencer, tables: &ScTables<'_>) -> Report
     }
 }
 
-// The number of the absolute sequence that runs, 0 where none does.
+/// The number of the absolute sequence that runs, 0 where none does.
 fn shown_ats(cursors: &Cursors) -> u8
     ensures { (tables : List (List TimedCommand)) (all : List Sequence) → CursorsStand tables all cursors.now → result ≡ shown_ats (running_ats all) }
 {
@@ -70,7 +70,7 @@ fn shown_ats(cursors: &Cursors) -> u8
     }
 }
 
-// How many of its commands are left.
+/// How many of its commands are left.
 fn left_in(cursors: &Cursors, tables: &ScTables<'_>) -> u16
     ensures { (all : List Sequence) → CursorsStand tables.now all cursors.now → result ≡ left_in all (running_ats all) }
 {
@@ -80,7 +80,7 @@ fn left_in(cursors: &Cursors, tables: &ScTables<'_>) -> u16
     }
 }
 
-// The relative sequences that run, and those that are enabled.
+/// The relative sequences that run, and those that are enabled.
 fn masks_of(cursors: &Cursors) -> Masks
     ensures running { (tables : List (List TimedCommand)) (all : List Sequence) → CursorsStand tables all cursors.now → result.running ≡ running_mask all }
     ensures enabled { (tables : List (List TimedCommand)) (all : List Sequence) → CursorsStand tables all cursors.now → result.enabled ≡ enabled_mask all }
@@ -112,7 +112,7 @@ pub(crate) fn housekeeping(counts: Counts, report: &Report, now: u32) -> Packet
     telemetry(SC_HOUSEKEEPING, now, payload.bytes())
 }
 
-// Puts the commands that are left, those sent, those with a wrong checksum and 0 behind the bytes.
+/// Puts the commands that are left, those sent, those with a wrong checksum and 0 behind the bytes.
 #[tactic(auto, unfolding(packet_forms::specs::Numbers::be16_bytes))]
 fn tell_numbers(payload: &mut Payload, report: &Report)
     requires { length payload.old ≡ 4 }
@@ -125,7 +125,7 @@ fn tell_numbers(payload: &mut Payload, report: &Report)
     payload.append(&[a, b, c, d, e, f, 0, 0]);
 }
 
-// Puts the eight bytes of a number behind the others.
+/// Puts the eight bytes of a number behind the others.
 #[tactic(auto, unfolding(crate::specs::Housekeeping::be64_bytes, packet_forms::specs::Numbers::be32_bytes))]
 fn append_wide(payload: &mut Payload, number: u64)
     requires { length payload.old ≤ 20 }

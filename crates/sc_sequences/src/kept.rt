@@ -102,7 +102,7 @@ impl KeptCursor {
     }
 }
 
-// The span in which a time lies.
+/// The span in which a time lies.
 fn span_of(time: u64) -> Span
     requires { time < 8589934592 }
     ensures { result ≡ span_of (Some time) }

@@ -37,7 +37,7 @@ pub(crate) fn obey(
     }
 }
 
-// Starts absolute sequence `number` without its commands before now.
+/// Starts absolute sequence `number` without its commands before now.
 fn start_ats(cursors: &mut Cursors, tables: &ScTables<'_>, number: u16, now: u32)
     ensures { (all : List Sequence) → CursorsStand tables.now all cursors.old → CursorsStand tables.now (where_placed (ats_place number) (λ place. started_at place now) all) cursors.new }
 {
@@ -47,7 +47,7 @@ fn start_ats(cursors: &mut Cursors, tables: &ScTables<'_>, number: u16, now: u32
     start(cursors, tables, place, now);
 }
 
-// Starts relative sequence `number`.
+/// Starts relative sequence `number`.
 fn start_rts(cursors: &mut Cursors, tables: &ScTables<'_>, number: u16, now: u32)
     ensures { (all : List Sequence) → CursorsStand tables.now all cursors.old → CursorsStand tables.now (where_placed (rts_place number) (λ place. started_at place now) all) cursors.new }
 {
@@ -66,7 +66,7 @@ pub(crate) fn start(cursors: &mut Cursors, tables: &ScTables<'_>, place: usize, 
     go_on(cursors, tables, place, at, now);
 }
 
-// The command with which the sequence in a place begins.
+/// The command with which the sequence in a place begins.
 fn first_at(tables: &ScTables<'_>, place: usize, now: u32) -> u32
     requires { place < 66 }
     ensures left { drop result (commands_in tables.now place) ≡ started_with place now (commands_in tables.now place) }
@@ -89,7 +89,7 @@ pub(crate) fn go_on(cursors: &mut Cursors, tables: &ScTables<'_>, place: usize, 
     cursors.set(place, cursor_at(tables, place, at, now, cursor.enabled));
 }
 
-// Stops the sequence in a place.
+/// Stops the sequence in a place.
 fn stop(cursors: &mut Cursors, place: usize)
     requires { place < 66 }
     ensures { (tables : List (List TimedCommand)) (all : List Sequence) → CursorsStand tables all cursors.old → CursorsStand tables (with_at place stopped all) cursors.new }
@@ -99,7 +99,7 @@ fn stop(cursors: &mut Cursors, place: usize)
     cursors.set(place, cursor);
 }
 
-// Stops relative sequence `number`.
+/// Stops relative sequence `number`.
 fn stop_rts(cursors: &mut Cursors, number: u16)
     ensures { (tables : List (List TimedCommand)) (all : List Sequence) → CursorsStand tables all cursors.old → CursorsStand tables (where_placed (rts_place number) (λ place. with_at place stopped) all) cursors.new }
 {
@@ -109,7 +109,7 @@ fn stop_rts(cursors: &mut Cursors, number: u16)
     stop(cursors, place);
 }
 
-// Lets relative sequence `number` be started or not.
+/// Lets relative sequence `number` be started or not.
 fn allow(cursors: &mut Cursors, number: u16, on: bool)
     ensures { (tables : List (List TimedCommand)) (all : List Sequence) → CursorsStand tables all cursors.old → CursorsStand tables (where_placed (rts_place number) (λ place. with_at place (allowed on)) all) cursors.new }
 {
@@ -121,7 +121,7 @@ fn allow(cursors: &mut Cursors, number: u16, on: bool)
     cursors.set(place, cursor);
 }
 
-// Stops the absolute sequence that runs and starts the other.
+/// Stops the absolute sequence that runs and starts the other.
 fn switch_ats(cursors: &mut Cursors, tables: &ScTables<'_>, now: u32)
     ensures { (all : List Sequence) → CursorsStand tables.now all cursors.old → CursorsStand tables.now (where_placed (running_ats all) (λ place. switched now place) all) cursors.new }
 {
@@ -132,7 +132,7 @@ fn switch_ats(cursors: &mut Cursors, tables: &ScTables<'_>, now: u32)
     start(cursors, tables, 1 - running, now);
 }
 
-// Skips the commands before `time` in the absolute sequence that runs.
+/// Skips the commands before `time` in the absolute sequence that runs.
 fn jump_ats(cursors: &mut Cursors, tables: &ScTables<'_>, time: u32, now: u32)
     ensures { (all : List Sequence) → CursorsStand tables.now all cursors.old → CursorsStand tables.now (where_placed (running_ats all) (λ place. jumped now time place) all) cursors.new }
 {

@@ -44,7 +44,7 @@ impl Sequencer {
     }
 }
 
-// The cursors at the start.
+/// The cursors at the start.
 fn begin(tables: &ScTables<'_>, now: u32) -> Cursors
     ensures { CursorsStand tables.now (at_start (begun_at now tables.now)).all result }
 {

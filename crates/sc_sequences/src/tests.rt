@@ -13,7 +13,7 @@ const SC: u16 = 0x18A9;
 /// Memory Manager, whose no-ops are stored here.
 const MM: u16 = 0x1888;
 
-// Writes an entry of an absolute sequence from place `at` on.
+/// Writes an entry of an absolute sequence from place `at` on.
 fn put_timed(bytes: &mut [u8], at: usize, number: u16, time: u32, packet: &Packet)
     requires { at + 262 ≤ length bytes.old }
 {
@@ -23,7 +23,7 @@ fn put_timed(bytes: &mut [u8], at: usize, number: u16, time: u32, packet: &Packe
     bytes[at + 6..at + 6 + packet.len()].copy_from_slice(packet);
 }
 
-// Writes an entry of a relative sequence from place `at` on.
+/// Writes an entry of a relative sequence from place `at` on.
 fn put_relative(bytes: &mut [u8], at: usize, tag: u16, packet: &Packet)
     requires { at + 258 ≤ length bytes.old }
 {
@@ -32,7 +32,7 @@ fn put_relative(bytes: &mut [u8], at: usize, tag: u16, packet: &Packet)
     bytes[at + 2..at + 2 + packet.len()].copy_from_slice(packet);
 }
 
-// One frame: a wakeup, and what it sent.
+/// One frame: a wakeup, and what it sent.
 fn frame(sc: Sc, tables: &ScTables<'_>, commands: &[Packet], now: u32, out: &mut Outbox) -> Sc
     requires ready { IsReady tables.now sc }
     requires commands { length commands.now ≤ 16 }
@@ -60,7 +60,7 @@ fn made(id: u16, kind: u16, now: u32) -> Out {
     }
 }
 
-// What is sent where a no-op of Memory Manager or of Memory Dwell leaves.
+/// What is sent where a no-op of Memory Manager or of Memory Dwell leaves.
 fn mm_noop() -> Out {
     Out::Stored(command(MM, 0, &[]))
 }
@@ -69,12 +69,12 @@ fn md_noop() -> Out {
     Out::Stored(command(0x1890, 0, &[]))
 }
 
-// The longest command that there is.
+/// The longest command that there is.
 fn longest() -> Packet {
     command(MM, 4, &[0xA5; 248])
 }
 
-// A peek of a byte at 0x1000 and n.
+/// A peek of a byte at 0x1000 and n.
 fn peek(n: u8) -> Packet {
     command(MM, 2, &[8, 0, 0, 0x10, n])
 }
@@ -212,7 +212,7 @@ fn longest_commands_leave_as_they_are_stored(rt: HostRuntime) -> Result<(), Fail
     Ok(())
 }
 
-// Enables and starts eight relative sequences from this one on.
+/// Enables and starts eight relative sequences from this one on.
 fn start_eight(sc: Sc, tables: &ScTables<'_>, first: u8, out: &mut Outbox) -> Sc
     requires ready { IsReady tables.now sc }
     requires first { first ≤ 57 }

@@ -39,7 +39,7 @@ impl Sequencer {
         }
     }
 
-    // The next command of the sequence in a place leaves.
+    /// The next command of the sequence in a place leaves.
     fn leave(&mut self, tables: &ScTables<'_>, place: usize, now: u32, out: &mut Outbox)
         requires started { (s : Sequences) × SequencerStands tables.now s self.old }
         requires within { place < 66 }
@@ -61,7 +61,7 @@ impl Sequencer {
     }
 }
 
-// With which command a sequence goes on behind one: a wrong checksum stops a relative sequence.
+/// With which command a sequence goes on behind one: a wrong checksum stops a relative sequence.
 fn next_behind(tables: &ScTables<'_>, place: usize, at: u32, right: bool) -> u32
     requires place { place < 66 }
     requires within { at < length (commands_in tables.now place) }
@@ -75,7 +75,7 @@ fn next_behind(tables: &ScTables<'_>, place: usize, at: u32, right: bool) -> u32
     count
 }
 
-// Sends what a command gives that leaves: its packet, or the event of its wrong checksum, and then the end of its sequence.
+/// Sends what a command gives that leaves: its packet, or the event of its wrong checksum, and then the end of its sequence.
 #[tactic(auto, using(commands::proofs::Heard::one_more_counted, commands::proofs::Heard::event_behind), unfolding(crate::specs::Turns::head_items, bus_pipes::specs::Held::adding))]
 fn send_head(place: usize, right: bool, packet: &Packet, ends: bool, now: u32, out: &mut Outbox)
     requires room { length out.old.items + 2 ≤ out.old.room }
@@ -97,7 +97,7 @@ fn send_head(place: usize, right: bool, packet: &Packet, ends: bool, now: u32, o
     send_end(place, ends, now, out);
 }
 
-// Sends the event of a sequence that ends, where it does.
+/// Sends the event of a sequence that ends, where it does.
 #[tactic(auto, using(commands::proofs::Heard::event_behind), unfolding(bus_pipes::specs::Held::adding))]
 fn send_end(place: usize, ends: bool, now: u32, out: &mut Outbox)
     requires room { length out.old.items < out.old.room }

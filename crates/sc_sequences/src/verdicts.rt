@@ -68,7 +68,7 @@ pub(crate) fn refusal_in(
     }
 }
 
-// To start absolute sequence `number`.
+/// To start absolute sequence `number`.
 fn start_ats_refusal(
     cursors: &Cursors,
     tables: &ScTables<'_>,
@@ -92,7 +92,7 @@ fn start_ats_refusal(
     None
 }
 
-// To start relative sequence `number`.
+/// To start relative sequence `number`.
 fn start_rts_refusal(cursors: &Cursors, tables: &ScTables<'_>, number: u16) -> Option<Refusal>
     ensures { (all : List Sequence) → CursorsStand tables.now all cursors.now → result ≡ start_rts_refusal all (rts_place number) }
 {
@@ -112,7 +112,7 @@ fn start_rts_refusal(cursors: &Cursors, tables: &ScTables<'_>, number: u16) -> O
     None
 }
 
-// To stop or disable relative sequence `number`.
+/// To stop or disable relative sequence `number`.
 fn number_refusal(number: u16) -> Option<Refusal>
     ensures { result ≡ number_refusal (rts_place number) }
 {
@@ -122,7 +122,7 @@ fn number_refusal(number: u16) -> Option<Refusal>
     }
 }
 
-// To enable relative sequence `number`.
+/// To enable relative sequence `number`.
 fn enable_refusal(tables: &ScTables<'_>, number: u16) -> Option<Refusal>
     ensures { (all : List Sequence) (cursors : List Cursor) → CursorsStand tables.now all cursors → result ≡ enable_refusal all (rts_place number) }
 {
@@ -135,7 +135,7 @@ fn enable_refusal(tables: &ScTables<'_>, number: u16) -> Option<Refusal>
     None
 }
 
-// To switch to the absolute sequence that doesn't run.
+/// To switch to the absolute sequence that doesn't run.
 fn switch_refusal(cursors: &Cursors, tables: &ScTables<'_>, now: u32) -> Option<Refusal>
     ensures { (all : List Sequence) → CursorsStand tables.now all cursors.now → result ≡ switch_refusal now all (running_ats all) }
 {
@@ -152,7 +152,7 @@ fn switch_refusal(cursors: &Cursors, tables: &ScTables<'_>, now: u32) -> Option<
     None
 }
 
-// To jump to a time in the absolute sequence that runs.
+/// To jump to a time in the absolute sequence that runs.
 fn jump_refusal(cursors: &Cursors, tables: &ScTables<'_>, time: u32) -> Option<Refusal>
     ensures { (all : List Sequence) → CursorsStand tables.now all cursors.now → result ≡ jump_refusal time all (running_ats all) }
 {

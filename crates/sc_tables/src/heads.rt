@@ -41,7 +41,7 @@ pub(crate) fn packet_of(bytes: &[u8]) -> Packet
     }
 }
 
-// Whether a command packet of 8 to 256 bytes may begin with these bytes.
+/// Whether a command packet of 8 to 256 bytes may begin with these bytes.
 #[tactic(auto, unfolding(crate::specs::Heads::is_command_head, packet_forms::specs::Packets::version_of, packet_forms::specs::Packets::sequence_flags, packet_forms::specs::Packets::is_command, packet_forms::specs::Packets::message_id))]
 fn is_command_head(bytes: &[u8]) -> bool
     requires { 8 ≤ length bytes.now }

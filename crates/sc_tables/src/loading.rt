@@ -34,7 +34,7 @@ pub fn load_ats(payload: &[u8]) -> Result<Ats<'_>, EntryFault>
     }
 }
 
-// Writes where the entries of a payload stand, as they are stored, and answers how many there are.
+/// Writes where the entries of a payload stand, as they are stored, and answers how many there are.
 fn read_places(payload: &[u8], places: &mut [Place]) -> Result<usize, EntryFault>
     requires { length places.old ≡ 1000 }
     ensures stored { IfOk result (λ count. AreStored payload.now (take count places.new)) }
@@ -63,7 +63,7 @@ fn read_places(payload: &[u8], places: &mut [Place]) -> Result<usize, EntryFault
     Ok(count)
 }
 
-// The fault of the entry behind so many others.
+/// The fault of the entry behind so many others.
 fn fault_behind(count: usize, reason: EntryReason) -> EntryFault
     requires { count ≤ 1000 }
     ensures fault { result ≡ record { entry = count + 1; reason = reason_number reason } }
@@ -75,7 +75,7 @@ fn fault_behind(count: usize, reason: EntryReason) -> EntryFault
     }
 }
 
-// Puts places in the order of their commands.
+/// Puts places in the order of their commands.
 fn put_in_order(places: &mut [Place])
     ensures moved { IsPermutation places.old places.new }
     ensures sorted { IsSortedBy place_before places.new }
@@ -100,7 +100,7 @@ pub fn load_rts(payload: &[u8]) -> Result<Rts<'_>, EntryFault>
     }
 }
 
-// Writes where the entries of a payload stand, and answers how many there are.
+/// Writes where the entries of a payload stand, and answers how many there are.
 fn read_relative_places(payload: &[u8], places: &mut [u16]) -> Result<usize, EntryFault>
     requires payload { length payload.now ≤ 2048 }
     requires places { length places.old ≡ 204 }

@@ -63,7 +63,7 @@ impl<'f> Rts<'f> {
         be16(self.from_entry(k), 0)
     }
 
-    // The bytes of the payload from the entry of command k on.
+    /// The bytes of the payload from the entry of command k on.
     fn from_entry(&self, k: u32) -> &[u8]
         requires { k < length (relative_commands self.now) }
         ensures whole { is_none (relative_reason result.now) ≡ true }

@@ -5,7 +5,7 @@ use table_files::EntryFault;
 
 const NOOP: [u8; 8] = [0x18, 0x88, 0xC0, 0, 0, 1, 0, 0xAE];
 
-// The payload of 1,000 commands at one time, with the highest number first.
+/// The payload of 1,000 commands at one time, with the highest number first.
 fn thousand() -> [u8; 14_000] {
     let mut bytes = [0; 14_000];
     'entries: for k in 0..1_000_u16 {

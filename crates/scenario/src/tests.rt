@@ -336,7 +336,7 @@ fn drill_text(alloc: Global, k: u32, size: usize) -> Result<Vec<u8>, Fail>
     Err("no end".into())
 }
 
-// Lengths and checks of the texts are those of another program, written from the rules alone.
+/// Lengths and checks of the texts are those of another program, written from the rules alone.
 #[test]
 fn drills_have_2000_frames(rt: HostRuntime) -> Result<(), Fail> {
     let text = drill_text(rt.alloc(), 7, 64)?;
