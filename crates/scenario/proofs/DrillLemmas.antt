@@ -1,7 +1,8 @@
 -- The generated scenario, frame after frame and byte after byte.
-use Rattle.std.proofs.Common.{◌≡◌, ◌<◌, ◌≤◌, ◌+◌, ℕ, zero, suc, List, [], ◌++◌, length, take, drop, refl, sym, ap, ◌∙◌, append_assoc, append-nil, arith}
+use Rattle.std.proofs.Common.{◌≡◌, ◌<◌, ◌≤◌, ◌+◌, ℕ, zero, suc, List, [], ◌++◌, length, take, drop, refl, sym, ap, ◌∙◌, append_assoc, append-nil, length-append, arith}
 use Rattle.std.specs.Prelude.{codes}
-use Rattle.std.proofs.lemmas.List.{take-append-drop, drop_all}
+use Rattle.std.proofs.lemmas.List.{take-append-drop, drop_all, length-take-le}
+use Rattle.std.proofs.Math.Seq.{take-append_seam}
 use Rattle.scenario.specs.Drill.{draws_of, frame_lines, frames_text, text_left, drill_header, drill_text}
 
 -- one frame is left: its lines, and `end`
@@ -36,3 +37,20 @@ all_handed lines behind at past = ap (λ (bytes : List ℕ). bytes ++ behind) (d
 pub moved_first : (lines behind taken : List ℕ) (count : ℕ) → taken ≡ take count lines → lines ++ behind ≡ taken ++ (drop count lines ++ behind)
 moved_first lines behind taken count is =
     ap (λ (bytes : List ℕ). bytes ++ behind) (sym (take-append-drop count lines) ∙ ap (λ (bytes : List ℕ). bytes ++ drop count lines) (sym is)) ∙ append_assoc taken (drop count lines) behind
+
+-- more lines are written behind the bytes that the buffer is filled with
+pub filled_more : (text buf new lines behind next : List ℕ) (filled : ℕ) → filled + length lines ≤ length buf
+    → text ≡ take filled buf ++ behind → behind ≡ lines ++ next → new ≡ take filled buf ++ (lines ++ drop (filled + length lines) buf)
+    → text ≡ take (filled + length lines) new ++ next
+filled_more text buf new lines behind next filled room before made written =
+    let size : length (take filled buf ++ lines) ≡ filled + length lines = length-append (take filled buf) lines ∙ ap (λ (n : ℕ). n + length lines) (length-take-le filled buf (omega arith)) in
+    before ∙ ap (λ (xs : List ℕ). take filled buf ++ xs) made
+    ∙ sym (append_assoc (take filled buf) lines next)
+    ∙ ap (λ (xs : List ℕ). xs ++ next) (
+    sym (take-append_seam (take filled buf ++ lines) (drop (filled + length lines) buf))
+    ∙ ap (λ (n : ℕ). take n ((take filled buf ++ lines) ++ drop (filled + length lines) buf)) size
+    ∙ ap (take (filled + length lines)) (append_assoc (take filled buf) lines (drop (filled + length lines) buf) ∙ sym written))
+
+-- nothing is left of lines that were handed out
+pub none_behind : (lines behind : List ℕ) (at : ℕ) → at ≡ length lines → drop at lines ++ behind ≡ behind
+none_behind lines behind at all = all_handed lines behind at (omega (arith, all))

@@ -6,10 +6,10 @@ ghost use Rattle.packet_forms.specs.Built.{command_of};
 ghost use Rattle.packet_forms.specs.Numbers.{be32_bytes};
 ghost use Rattle.scenario.specs.Drill.{drawn, upper, drawn_behind, draws_of, counter_line, upset_line, command_drawn, send_line, frame_lines, text_left, drill_header, drill_text};
 
-use crate::line_buffer::LineBuffer;
+use crate::line_buffer::{LINE_ROOM, LineBuffer};
 use itoa::Buffer;
 use packet_forms::message_ids::MM_COMMAND;
-use packet_forms::{Packet, behind, command};
+use packet_forms::{Packet, behind, command, place};
 use std::marker::Model;
 
 /// How many frames a drill has.
@@ -78,6 +78,11 @@ impl Drill {
         if self.left.frames == 0 {
             return 0;
         }
+        if buf.len() >= LINE_ROOM {
+            let filled = put_frames(&mut self.lines, &mut self.left, buf);
+            self.at = self.lines.len();
+            return filled;
+        }
         make_lines(&mut self.lines, &mut self.left);
         let count = put(self.lines.bytes(), buf);
         self.at = count;
@@ -95,11 +100,33 @@ fn put(bytes: &[u8], buf: &mut [u8]) -> usize
     count
 }
 
+/// Fills the buffer with the lines of whole frames while those of any frame fit, and answers how many bytes they are. No lines are
+/// left to be handed out then.
+fn put_frames(lines: &mut LineBuffer, left: &mut Left, buf: &mut [u8]) -> usize
+    requires some { 0 < left.old.frames }
+    requires room { LINE_ROOM ≤ length buf.old }
+    ensures bound { result ≤ length buf.new }
+    ensures moved { text_left left.old.frames left.old.x ≡ take result buf.new ++ text_left left.new.frames left.new.x }
+    ensures some { 0 < result }
+{
+    let mut filled = 0;
+    'frames: for k in 0..left.frames {
+        if buf.len() - filled < LINE_ROOM {
+            return filled;
+        }
+        make_lines(lines, left);
+        place(buf, filled, lines.bytes());
+        filled += lines.len();
+    }
+    filled
+}
+
 /// Makes the lines of the next frame, and `end` behind those of the last one.
 fn make_lines(lines: &mut LineBuffer, left: &mut Left)
     requires { 0 < left.old.frames }
     ensures text { text_left left.old.frames left.old.x ≡ lines.new ++ text_left left.new.frames left.new.x }
     ensures some { 0 < length lines.new }
+    ensures fewer { left.new.frames + 1 ≡ left.old.frames }
 {
     left.x = make_frame(lines, left.x);
     left.frames -= 1;
