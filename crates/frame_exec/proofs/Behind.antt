@@ -6,7 +6,7 @@ use Rattle.fsw_outside.specs.Told.{WhereTold}
 use Rattle.packet_log.specs.Blocks.{Waiting, Notes, Puts, empty_block, late_in, ends_from, joined, tells}
 use Rattle.packet_log.proofs.Cuts.{ends_none, ends_more}
 use Rattle.scenario.specs.FrameLists.{Frame}
-use Rattle.frame_exec.specs.declared.bench.TheConstants.{DROPS}
+use Rattle.frame_exec.specs.declared.bench.TheConstants.{DROPS, ACTIVATIONS}
 use Rattle.frame_exec.specs.declared.bench.Bench.{Bench}
 use Rattle.fsw_outside.specs.TellingLaws.{told_then}
 use Rattle.frame_exec.specs.Runs.{Setup, State, run_of, frame_lines, log_of}
@@ -20,8 +20,8 @@ nothing_noted : (setup : Setup) (earlier : List Frame) → Notes (ends_from 0 (l
 nothing_noted setup earlier = rw (behind_none setup earlier, ends_none 0) notes_begin
 
 -- the lines that wait are no part of what a run has come to
-pub has_beside : (b : Bench) (block : Waiting) (room : b.drops.room ≡ DROPS) (jobs : b.crew.jobs ≡ 5) (s : State) → Has b s → Has (record b { block = block; drops_room = room; five = jobs }) s
-has_beside b block room jobs s has = record {
+pub has_beside : (b : Bench) (block : Waiting) (room : b.drops.room ≡ DROPS) (jobs : b.crew.jobs ≡ 5) (told : b.activations.room ≡ ACTIVATIONS) (s : State) → Has b s → Has (record b { block = block; drops_room = room; five = jobs; activations_room = told }) s
+has_beside b block room jobs told s has = record {
   number = has.number;
   tables = has.tables;
   apps = record { hs = has.apps.hs; cs = has.apps.cs; sc = has.apps.sc; mm = has.apps.mm; md = has.apps.md };
@@ -30,11 +30,11 @@ has_beside b block room jobs s has = record {
   memory = has.memory;
 }
 
-pub ready_beside : (b : Bench) (block : Waiting) (room : b.drops.room ≡ DROPS) (jobs : b.crew.jobs ≡ 5) → IsReady b → IsReady (record b { block = block; drops_room = room; five = jobs })
-ready_beside b block room jobs ready = record { cs = ready.cs; sc = ready.sc; md = ready.md }
+pub ready_beside : (b : Bench) (block : Waiting) (room : b.drops.room ≡ DROPS) (jobs : b.crew.jobs ≡ 5) (told : b.activations.room ≡ ACTIVATIONS) → IsReady b → IsReady (record b { block = block; drops_room = room; five = jobs; activations_room = told })
+ready_beside b block room jobs told ready = record { cs = ready.cs; sc = ready.sc; md = ready.md; given = ready.given }
 
 -- a bench whose block is empty stands for all frames as earlier ones
-pub begins_behind : (b : Bench) (setup : Setup) (frames : List Frame) → b.epoch ≡ setup.epoch → b.files.now ≡ setup.files → has_failed b ≡ false → Has b (run_of setup frames) → IsReady b → b.block ≡ empty_block → Follows b setup frames []
+pub begins_behind : (b : Bench) (setup : Setup) (frames : List Frame) → b.epoch ≡ setup.epoch → b.tables.files ≡ setup.files → has_failed b ≡ false → Has b (run_of setup frames) → IsReady b → b.block ≡ empty_block → Follows b setup frames []
 begins_behind b setup frames epoch files well has ready empty = record {
   epoch = epoch;
   files = files;
@@ -93,7 +93,7 @@ adds_marked (Err error) text old middle new start between end puts told marked l
 }
 
 -- one later frame more, whose lines were put behind those that wait
-pub follows_next : {E : Type 0} (b : Bench) (setup : Setup) (earlier later : List Frame) (frame : Frame) (text : List ℕ) (old new : Waiting) (before after : Option (List ℕ)) → b.epoch ≡ setup.epoch → b.files.now ≡ setup.files → has_failed b ≡ false
+pub follows_next : {E : Type 0} (b : Bench) (setup : Setup) (earlier later : List Frame) (frame : Frame) (text : List ℕ) (old new : Waiting) (before after : Option (List ℕ)) → b.epoch ≡ setup.epoch → b.tables.files ≡ setup.files → has_failed b ≡ false
     → Has b (run_of setup ((earlier ++ later) ++ frame ∷ [])) → IsReady b → b.block ≡ new → text ≡ frame_lines setup (earlier ++ later) frame
     → Notes (ends_from 0 (lines_behind setup earlier later)) (length (joined (lines_behind setup earlier later))) old → Adds {E = E} (Ok tt) text old new before after → Follows b setup earlier (later ++ frame ∷ [])
 follows_next b setup earlier later frame text old new before after epoch files well has ready same lines notes adds =

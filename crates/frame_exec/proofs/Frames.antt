@@ -1,13 +1,14 @@
 -- A run at one more frame.
-use Rattle.std.proofs.Common.{◌≡◌, ℕ, ◌+◌, ◌<◌, List, [], ◌∷◌, ◌++◌, length, refl, sym, ◌∙◌, ap, subst, fold, arith, add-zero, zero-add, true, false, All, Box, Global}
-use denote.Ref.{Bor}
+use Rattle.std.proofs.Common.{◌≡◌, ℕ, ◌+◌, ◌<◌, List, [], ◌∷◌, ◌++◌, length, refl, sym, ◌∙◌, ap, subst, fold, arith, add-zero, zero-add, true, false, Bool, if◌then◌else◌, All, Box, Global, Option, Some, None}
 use Rattle.std.specs.List.{flat_map}
 use Rattle.std.proofs.lemmas.List.Sums.{fold_push}
 use Rattle.bus_pipes.specs.Pipes.{empty_pipes}
 use Rattle.bus_pipes.specs.Delivery.{drops_from}
 use Rattle.bus_pipes.specs.declared.names.Out.{Out}
 use Rattle.bus_pipes.specs.declared.names.Dropped.{Dropped}
-use Rattle.table_files.specs.Files.{loads_of}
+use Rattle.table_files.specs.Files.{file_at, kind_at, loads_of}
+use Rattle.table_files.specs.declared.kinds.TableKind.{TableKind}
+use Rattle.frame_exec.specs.Activations.{can_activate}
 use Rattle.memory_window.specs.Regions.{is_mapped}
 use Rattle.memory_window.specs.Memory.{Memory, regions_of, start_memory}
 use Rattle.memory_window.specs.declared.regions.Region.{Region}
@@ -30,11 +31,11 @@ use Rattle.cs_slices.specs.declared.state.Cs.{Cs}
 use Rattle.cs_slices.specs.declared.segments.Segment.{Segment}
 use Rattle.md_dwell.specs.declared.state.Md.{Md}
 use Rattle.md_dwell.specs.State.{AllGiven}
-use Rattle.frame_exec.specs.Tables.{TableSet, SetGiven, tables_of}
+use Rattle.frame_exec.specs.Tables.{TableSet, Loaded, AreGiven, with_file, tables_of}
 use Rattle.frame_exec.specs.Ready.{CsIsReady}
 use Rattle.frame_exec.specs.Applications.{hs_stands, cs_stands, sc_stands, mm_stands, md_stands}
 use Rattle.frame_exec.specs.Sending.{upset_by}
-use Rattle.frame_exec.specs.Runs.{Setup, State, beginning, sc_begun, image_at, left_by, sent_at, offers_at, after_frame, run_of, frame_lines, lines_at, operations_at}
+use Rattle.frame_exec.specs.Runs.{Setup, State, active_in, beginning, with_active, after_naming, after_activation, activated_at, after_wakeups, sc_begun, image_at, left_by, sent_at, offers_at, after_frame, run_of, frame_lines, lines_at, operations_at}
 use Rattle.frame_exec.specs.Standing.{AppsStand, Has, IsReady, Stands, CanRun}
 use Rattle.frame_exec.specs.Landable.{CanLand}
 use Rattle.frame_exec.specs.Stages.{KeepsApps, RunsIn, IsSameFrame, Lands, loads_in}
@@ -49,11 +50,41 @@ pub run_none : (setup : Setup) → run_of setup [] ≡ beginning setup
 unfolding run_of
 run_none setup = refl
 
+-- what a line that names a file keeps, where a table that becomes active does
+naming_keeps : {B : Type 0} (f : State → B) (s : State) (file : List ℕ) (named : Option TableKind) → ((kind : TableKind) (tables : TableSet) → f (with_active s kind tables) ≡ f s) → f (after_naming s file named) ≡ f s
+naming_keeps f s file None keeps = refl
+naming_keeps f s file (Some kind) keeps = either (can_activate kind)
+  where
+    either : (can : Bool) → f (if can then with_active s kind (with_file s.tables file) else s) ≡ f s
+    either true = keeps kind (with_file s.tables file)
+    either false = refl
+
+-- and all lines of a frame that do
+activations_keep : {B : Type 0} (f : State → B) (setup : Setup) (s : State) (numbers : List ℕ) → ((t : State) (kind : TableKind) (tables : TableSet) → f (with_active t kind tables) ≡ f t)
+    → f (fold (after_activation setup) s numbers) ≡ f s
+activations_keep f setup s [] keeps = refl
+activations_keep f setup s (n ∷ numbers) keeps =
+    activations_keep f setup (after_activation setup s n) numbers keeps ∙ naming_keeps f s (file_at setup.files n) (kind_at setup.files n) (keeps s)
+
+pub activated_number : (setup : Setup) (s : State) (frame : Frame) → (activated_at setup s frame).number ≡ s.number
+unfolding activated_at
+activated_number setup s frame = activations_keep (λ (t : State). t.number) setup s frame.activations (λ t kind tables. refl)
+
+activated_memory : (setup : Setup) (s : State) (frame : Frame) → (activated_at setup s frame).memory ≡ s.memory
+unfolding activated_at
+activated_memory setup s frame = activations_keep (λ (t : State). t.memory) setup s frame.activations (λ t kind tables. refl)
+
+pub activated_image : (setup : Setup) (s : State) (frame : Frame) → image_at (activated_at setup s frame) frame ≡ image_at s frame
+unfolding image_at
+activated_image setup s frame = ap (λ (m : Memory). fold upset_by m frame.upsets) (activated_memory setup s frame)
+
 -- the number of frames, behind a state
 number_from : (setup : Setup) (s : State) (frames : List Frame) → (fold (after_frame setup) s frames).number ≡ s.number + length frames
-unfolding after_frame
+unfolding after_frame after_wakeups
 number_from setup s [] = sym (add-zero s.number)
-number_from setup s (frame ∷ frames) = number_from setup (after_frame setup s frame) frames ∙ omega arith
+number_from setup s (frame ∷ frames) =
+    let one = activated_number setup s frame in
+    number_from setup (after_frame setup s frame) frames ∙ omega (arith, one)
 
 -- the number of frames of a run
 pub run_number : (setup : Setup) (frames : List Frame) → (run_of setup frames).number ≡ length frames
@@ -70,8 +101,10 @@ regions_same before after upsets is = ap (λ (m : Memory). regions_of m.areas) i
 
 -- a frame leaves the regions
 frame_regions : (setup : Setup) (s : State) (frame : Frame) → regions_of (after_frame setup s frame).memory.areas ≡ regions_of s.memory.areas
-unfolding after_frame image_at
-frame_regions setup s frame = regions-changed _ (fold upset_by s.memory frame.upsets).areas ∙ upset_regions s.memory frame.upsets
+unfolding after_frame after_wakeups image_at
+frame_regions setup s frame =
+    let t = activated_at setup s frame in
+    regions-changed _ (fold upset_by t.memory frame.upsets).areas ∙ upset_regions t.memory frame.upsets ∙ ap (λ (m : Memory). regions_of m.areas) (activated_memory setup s frame)
 
 -- frames leave the regions
 regions_from : (setup : Setup) (s : State) (frames : List Frame) → regions_of (fold (after_frame setup) s frames).memory.areas ≡ regions_of s.memory.areas
@@ -86,11 +119,11 @@ run_regions setup frames = regions_from setup (beginning setup) frames ∙ regio
 -- the states of the applications stand for their histories, where they were kept
 pub apps_kept : (before b : Bench) (s : State) → KeepsApps before b → AppsStand before s → AppsStand b s
 apps_kept before b s kept stand = record {
-  hs = subst (λ (state : Box Hs Global). hs_stands s.tables s.hs state.value) (sym kept.hs) stand.hs;
+  hs = subst (λ (state : Box Hs Global). hs_stands (active_in s) s.hs state.value) (sym kept.hs) stand.hs;
   cs = subst (λ (state : Box Cs Global). cs_stands s.tables s.cs state.value) (sym kept.cs) stand.cs;
   sc = subst (λ (state : Box Sc Global). sc_stands (sc_begun s) s.sc state.value) (sym kept.sc) stand.sc;
   mm = subst (λ (state : Box Mm Global). mm_stands s.tables s.mm state.value) (sym kept.mm) stand.mm;
-  md = subst (λ (state : Box Md Global). md_stands s.tables s.md state.value) (sym kept.md) stand.md;
+  md = subst (λ (state : Box Md Global). md_stands (active_in s) s.md state.value) (sym kept.md) stand.md;
 }
 
 -- CS can be woken on the same tables in memory of the same regions
@@ -103,26 +136,28 @@ cs_ready_by regions others eeprom memory other_eeprom other_memory cs a b c read
 -- the applications can be woken, where their states, the tables and the regions were kept
 pub ready_by : (before b : Bench) → regions_of b.ram.areas ≡ regions_of before.ram.areas → b.tables ≡ before.tables → KeepsApps before b → IsReady before → IsReady b
 ready_by before b same tables kept ready = record {
-  cs = subst (λ (state : Box Cs Global). CsIsReady (regions_of b.ram.areas) b.tables.eeprom b.tables.memory state.value) (sym kept.cs)
-      (cs_ready_by _ _ _ _ _ _ before.cs.state.value same (ap (λ (t : TableSet). t.eeprom) tables) (ap (λ (t : TableSet). t.memory) tables) ready.cs);
-  sc = subst (λ (t : TableSet). ScIsReady t.sc b.sc.state.value) (sym tables) (subst (λ (state : Box Sc Global). ScIsReady before.tables.sc state.value) (sym kept.sc) ready.sc);
+  cs = subst (λ (state : Box Cs Global). CsIsReady (regions_of b.ram.areas) b.tables.set.eeprom b.tables.set.memory state.value) (sym kept.cs)
+      (cs_ready_by _ _ _ _ _ _ before.cs.state.value same (ap (λ (t : Loaded). t.set.eeprom) tables) (ap (λ (t : Loaded). t.set.memory) tables) ready.cs);
+  sc = subst (λ (t : Loaded). ScIsReady t.set.sc b.sc.state.value) (sym tables) (subst (λ (state : Box Sc Global). ScIsReady before.tables.set.sc state.value) (sym kept.sc) ready.sc);
   md = subst (λ (regions : List Region). AllGiven regions b.md.state.value) (sym same) (subst (λ (state : Box Md Global). AllGiven (regions_of before.ram.areas) state.value) (sym kept.md) ready.md);
+  given = subst (λ (regions : List Region). AreGiven regions b.tables) (sym same) (subst (AreGiven (regions_of before.ram.areas)) (sym tables) ready.given);
 }
 
 -- the lines of a frame, by what was sent and dropped
-pub lines_are : (setup : Setup) (frames : List Frame) (frame : Frame) (number : ℕ) (sent : List Out) (drops : List Dropped) → number ≡ (run_of setup frames).number → sent ≡ sent_at setup (run_of setup frames) frame
-    → drops ≡ drops_from (left_by frame.held (run_of setup frames).pipes) (offers_at setup (run_of setup frames) frame) → flat_map (item_line number) sent ++ flat_map (drop_line number) drops ≡ frame_lines setup frames frame
+pub lines_are : (setup : Setup) (frames : List Frame) (frame : Frame) (number : ℕ) (sent : List Out) (drops : List Dropped) → number ≡ (run_of setup frames).number
+    → sent ≡ sent_at setup (activated_at setup (run_of setup frames) frame) frame
+    → drops ≡ drops_from (left_by frame.held (activated_at setup (run_of setup frames) frame).pipes) (offers_at setup (activated_at setup (run_of setup frames) frame) frame) → flat_map (item_line number) sent ++ flat_map (drop_line number) drops ≡ frame_lines setup frames frame
 unfolding frame_lines lines_at
-lines_are setup frames frame number sent drops a b c = rw (a, b, c) refl
+lines_are setup frames frame number sent drops a b c = rw (a ∙ sym (activated_number setup (run_of setup frames) frame), b, c) refl
 
--- the bench has what the run has come to after one more frame
+-- the bench has what the run has come to after the wakeups of a frame
 pub has_after : (before b : Bench) (setup : Setup) (s : State) (frame : Frame) → KeepsApps before b → b.bus ≡ before.bus → b.log ≡ before.log → b.ram ≡ land (loads_of setup.files) before.ops.value before.ram
-    → b.number ≡ s.number + 1 → b.tables ≡ s.tables → RunsIn setup s frame before → Has b (after_frame setup s frame)
-unfolding after_frame
+    → b.number ≡ s.number + 1 → b.tables.set ≡ s.tables → RunsIn setup s frame before → Has b (after_wakeups setup s frame)
+unfolding after_wakeups
 has_after before b setup s frame kept pipes log memory number tables ran = record {
   number = number;
   tables = tables;
-  apps = apps_kept before b (after_frame setup s frame) kept ran.apps;
+  apps = apps_kept before b (after_wakeups setup s frame) kept ran.apps;
   pipes = pipes ∙ ran.pipes;
   made = subst (LogStands _) (sym log) ran.made;
   memory = memory ∙ ap (λ (xs : List MemOp). land (loads_of setup.files) xs before.ram) ran.operations ∙ ap (λ (m : Memory). land (loads_of setup.files) (operations_at setup s frame) m) ran.memory;
@@ -139,16 +174,17 @@ module _ (before middle b : Bench) (setup : Setup) (frames : List Frame) (frame 
 
   landed : b.ram ≡ land (loads_in before) before.ops.value before.ram
   landed =
-      lands.memory ∙ ap (λ (fs : Bor (List (List ℕ))). land (loads_of fs.now) middle.ops.value middle.ram) same.files ∙ ap (λ (ops : List MemOp). land (loads_in before) ops middle.ram) same.operations
+      lands.memory ∙ ap (λ (t : Loaded). land (loads_of t.files) middle.ops.value middle.ram) same.tables ∙ ap (λ (ops : List MemOp). land (loads_in before) ops middle.ram) same.operations
       ∙ ap (λ (m : Memory). land (loads_in before) before.ops.value m) same.memory
 
   tables_same : b.tables ≡ before.tables
   tables_same = lands.tables ∙ same.tables
 
-  pub has_next : before.files.now ≡ setup.files → before.number ≡ (run_of setup frames).number → before.tables ≡ (run_of setup frames).tables → RunsIn setup (run_of setup frames) frame before → Has b (run_of setup (frames ++ frame ∷ []))
-  has_next files number tables ran =
+  pub has_next : before.tables.files ≡ setup.files → before.number ≡ (run_of setup frames).number → RunsIn setup (activated_at setup (run_of setup frames) frame) frame before → Has b (run_of setup (frames ++ frame ∷ []))
+  unfolding after_frame
+  has_next files number ran =
       subst (Has b) (sym (run_more setup frames frame))
-      (has_after before b setup (run_of setup frames) frame kept (lands.pipes ∙ same.pipes) (lands.log ∙ same.log) (landed ∙ ap (λ (fs : List (List ℕ)). land (loads_of fs) before.ops.value before.ram) files) (lands.number ∙ ap (λ (n : ℕ). n + 1) (same.number ∙ number)) (tables_same ∙ tables) ran)
+      (has_after before b setup (activated_at setup (run_of setup frames) frame) frame kept (lands.pipes ∙ same.pipes) (lands.log ∙ same.log) (landed ∙ ap (λ (fs : List (List ℕ)). land (loads_of fs) before.ops.value before.ram) files) (lands.number ∙ ap (λ (n : ℕ). n + 1) (same.number ∙ number ∙ sym (activated_number setup (run_of setup frames) frame))) (ap (λ (t : Loaded). t.set) tables_same ∙ ran.tables) ran)
 
   pub ready_next : IsReady before → IsReady b
   ready_next ready = ready_by before b (ap (λ (m : Memory). regions_of m.areas) landed ∙ regions-changed _ before.ram.areas) tables_same kept ready
@@ -156,13 +192,13 @@ module _ (before middle b : Bench) (setup : Setup) (frames : List Frame) (frame 
 -- what can be landed on the frame's image can be once its lines were given away
 pub can_land_still : (before middle : Bench) → IsSameFrame before middle → CanLand (loads_in before) before.ram before.ops.value → CanLand (loads_in middle) middle.ram middle.ops.value
 can_land_still before middle same can =
-    subst (λ (fs : Bor (List (List ℕ))). CanLand (loads_of fs.now) middle.ram middle.ops.value) (sym same.files)
+    subst (λ (t : Loaded). CanLand (loads_of t.files) middle.ram middle.ops.value) (sym same.tables)
     (subst (λ (m : Memory). CanLand (loads_in before) m middle.ops.value) (sym same.memory) (subst (λ (ops : List MemOp). CanLand (loads_in before) before.ram ops) (sym same.operations) can))
 
 -- a bench that was opened stands for no frames
-pub stands_opened : (b : Bench) (setup : Setup) → b.epoch ≡ setup.epoch → b.files.now ≡ setup.files → b.failed ≡ false → b.block ≡ empty_block → b.number ≡ 0 → b.tables ≡ tables_of setup.files
-    → hs_stands b.tables [] b.hs.state.value → cs_stands b.tables [] b.cs.state.value → sc_stands (begun_at setup.epoch b.tables.sc) [] b.sc.state.value → mm_stands b.tables [] b.mm.state.value → md_stands b.tables [] b.md.state.value
-    → SetGiven setup.regions b.tables → ScIsReady b.tables.sc b.sc.state.value → AllGiven setup.regions b.md.state.value → b.bus ≡ empty_pipes → LogStands [] b.log → b.ram ≡ start_memory setup.regions → Stands b setup []
+pub stands_opened : (b : Bench) (setup : Setup) → b.epoch ≡ setup.epoch → b.tables.files ≡ setup.files → b.failed ≡ false → b.block ≡ empty_block → b.number ≡ 0 → b.tables.set ≡ tables_of setup.files
+    → hs_stands (record { first = b.tables.set; now = b.tables.set }) [] b.hs.state.value → cs_stands b.tables.set [] b.cs.state.value → sc_stands (begun_at setup.epoch b.tables.set.sc) [] b.sc.state.value → mm_stands b.tables.set [] b.mm.state.value
+    → md_stands (record { first = b.tables.set; now = b.tables.set }) [] b.md.state.value → AreGiven setup.regions b.tables → ScIsReady b.tables.set.sc b.sc.state.value → AllGiven setup.regions b.md.state.value → b.bus ≡ empty_pipes → LogStands [] b.log → b.ram ≡ start_memory setup.regions → Stands b setup []
 unfolding run_of beginning
 stands_opened b setup epoch files well waits number tables hs cs sc mm md given sequences dwells pipes made memory =
     let same : regions_of b.ram.areas ≡ setup.regions = ap (λ (m : Memory). regions_of m.areas) memory ∙ regions-cut setup.regions _ in
@@ -175,20 +211,21 @@ stands_opened b setup epoch files well waits number tables hs cs sc mm md given 
         number = number;
         tables = tables;
         apps = record {
-          hs = subst (λ (t : TableSet). hs_stands t [] b.hs.state.value) tables hs;
+          hs = subst (λ (t : TableSet). hs_stands (record { first = t; now = t }) [] b.hs.state.value) tables hs;
           cs = subst (λ (t : TableSet). cs_stands t [] b.cs.state.value) tables cs;
           sc = subst (λ (t : TableSet). sc_stands (begun_at setup.epoch t.sc) [] b.sc.state.value) tables sc;
           mm = mm;
-          md = subst (λ (t : TableSet). md_stands t [] b.md.state.value) tables md;
+          md = subst (λ (t : TableSet). md_stands (record { first = t; now = t }) [] b.md.state.value) tables md;
         };
         pipes = pipes;
         made = made;
         memory = memory;
       };
       ready = record {
-        cs = cs_ready_by setup.regions (regions_of b.ram.areas) b.tables.eeprom b.tables.memory b.tables.eeprom b.tables.memory b.cs.state.value same refl refl (record { started = ([], cs); first = given.eeprom; second = given.memory });
+        cs = cs_ready_by setup.regions (regions_of b.ram.areas) b.tables.set.eeprom b.tables.set.memory b.tables.set.eeprom b.tables.set.memory b.cs.state.value same refl refl (record { started = ([], cs); first = given.set.eeprom; second = given.set.memory });
         sc = sequences;
         md = subst (λ (regions : List Region). AllGiven regions b.md.state.value) (sym same) dwells;
+        given = subst (λ (regions : List Region). AreGiven regions b.tables) (sym same) given;
       };
     }
 

@@ -1,5 +1,5 @@
 -- Where no entry of the files is refused, memory gives what their tables read.
-use Rattle.std.proofs.Common.{◌≡◌, ℕ, ◌+◌, ◌-◌, true, List, [], ◌∷◌, replicate, map, Option, Some, None, refl}
+use Rattle.std.proofs.Common.{◌≡◌, ℕ, ◌+◌, ◌-◌, ◌<◌, length, get_or, true, List, [], ◌∷◌, replicate, map, Option, Some, None, refl, sym, ◌∙◌, ap, subst}
 use Rattle.std.specs.Prelude.{slice_set}
 use Rattle.std.specs.List.{AllPass}
 use Rattle.std.proofs.lemmas.List.Elements.{All-set, All-replicate}
@@ -24,7 +24,7 @@ use Rattle.cs_slices.proofs.Refusing.{none_refused as no_segment_refused}
 use Rattle.table_files.specs.declared.kinds.TableKind.{TableKind}
 use Rattle.table_files.specs.declared.kinds.TableKind.TheVariants.{AppMon, EventMon, ExeCount, MsgActs, Ats, Rts, Dwell, Eeprom, Memory}
 use Rattle.table_files.specs.Headers.{kind_of_file, payload_of_file}
-use Rattle.frame_exec.specs.Tables.{TableSet, SetGiven, blank_tables, by_kind, by_file, where_well, with_table, tables_of, said_or, first_said, refused_entry, refused_in, region_fault}
+use Rattle.frame_exec.specs.Tables.{TableSet, Loaded, AreLoaded, AreGiven, SetGiven, blank_tables, by_kind, by_file, where_well, with_table, with_file, tables_of, said_or, first_said, refused_entry, refused_in, region_fault}
 
 -- one table more
 module _ (regions : List Region) (tables : TableSet) (given : SetGiven regions tables) where
@@ -72,7 +72,7 @@ module _ (regions : List Region) (tables : TableSet) (given : SetGiven regions t
   kind_given (Some kind) payload none = table_given kind payload none
 
 -- nothing is said of any file
-said_parts : {A : Type 0} (n : ℕ) (said : Option A) (behind : Option (ℕ × A)) → said_or n said behind ≡ None → (said ≡ None) × (behind ≡ None)
+pub said_parts : {A : Type 0} (n : ℕ) (said : Option A) (behind : Option (ℕ × A)) → said_or n said behind ≡ None → (said ≡ None) × (behind ≡ None)
 said_parts n None behind none = (refl, none)
 said_parts n (Some said) behind none = cc
 
@@ -105,6 +105,23 @@ files_given regions (file ∷ files) n none =
     let parts = said_parts n (refused_in regions file) (first_said (refused_in regions) (n + 1) files) none in
     kind_given regions (tables_of files) (files_given regions files (n + 1) parts.1) (kind_of_file file) (payload_of_file file) parts.0
 
-pub given_tables : (regions : List Region) (files : List (List ℕ)) → region_fault regions files ≡ None → SetGiven regions (tables_of files)
+given_tables : (regions : List Region) (files : List (List ℕ)) → region_fault regions files ≡ None → SetGiven regions (tables_of files)
 unfolding region_fault
 given_tables regions files none = files_given regions files 1 none
+
+-- tables that were loaded
+pub given_loaded : (regions : List Region) (files : List (List ℕ)) (tables : Loaded) → AreLoaded files tables → region_fault regions files ≡ None → AreGiven regions tables
+given_loaded regions files tables loaded none = record {
+  set = subst (SetGiven regions) (sym loaded.named) (given_tables regions files none);
+  named = ap (region_fault regions) loaded.kept ∙ none;
+}
+
+-- the table of one file more
+pub file_given : (regions : List Region) (tables : TableSet) → SetGiven regions tables → (file : List ℕ) → refused_in regions file ≡ None → SetGiven regions (with_file tables file)
+unfolding by_file
+file_given regions tables given file none = kind_given regions tables given (kind_of_file file) (payload_of_file file) none
+
+-- one of the dwell tables
+pub given_at : (regions : List Region) (dwells : List DwellTable) (i : ℕ) (table : DwellTable) → TablesGiven regions dwells → i < length dwells → table ≡ get_or dwells i table → AllPass (is_given regions) table.entries
+unfolding TablesGiven
+given_at regions dwells i table all within is = subst (λ (t : DwellTable). AllPass (is_given regions) t.entries) (sym is) (all i table within)

@@ -13,3 +13,5 @@ pub mod Frames
 pub mod Stepping
 pub mod Behind
 pub mod Taking
+pub mod Activating
+pub mod Naming

@@ -1,9 +1,10 @@
 -- The applications of the bench, woken in a frame.
 use Rattle.std.proofs.Common.{◌≡◌, ℕ, ◌+◌, List, ◌++◌, ◌∙◌, ap, subst, sym, refl}
-use denote.Ref.{Bor}
 use Rattle.std.specs.List.{flat_map}
 use Rattle.bus_pipes.specs.Delivery.{after_offers, drops_from}
+use Rattle.bus_pipes.specs.Held.{Held}
 use Rattle.bus_pipes.specs.declared.names.Out.{Out}
+use Rattle.frame_exec.specs.Activations.{table_events}
 use Rattle.packet_log.specs.Sent.{makes}
 use Rattle.packet_log.specs.Standing.{Stands as LogStands}
 use Rattle.frame_exec.specs.Sending.{packet_in, sent_of}
@@ -14,10 +15,10 @@ use Rattle.mm_core.specs.Step.{mm_operations}
 use Rattle.scenario.specs.declared.frame.App.TheVariants as names
 use Rattle.scenario.specs.FrameLists.{Frame}
 use Rattle.frame_exec.specs.declared.bench.Bench.{Bench}
-use Rattle.frame_exec.specs.Tables.{TableSet}
+use Rattle.frame_exec.specs.Tables.{TableSet, Loaded}
 use Rattle.frame_exec.specs.Applications.{hs_stands, cs_stands, sc_stands, mm_stands, md_stands, hs_gives, cs_gives, sc_gives, mm_gives, md_gives, hs_reads, cs_reads, sc_reads, mm_reads, md_reads}
 use Rattle.frame_exec.specs.Wakes.{HasTaken, IsWoken, unless, joined}
-use Rattle.frame_exec.specs.Runs.{Setup, State, is_held, sc_begun, time_at, image_at, hs_input_at, cs_input_at, sc_input_at, mm_input_at, md_input_at, items_at, operations_at, left_by, sent_at, offers_at, after_frame}
+use Rattle.frame_exec.specs.Runs.{Setup, State, is_held, active_in, sc_begun, time_at, image_at, hs_input_at, cs_input_at, sc_input_at, mm_input_at, md_input_at, items_at, operations_at, left_by, sent_at, offers_at, after_wakeups}
 use Rattle.frame_exec.specs.Standing.{AppsStand}
 use Rattle.frame_exec.specs.Stages.{Takes, Steps, Sends, RunsIn, loads_in, time_of, items_in}
 use Rattle.frame_exec.proofs.Frames.{apps_kept}
@@ -25,16 +26,17 @@ use Rattle.frame_exec.proofs.Waking.{woken_state, woken_items, woken_beside, see
 
 -- A bench that has what a run has come to but for the frame's upsets, which are written; then what the applications took, and then that
 -- they were woken.
-module _ (setup : Setup) (s : State) (frame : Frame) (start took stepped : Bench) (epoch : start.epoch ≡ setup.epoch) (files : start.files.now ≡ setup.files) (number : start.number ≡ s.number) (tables : start.tables ≡ s.tables) (pipes : start.bus ≡ s.pipes)
-    (image : start.ram ≡ image_at s frame) (apps : AppsStand start s) (takes : Takes frame.held start took) (steps : Steps frame.counters took stepped) where
-  same_tables : took.tables ≡ s.tables
-  same_tables = takes.run.tables ∙ tables
+module _ (setup : Setup) (s : State) (frame : Frame) (start took stepped : Bench) (epoch : start.epoch ≡ setup.epoch) (files : start.tables.files ≡ setup.files) (number : start.number ≡ s.number) (tables : start.tables.set ≡ s.tables) (pipes : start.bus ≡ s.pipes)
+    (image : start.ram ≡ image_at s frame) (apps : AppsStand start s)
+    (events : start.activations.items ≡ table_events setup.files (time_at setup s) frame.activations) (takes : Takes frame.held start took) (steps : Steps frame.counters took stepped) where
+  same_tables : took.tables.set ≡ s.tables
+  same_tables = ap (λ (t : Loaded). t.set) takes.run.tables ∙ tables
 
   same_time : time_of took ≡ time_at setup s
   same_time = ap (λ (e : ℕ). e + took.number) (takes.run.epoch ∙ epoch) ∙ ap (λ (n : ℕ). setup.epoch + n) (takes.run.number ∙ number)
 
   same_loads : loads_in took ≡ loads_of setup.files
-  same_loads = ap (λ (fs : Bor (List (List ℕ))). loads_of fs.now) takes.run.files ∙ ap loads_of files
+  same_loads = ap (λ (t : Loaded). loads_of t.files) takes.run.tables ∙ ap loads_of files
 
   same_image : took.ram ≡ image_at s frame
   same_image = takes.memory ∙ image
@@ -57,16 +59,16 @@ module _ (setup : Setup) (s : State) (frame : Frame) (start took stepped : Bench
   md_took : HasTaken (is_held names.Md frame) s.pipes.md took.md.held took.md.commands took.md.out.items
   md_took = subst (λ (p : Pipes). HasTaken (is_held names.Md frame) p.md took.md.held took.md.commands took.md.out.items) pipes takes.md
 
-  hs_woken : IsWoken (hs_stands s.tables) (hs_gives s.tables) took.hs.held (hs_reads (time_at setup s) took.hs.commands s.pipes.hs_ev frame.counters) took.hs.state.value stepped.hs.state.value stepped.hs.out.items
+  hs_woken : IsWoken (hs_stands (active_in s)) (hs_gives (active_in s)) took.hs.held (hs_reads (time_at setup s) took.hs.commands s.pipes.hs_ev frame.counters) took.hs.state.value stepped.hs.state.value stepped.hs.out.items
   hs_woken =
-      seen_by (hs_stands s.tables) (hs_gives s.tables) (λ events. hs_reads (time_at setup s) took.hs.commands events frame.counters) (is_held names.Hs frame) took.hs.held took.events s.pipes.hs_ev took.hs.state.value
+      seen_by (hs_stands (active_in s)) (hs_gives (active_in s)) (λ events. hs_reads (time_at setup s) took.hs.commands events frame.counters) (is_held names.Hs frame) took.hs.held took.events s.pipes.hs_ev took.hs.state.value
       stepped.hs.state.value stepped.hs.out.items hs_took.same (λ free. takes.events free ∙ ap (λ (p : Pipes). p.hs_ev) pipes)
-      (moved (λ (t : TableSet) (n : ℕ) (m : Memory). IsWoken (hs_stands t) (hs_gives t) took.hs.held (hs_reads n took.hs.commands took.events frame.counters) took.hs.state.value stepped.hs.state.value stepped.hs.out.items)
-      took.tables s.tables (time_of took) (time_at setup s) took.ram (image_at s frame) same_tables same_time same_image steps.hs)
+      (subst (λ (n : ℕ). IsWoken (hs_stands (active_in s)) (hs_gives (active_in s)) took.hs.held (hs_reads n took.hs.commands took.events frame.counters) took.hs.state.value stepped.hs.state.value stepped.hs.out.items) same_time
+      (steps.hs (active_in s) (ap (λ (t : TableSet). t.hs) (sym same_tables))))
 
   cs_woken : IsWoken (cs_stands s.tables) (cs_gives s.tables) took.cs.held (cs_reads (time_at setup s) took.cs.commands (image_at s frame)) took.cs.state.value stepped.cs.state.value stepped.cs.out.items
   cs_woken = moved (λ (t : TableSet) (n : ℕ) (m : Memory). IsWoken (cs_stands t) (cs_gives t) took.cs.held (cs_reads n took.cs.commands m) took.cs.state.value stepped.cs.state.value stepped.cs.out.items)
-      took.tables s.tables (time_of took) (time_at setup s) took.ram (image_at s frame) same_tables same_time same_image steps.cs
+      took.tables.set s.tables (time_of took) (time_at setup s) took.ram (image_at s frame) same_tables same_time same_image steps.cs
 
   sc_woken : IsWoken (sc_stands (sc_begun s)) (sc_gives (sc_begun s)) took.sc.held (sc_reads (time_at setup s) took.sc.commands) took.sc.state.value stepped.sc.state.value stepped.sc.out.items
   sc_woken =
@@ -77,16 +79,16 @@ module _ (setup : Setup) (s : State) (frame : Frame) (start took stepped : Bench
   mm_woken =
       subst (λ (loads : List (ℕ × List ℕ)). IsWoken (mm_stands s.tables) (mm_gives s.tables) took.mm.held (mm_reads loads (time_at setup s) took.mm.commands (image_at s frame)) took.mm.state.value stepped.mm.state.value stepped.mm.out.items) same_loads
       (moved (λ (t : TableSet) (n : ℕ) (m : Memory). IsWoken (mm_stands t) (mm_gives t) took.mm.held (mm_reads (loads_in took) n took.mm.commands m) took.mm.state.value stepped.mm.state.value stepped.mm.out.items)
-      took.tables s.tables (time_of took) (time_at setup s) took.ram (image_at s frame) same_tables same_time same_image (steps.mm took.tables))
+      took.tables.set s.tables (time_of took) (time_at setup s) took.ram (image_at s frame) same_tables same_time same_image (steps.mm took.tables.set))
 
-  md_woken : IsWoken (md_stands s.tables) (md_gives s.tables) took.md.held (md_reads (time_at setup s) took.md.commands (image_at s frame)) took.md.state.value stepped.md.state.value stepped.md.out.items
-  md_woken = moved (λ (t : TableSet) (n : ℕ) (m : Memory). IsWoken (md_stands t) (md_gives t) took.md.held (md_reads n took.md.commands m) took.md.state.value stepped.md.state.value stepped.md.out.items)
-      took.tables s.tables (time_of took) (time_at setup s) took.ram (image_at s frame) same_tables same_time same_image (steps.md took.tables)
+  md_woken : IsWoken (md_stands (active_in s)) (md_gives (active_in s)) took.md.held (md_reads (time_at setup s) took.md.commands (image_at s frame)) took.md.state.value stepped.md.state.value stepped.md.out.items
+  md_woken = moved (λ (t : TableSet) (n : ℕ) (m : Memory). IsWoken (md_stands (active_in s)) (md_gives (active_in s)) took.md.held (md_reads n took.md.commands m) took.md.state.value stepped.md.state.value stepped.md.out.items)
+      took.tables.set s.tables (time_of took) (time_at setup s) took.ram (image_at s frame) same_tables same_time same_image (steps.md (active_in s))
 
-  pub apps_after : AppsStand stepped (after_frame setup s frame)
-  unfolding after_frame hs_input_at cs_input_at sc_input_at mm_input_at md_input_at
+  pub apps_after : AppsStand stepped (after_wakeups setup s frame)
+  unfolding after_wakeups hs_input_at cs_input_at sc_input_at mm_input_at md_input_at
   apps_after = record {
-    hs = woken_state (hs_stands s.tables) (hs_gives s.tables) (λ commands. hs_reads (time_at setup s) commands s.pipes.hs_ev frame.counters) _ took.hs.held s.pipes.hs took.hs.commands took.hs.out.items stepped.hs.out.items took.hs.state.value
+    hs = woken_state (hs_stands (active_in s)) (hs_gives (active_in s)) (λ commands. hs_reads (time_at setup s) commands s.pipes.hs_ev frame.counters) _ took.hs.held s.pipes.hs took.hs.commands took.hs.out.items stepped.hs.out.items took.hs.state.value
         stepped.hs.state.value s.hs hs_took hs_woken stand.hs;
     cs = woken_state (cs_stands s.tables) (cs_gives s.tables) (λ commands. cs_reads (time_at setup s) commands (image_at s frame)) _ took.cs.held s.pipes.cs took.cs.commands took.cs.out.items stepped.cs.out.items took.cs.state.value
         stepped.cs.state.value s.cs cs_took cs_woken stand.cs;
@@ -94,14 +96,14 @@ module _ (setup : Setup) (s : State) (frame : Frame) (start took stepped : Bench
         stepped.sc.state.value s.sc sc_took sc_woken stand.sc;
     mm = woken_state (mm_stands s.tables) (mm_gives s.tables) (λ commands. mm_reads (loads_of setup.files) (time_at setup s) commands (image_at s frame)) _ took.mm.held s.pipes.mm took.mm.commands took.mm.out.items stepped.mm.out.items took.mm.state.value
         stepped.mm.state.value s.mm mm_took mm_woken stand.mm;
-    md = woken_state (md_stands s.tables) (md_gives s.tables) (λ commands. md_reads (time_at setup s) commands (image_at s frame)) _ took.md.held s.pipes.md took.md.commands took.md.out.items stepped.md.out.items took.md.state.value
+    md = woken_state (md_stands (active_in s)) (md_gives (active_in s)) (λ commands. md_reads (time_at setup s) commands (image_at s frame)) _ took.md.held s.pipes.md took.md.commands took.md.out.items stepped.md.out.items took.md.state.value
         stepped.md.state.value s.md md_took md_woken stand.md;
   }
 
   pub items_after : items_in stepped ≡ items_at setup s frame
   unfolding items_at hs_input_at cs_input_at sc_input_at mm_input_at md_input_at
   items_after =
-      let hs = woken_items (hs_stands s.tables) (hs_gives s.tables) (λ commands. hs_reads (time_at setup s) commands s.pipes.hs_ev frame.counters) _ took.hs.held s.pipes.hs took.hs.commands took.hs.out.items stepped.hs.out.items
+      let hs = woken_items (hs_stands (active_in s)) (hs_gives (active_in s)) (λ commands. hs_reads (time_at setup s) commands s.pipes.hs_ev frame.counters) _ took.hs.held s.pipes.hs took.hs.commands took.hs.out.items stepped.hs.out.items
       took.hs.state.value stepped.hs.state.value s.hs hs_took hs_woken stand.hs in
       let cs = woken_items (cs_stands s.tables) (cs_gives s.tables) (λ commands. cs_reads (time_at setup s) commands (image_at s frame)) _ took.cs.held s.pipes.cs took.cs.commands took.cs.out.items stepped.cs.out.items
       took.cs.state.value stepped.cs.state.value s.cs cs_took cs_woken stand.cs in
@@ -109,16 +111,17 @@ module _ (setup : Setup) (s : State) (frame : Frame) (start took stepped : Bench
       took.sc.state.value stepped.sc.state.value s.sc sc_took sc_woken stand.sc in
       let mm = woken_items (mm_stands s.tables) (mm_gives s.tables) (λ commands. mm_reads (loads_of setup.files) (time_at setup s) commands (image_at s frame)) _ took.mm.held s.pipes.mm took.mm.commands took.mm.out.items stepped.mm.out.items
       took.mm.state.value stepped.mm.state.value s.mm mm_took mm_woken stand.mm in
-      let md = woken_items (md_stands s.tables) (md_gives s.tables) (λ commands. md_reads (time_at setup s) commands (image_at s frame)) _ took.md.held s.pipes.md took.md.commands took.md.out.items stepped.md.out.items
+      let md = woken_items (md_stands (active_in s)) (md_gives (active_in s)) (λ commands. md_reads (time_at setup s) commands (image_at s frame)) _ took.md.held s.pipes.md took.md.commands took.md.out.items stepped.md.out.items
       took.md.state.value stepped.md.state.value s.md md_took md_woken stand.md in
-      rw (hs, cs, sc, mm, md) refl
+      let told = ap (λ (held : Held Out). held.items) (steps.told ∙ takes.told) ∙ events in
+      rw (told, hs, cs, sc, mm, md) refl
 
   pub operations_after : stepped.ops.value ≡ operations_at setup s frame
   unfolding operations_at mm_input_at
   operations_after =
       woken_beside (λ commands. mm_operations (mm_reads (loads_of setup.files) (time_at setup s) commands (image_at s frame))) _ took.mm.held s.pipes.mm took.mm.commands took.mm.out.items stepped.ops.value mm_took
       (subst (λ (loads : List (ℕ × List ℕ)). stepped.ops.value ≡ unless took.mm.held (mm_operations (mm_reads loads (time_at setup s) took.mm.commands (image_at s frame)))) same_loads
-      (moved (λ (t : TableSet) (n : ℕ) (m : Memory). stepped.ops.value ≡ unless took.mm.held (mm_operations (mm_reads (loads_in took) n took.mm.commands m))) took.tables s.tables (time_of took) (time_at setup s) took.ram (image_at s frame) same_tables
+      (moved (λ (t : TableSet) (n : ℕ) (m : Memory). stepped.ops.value ≡ unless took.mm.held (mm_operations (mm_reads (loads_in took) n took.mm.commands m))) took.tables.set s.tables (time_of took) (time_at setup s) took.ram (image_at s frame) same_tables
       same_time same_image steps.operations))
 
   -- what the pipes hold then
@@ -133,7 +136,8 @@ module _ (setup : Setup) (s : State) (frame : Frame) (start took stepped : Bench
       let sent : joined (items_in end) ≡ sent_of s.made (joined (items_at setup s frame)) = sends.sent s.made log ∙ ap (λ (lists : List (List Out)). sent_of s.made (joined lists)) items_after in
       let offers : frame.sends ++ flat_map packet_in (joined (items_in end)) ≡ offers_at setup s frame = ap (λ (items : List Out). frame.sends ++ flat_map packet_in items) sent in
       record {
-        apps = apps_kept stepped end (after_frame setup s frame) sends.apps apps_after;
+        tables = ap (λ (t : Loaded). t.set) (sends.run.tables ∙ steps.run.tables) ∙ same_tables;
+        apps = apps_kept stepped end (after_wakeups setup s frame) sends.apps apps_after;
         sent = sent;
         drops = sends.drops ∙ ap (λ (p : Pipes). drops_from p (frame.sends ++ flat_map packet_in (joined (items_in end)))) left ∙ ap (drops_from (left_by frame.held s.pipes)) offers;
         pipes = sends.pipes ∙ ap (λ (p : Pipes). after_offers p (frame.sends ++ flat_map packet_in (joined (items_in end)))) left ∙ ap (after_offers (left_by frame.held s.pipes)) offers;

@@ -1,5 +1,6 @@
 -- What the jobs of a frame left, taken over by the bench.
-use Rattle.std.proofs.Common.{◌≡◌, ℕ, Bool, true, false, ◌&&◌, List, [], ◌∷◌, ◌∙◌, ap, refl, subst, sym}
+use Rattle.std.proofs.Common.{◌≡◌, ℕ, Bool, true, false, ◌&&◌, ◌==◌, List, [], ◌∷◌, length, ◌∙◌, ap, refl, subst, sym, arith}
+use Rattle.std.proofs.lemmas.Bool.Decides.{nat_tests}
 use Rattle.std.proofs.lemmas.Bool.{and_parts}
 use Rattle.std.proofs.lemmas.List.Elements.{All-nil}
 use Rattle.bus_pipes.specs.declared.names.Out.{Out}
@@ -34,12 +35,18 @@ operates loads true time commands image ops none these =
     record { are = none refl; can_land = subst (λ (os : List MemOp). CanLand loads image os) (sym (none refl)) (record { admitted = All-nil (Admitted image); backed = All-nil (IsBacked loads) }) }
 operates loads false time commands image ops none these = record { are = (these refl).0; can_land = (these refl).1 }
 
--- where none of the five gave an item, nothing was given
-pub none_given : (a b c d e : Bool) (hs cs sc mm md : List Out) → (a ≡ true → hs ≡ []) → (b ≡ true → cs ≡ []) → (c ≡ true → sc ≡ []) → (d ≡ true → mm ≡ []) → (e ≡ true → md ≡ []) → ((((a && b) && c) && d) && e) ≡ true
-    → joined (hs ∷ cs ∷ sc ∷ mm ∷ md ∷ []) ≡ []
-none_given a b c d e hs cs sc mm md p q r s t all =
-    let four = and_parts (((a && b) && c) && d) e all in
-    let three = and_parts ((a && b) && c) d four.0 in
-    let two = and_parts (a && b) c three.0 in
-    let both = and_parts a b two.0 in
-    rw (p both.0, q both.1, r two.1, s three.1, t four.1) refl
+-- nothing was told where a list is empty
+empty_told : (told : Bool) (items : List Out) → told ≡ (length items == 0) → told ≡ true → items ≡ []
+empty_told told [] is holds = refl
+empty_told told (item ∷ items) is holds = absurd (grind (arith, nat_tests))
+
+-- where nothing was told and none of the five gave an item, nothing was given
+pub none_given : (o a b c d e : Bool) (told hs cs sc mm md : List Out) → o ≡ (length told == 0) → (a ≡ true → hs ≡ []) → (b ≡ true → cs ≡ []) → (c ≡ true → sc ≡ []) → (d ≡ true → mm ≡ []) → (e ≡ true → md ≡ [])
+    → (((((o && a) && b) && c) && d) && e) ≡ true → joined (told ∷ hs ∷ cs ∷ sc ∷ mm ∷ md ∷ []) ≡ []
+none_given o a b c d e told hs cs sc mm md n p q r s t all =
+    let five = and_parts ((((o && a) && b) && c) && d) e all in
+    let four = and_parts (((o && a) && b) && c) d five.0 in
+    let three = and_parts ((o && a) && b) c four.0 in
+    let two = and_parts (o && a) b three.0 in
+    let both = and_parts o a two.0 in
+    rw (empty_told o told n both.0, p both.1, q two.1, r three.1, s four.1, t five.1) refl

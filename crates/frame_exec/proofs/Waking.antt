@@ -72,6 +72,10 @@ pub left_unless : {A : Type 0} (held : Bool) (left given : List A) → (held ≡
 left_unless true left given none some = none refl
 left_unless false left given none some = some refl
 
+-- what holds of two values holds of others that are the same
+pub of_both : {A B : Type 0} (P : A → B → Type 0) (a x : A) (b y : B) → a ≡ x → b ≡ y → P a b → P x y
+of_both {A} {B} P a x b y first second holds = subst (λ (v : B). P x v) second (subst (λ (v : A). P v b) first holds)
+
 -- what holds of tables, a time and memory holds of others that are the same
 pub moved : (P : TableSet → ℕ → Memory → Type 0) (tables others : TableSet) (time now : ℕ) (memory image : Memory) → tables ≡ others → time ≡ now → memory ≡ image → P tables time memory → P others now image
 moved P tables others time now memory image a b c holds = subst (λ (m : Memory). P others now m) c (subst (λ (n : ℕ). P others n memory) b (subst (λ (t : TableSet). P t time memory) a holds))

@@ -17,7 +17,7 @@ lines_behind setup earlier later = along (λ between frame. frame_lines setup (e
 -- its block.
 pub record Follows (b : Bench) (setup : Setup) (earlier later : List Frame) : Type 0 where
   pub epoch : b.epoch ≡ setup.epoch
-  pub files : b.files.now ≡ setup.files
+  pub files : b.tables.files ≡ setup.files
   pub well : has_failed b ≡ false
   pub has : Has b (run_of setup (earlier ++ later))
   pub ready : IsReady b

@@ -1,5 +1,6 @@
 pub mod Tables
 pub mod Sending
+pub mod Activations
 pub mod Runs
 pub mod Standing
 pub mod Following

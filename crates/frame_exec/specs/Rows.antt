@@ -13,6 +13,14 @@ quiet = record { sends = []; counters = []; upsets = []; held = Hs ∷ Cs ∷ Sc
 abbrev pub noop_sent : Frame
 noop_sent = record quiet { sends = (0x18 ∷ 0x88 ∷ 0xC0 ∷ 0 ∷ 0 ∷ 1 ∷ 0 ∷ 0xAE ∷ []) ∷ [] }
 
+-- a frame in which MM alone is woken, and a file is named of which there is none
+abbrev pub none_activated : Frame
+none_activated = record quiet { activations = 1 ∷ [] }
+
+-- event 2 of type 3 of TBL at time 1000, with sequence count 0
+abbrev pub refused_line : List ℕ
+refused_line = codes "0 pkt 0808C0000025000003E8000054424C0000000000000000000000000000000000000200030000004200000001\n"
+
 -- a run at time 1000 with 256 bytes of memory and no tables
 abbrev pub noop_setup : Setup
 noop_setup = record { epoch = 1000; regions = (record { kind = Ram; start = 0x1000; len = 256 }) ∷ []; files = [] }

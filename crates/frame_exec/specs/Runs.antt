@@ -1,30 +1,32 @@
 -- A frame, and a run over a list of frames.
-use Rattle.std.specs.Prelude.{ℕ, ◌+◌, Bool, List, [], ◌∷◌, ◌++◌, fold}
+use Rattle.std.specs.Prelude.{ℕ, ◌+◌, Bool, if◌then◌else◌, List, [], ◌∷◌, ◌++◌, fold, Option, Some, None}
 use Rattle.std.specs.List.{flat_map, list_any}
 use Rattle.histories.specs.Words.{along}
 use Rattle.bus_pipes.specs.Pipes.{Pipes, empty_pipes}
 use Rattle.bus_pipes.specs.Delivery.{after_offers, drops_from}
 use Rattle.bus_pipes.specs.declared.names.Out.{Out}
-use Rattle.table_files.specs.Files.{loads_of}
+use Rattle.table_files.specs.Files.{file_at, kind_at, loads_of}
+use Rattle.table_files.specs.declared.kinds.TableKind.{TableKind}
 use Rattle.memory_window.specs.Memory.{Memory, start_memory}
 use Rattle.memory_window.specs.Landing.{land}
 use Rattle.memory_window.specs.declared.regions.Region.{Region}
 use Rattle.memory_window.specs.declared.operations.MemOp.{MemOp}
 use Rattle.sc_sequences.specs.Histories.{Input as ScInput, Beginning, begun_at}
 use Rattle.mm_core.specs.Step.{Input as MmInput, mm_operations}
-use Rattle.hs_monitors.specs.Histories.{Input as HsInput}
+use Rattle.hs_monitors.specs.Histories.{HsEntry}
 use Rattle.cs_slices.specs.Wakeups.{Input as CsInput}
-use Rattle.md_dwell.specs.Orders.{Input as MdInput}
+use Rattle.md_dwell.specs.Histories.{MdEntry}
 use Rattle.packet_log.specs.Lines.{drop_line}
 use Rattle.packet_log.specs.Items.{item_line}
 use Rattle.scenario.specs.declared.frame.App.{App}
 use Rattle.scenario.specs.declared.frame.App.TheVariants as apps
 use Rattle.scenario.specs.FrameLists.{Frame}
-use Rattle.frame_exec.specs.Tables.{TableSet, tables_of}
+use Rattle.frame_exec.specs.Tables.{TableSet, with_file, tables_of}
+use Rattle.frame_exec.specs.Activations.{can_activate, hs_activated, md_activated, table_events}
 use Rattle.frame_exec.specs.Sending.{is_same, upset_by, left_in_pipe, sent_of, packet_in}
 use Rattle.packet_log.specs.Sent.{makes}
 use Rattle.frame_exec.specs.Wakes.{history_after, unless, joined}
-use Rattle.frame_exec.specs.Applications.{hs_gives, cs_gives, sc_gives, mm_gives, md_gives, hs_reads, cs_reads, sc_reads, mm_reads, md_reads}
+use Rattle.frame_exec.specs.Applications.{Active, hs_gives, cs_gives, sc_gives, mm_gives, md_gives, hs_reads, cs_reads, sc_reads, mm_reads, md_reads}
 
 -- what a run begins with: the time of frame 0, the regions of memory, and the named files
 pub record Setup : Type 0 where
@@ -32,24 +34,44 @@ pub record Setup : Type 0 where
   pub regions : List Region
   pub files : List (List ℕ)
 
--- what a run has come to: how many frames there were, the time at which SC began, the tables in force, the history of each application,
--- what the pipes hold, the packets made so far, and memory
+-- what a run has come to: how many frames there were, the time at which SC began, the tables with which the histories began and those
+-- that are active, the history of each application, what the pipes hold, the packets made so far, and memory
 pub record State : Type 0 where
   pub number : ℕ
   pub began : ℕ
+  pub first : TableSet
   pub tables : TableSet
-  pub hs : List HsInput
+  pub hs : List HsEntry
   pub cs : List CsInput
   pub sc : List ScInput
   pub mm : List MmInput
-  pub md : List MdInput
+  pub md : List MdEntry
   pub pipes : Pipes
   pub made : List (List ℕ)
   pub memory : Memory
 
 -- before the first frame: SC begins at its time
 unfoldable pub beginning : Setup → State
-beginning setup = record { number = 0; began = setup.epoch; tables = tables_of setup.files; hs = []; cs = []; sc = []; mm = []; md = []; pipes = empty_pipes; made = []; memory = start_memory setup.regions }
+beginning setup = record { number = 0; began = setup.epoch; first = tables_of setup.files; tables = tables_of setup.files; hs = []; cs = []; sc = []; mm = []; md = []; pipes = empty_pipes; made = []; memory = start_memory setup.regions }
+
+-- the state once a table of this kind became active, which the tables have now: its application's history has the activation
+abbrev pub with_active : State → TableKind → TableSet → State
+with_active s kind tables = record s { tables = tables; hs = s.hs ++ hs_activated kind tables.hs; md = s.md ++ md_activated kind tables.dwells }
+
+-- the state once a line named this file, by the file's kind
+abbrev pub after_naming : State → List ℕ → Option TableKind → State
+after_naming s file None = s
+after_naming s file (Some kind) = if can_activate kind then with_active s kind (with_file s.tables file) else s
+
+-- the state once a line named file n
+abbrev pub after_activation : Setup → State → ℕ → State
+after_activation setup s n = after_naming s (file_at setup.files n) (kind_at setup.files n)
+
+-- the state once the activations of a frame were done, in line order
+unfoldable pub activated_at : Setup → State → Frame → State
+activated_at setup s frame = fold (after_activation setup) s frame.activations
+
+-- A state below, up to `after_wakeups`, is that behind the activations of the frame.
 
 -- whether an application is held in a frame
 abbrev pub is_held : App → Frame → Bool
@@ -63,12 +85,16 @@ image_at s frame = fold upset_by s.memory frame.upsets
 abbrev pub time_at : Setup → State → ℕ
 time_at setup s = setup.epoch + s.number
 
+-- the tables with which the histories of a run began, and those that are active
+abbrev pub active_in : State → Active
+active_in s = record { first = s.first; now = s.tables }
+
 -- what a history of SC begins with in a run
 abbrev pub sc_begun : State → Beginning
 sc_begun s = begun_at s.began s.tables.sc
 
 -- what HS, CS, SC, MM and MD read in a frame
-unfoldable pub hs_input_at : Setup → State → Frame → HsInput
+unfoldable pub hs_input_at : Setup → State → Frame → HsEntry
 hs_input_at setup s frame = hs_reads (time_at setup s) s.pipes.hs s.pipes.hs_ev frame.counters
 
 unfoldable pub cs_input_at : Setup → State → Frame → CsInput
@@ -80,17 +106,18 @@ sc_input_at setup s frame = sc_reads (time_at setup s) s.pipes.sc
 unfoldable pub mm_input_at : Setup → State → Frame → MmInput
 mm_input_at setup s frame = mm_reads (loads_of setup.files) (time_at setup s) s.pipes.mm (image_at s frame)
 
-unfoldable pub md_input_at : Setup → State → Frame → MdInput
+unfoldable pub md_input_at : Setup → State → Frame → MdEntry
 md_input_at setup s frame = md_reads (time_at setup s) s.pipes.md (image_at s frame)
 
--- what the applications give in a frame, a list each, in their order
+-- what is told of the frame's activations, and what the applications give in it, a list each, in their order
 unfoldable pub items_at : Setup → State → Frame → List (List Out)
 items_at setup s frame =
-    unless (is_held apps.Hs frame) (hs_gives s.tables s.hs (hs_input_at setup s frame))
+    table_events setup.files (time_at setup s) frame.activations
+    ∷ unless (is_held apps.Hs frame) (hs_gives (active_in s) s.hs (hs_input_at setup s frame))
     ∷ unless (is_held apps.Cs frame) (cs_gives s.tables s.cs (cs_input_at setup s frame))
     ∷ unless (is_held apps.Sc frame) (sc_gives (sc_begun s) s.sc (sc_input_at setup s frame))
     ∷ unless (is_held apps.Mm frame) (mm_gives s.tables s.mm (mm_input_at setup s frame))
-    ∷ unless (is_held apps.Md frame) (md_gives s.tables s.md (md_input_at setup s frame))
+    ∷ unless (is_held apps.Md frame) (md_gives (active_in s) s.md (md_input_at setup s frame))
     ∷ []
 
 -- the memory operations of a frame, in command order
@@ -122,11 +149,12 @@ lines_at setup s frame =
     flat_map (item_line s.number) (sent_at setup s frame)
     ++ flat_map (drop_line s.number) (drops_from (left_by frame.held s.pipes) (offers_at setup s frame))
 
--- what the run has come to after one more frame
-unfoldable pub after_frame : Setup → State → Frame → State
-after_frame setup s frame = record {
+-- what the run has come to after the wakeups of a frame
+unfoldable pub after_wakeups : Setup → State → Frame → State
+after_wakeups setup s frame = record {
   number = s.number + 1;
   began = s.began;
+  first = s.first;
   tables = s.tables;
   hs = history_after (is_held apps.Hs frame) s.hs (hs_input_at setup s frame);
   cs = history_after (is_held apps.Cs frame) s.cs (cs_input_at setup s frame);
@@ -138,13 +166,17 @@ after_frame setup s frame = record {
   memory = land (loads_of setup.files) (operations_at setup s frame) (image_at s frame);
 }
 
+-- what the run has come to after one more frame
+unfoldable pub after_frame : Setup → State → Frame → State
+after_frame setup s frame = after_wakeups setup (activated_at setup s frame) frame
+
 -- what a run has come to after these frames
 unfoldable pub run_of : Setup → List Frame → State
 run_of setup frames = fold (after_frame setup) (beginning setup) frames
 
 -- the lines of a frame that comes after these frames
 unfoldable pub frame_lines : Setup → List Frame → Frame → List ℕ
-frame_lines setup frames frame = lines_at setup (run_of setup frames) frame
+frame_lines setup frames frame = let s = run_of setup frames in lines_at setup (activated_at setup s frame) frame
 
 -- the log of a run
 unfoldable pub log_of : Setup → List Frame → List ℕ

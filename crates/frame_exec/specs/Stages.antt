@@ -1,7 +1,8 @@
 -- What the stages of a frame change in the bench.
 use Rattle.std.specs.Prelude.{◌≡◌, ℕ, ◌+◌, false, List, [], ◌∷◌, ◌++◌, length, slice_index_or}
-use Rattle.std.specs.List.{flat_map, fold, list_any}
+use Rattle.std.specs.List.{AllPass, flat_map, fold, list_any}
 use Rattle.bus_pipes.specs.Delivery.{after_offers, drops_from}
+use Rattle.bus_pipes.specs.Counted.{is_item_counted}
 use Rattle.bus_pipes.specs.declared.names.Out.{Out}
 use Rattle.table_files.specs.Files.{loads_of}
 use Rattle.memory_window.specs.Landing.{land}
@@ -28,22 +29,48 @@ use Rattle.frame_exec.specs.Tables.{TableSet}
 use Rattle.frame_exec.specs.Sending.{is_same, upset_by, sent_of, packet_in}
 use Rattle.packet_log.specs.Sent.{makes}
 use Rattle.frame_exec.specs.Wakes.{joined, unless, AreSendable, HasTaken, IsWoken, next_of}
-use Rattle.frame_exec.specs.Applications.{hs_stands, cs_stands, sc_stands, mm_stands, md_stands, hs_gives, cs_gives, sc_gives, mm_gives, md_gives, hs_reads, cs_reads, sc_reads, mm_reads, md_reads}
-use Rattle.frame_exec.specs.Runs.{Setup, State, image_at, items_at, operations_at, left_by, sent_at, offers_at, after_frame}
+use Rattle.frame_exec.specs.Applications.{Active, hs_stands, cs_stands, sc_stands, mm_stands, md_stands, hs_gives, cs_gives, sc_gives, mm_gives, md_gives, hs_reads, cs_reads, sc_reads, mm_reads, md_reads}
+use Rattle.frame_exec.specs.Activations.{table_events}
+use Rattle.frame_exec.specs.Runs.{Setup, State, after_activation, image_at, items_at, operations_at, left_by, sent_at, offers_at, after_wakeups}
 use Rattle.frame_exec.specs.Landable.{CanLand}
 use Rattle.frame_exec.specs.Ready.{CsIsReady}
 use Rattle.frame_exec.specs.declared.left.Left.{Left}
 use Rattle.frame_exec.specs.Jobs.{Gives, Operates}
-use Rattle.frame_exec.specs.Standing.{AppsStand}
+use Rattle.frame_exec.specs.Standing.{AppsStand, Has}
 
--- number, epoch, the mark of failure, the tables, the files and the lines that wait stay
+-- the time of the frame that comes
+abbrev pub time_of : Bench → ℕ
+time_of b = b.epoch + b.number
+
+-- number, epoch, the mark of failure, the tables and the lines that wait stay
 pub record IsSameRun (old new : Bench) : Type 0 where
   pub waits : new.block ≡ old.block
   pub epoch : new.epoch ≡ old.epoch
   pub number : new.number ≡ old.number
   pub failed : new.failed ≡ old.failed
   pub tables : new.tables ≡ old.tables
-  pub files : new.files ≡ old.files
+
+-- number, epoch, the mark of failure, the named files and the lines that wait stay
+pub record GoesOn (old new : Bench) : Type 0 where
+  pub waits : new.block ≡ old.block
+  pub epoch : new.epoch ≡ old.epoch
+  pub number : new.number ≡ old.number
+  pub failed : new.failed ≡ old.failed
+  pub files : new.tables.files ≡ old.tables.files
+
+-- a line named file n: its table is active now, where it can be
+pub record NamesFile (n : ℕ) (old new : Bench) : Type 0 where
+  pub goes : GoesOn old new
+  pub memory : new.ram ≡ old.ram
+  pub told : new.activations ≡ old.activations
+  pub has : (setup : Setup) (s : State) → old.tables.files ≡ setup.files → Has old s → Has new (after_activation setup s n)
+
+-- lines named these files, one after another, and of each was told what became of it, behind what was told before
+pub record Activates (numbers : List ℕ) (told : List Out) (old new : Bench) : Type 0 where
+  pub goes : GoesOn old new
+  pub memory : new.ram ≡ old.ram
+  pub events : new.activations.items ≡ told ++ table_events old.tables.files (time_of old) numbers
+  pub has : (setup : Setup) (s : State) → old.tables.files ≡ setup.files → Has old s → Has new (fold (after_activation setup) s numbers)
 
 -- the states of the applications stay
 pub record KeepsApps (old new : Bench) : Type 0 where
@@ -53,13 +80,14 @@ pub record KeepsApps (old new : Bench) : Type 0 where
   pub mm : new.mm.state ≡ old.mm.state
   pub md : new.md.state ≡ old.md.state
 
--- what the applications gave, a list each, in their order
+-- what was told of activations, and what the applications gave, a list each, in their order
 abbrev pub items_in : Bench → List (List Out)
-items_in b = b.hs.out.items ∷ b.cs.out.items ∷ b.sc.out.items ∷ b.mm.out.items ∷ b.md.out.items ∷ []
+items_in b = b.activations.items ∷ b.hs.out.items ∷ b.cs.out.items ∷ b.sc.out.items ∷ b.mm.out.items ∷ b.md.out.items ∷ []
 
 -- the upsets of a frame were written
 pub record IsUpset (upsets : List Upset) (old new : Bench) : Type 0 where
   pub run : IsSameRun old new
+  pub told : new.activations ≡ old.activations
   pub apps : KeepsApps old new
   pub pipes : new.bus ≡ old.bus
   pub log : new.log ≡ old.log
@@ -68,6 +96,7 @@ pub record IsUpset (upsets : List Upset) (old new : Bench) : Type 0 where
 -- each application took what its pipes held, unless it was held, and gave nothing yet
 pub record Takes (held : List App) (old new : Bench) : Type 0 where
   pub run : IsSameRun old new
+  pub told : new.activations ≡ old.activations
   pub apps : KeepsApps old new
   pub hs : HasTaken (list_any (is_same names.Hs) held) old.bus.hs new.hs.held new.hs.commands new.hs.out.items
   pub events : list_any (is_same names.Hs) held ≡ false → new.events ≡ old.bus.hs_ev
@@ -91,20 +120,17 @@ pub record IsClear (b : Bench) : Type 0 where
 
 -- the load files that MM reads
 abbrev pub loads_in : Bench → List (ℕ × List ℕ)
-loads_in b = loads_of b.files.now
-
--- the time of the frame that comes
-abbrev pub time_of : Bench → ℕ
-time_of b = b.epoch + b.number
+loads_in b = loads_of b.tables.files
 
 -- the applications were woken on what they took, and on these execution counters or memory, unless they were held
 pub record Steps (counters : List Counter) (old new : Bench) : Type 0 where
   pub run : IsSameRun old new
-  pub hs : IsWoken (hs_stands old.tables) (hs_gives old.tables) old.hs.held (hs_reads (time_of old) old.hs.commands old.events counters) old.hs.state.value new.hs.state.value new.hs.out.items
-  pub cs : IsWoken (cs_stands old.tables) (cs_gives old.tables) old.cs.held (cs_reads (time_of old) old.cs.commands old.ram) old.cs.state.value new.cs.state.value new.cs.out.items
-  pub sc : (begin : Beginning) → begin.tables ≡ old.tables.sc → IsWoken (sc_stands begin) (sc_gives begin) old.sc.held (sc_reads (time_of old) old.sc.commands) old.sc.state.value new.sc.state.value new.sc.out.items
+  pub told : new.activations ≡ old.activations
+  pub hs : (tables : Active) → tables.now.hs ≡ old.tables.set.hs → IsWoken (hs_stands tables) (hs_gives tables) old.hs.held (hs_reads (time_of old) old.hs.commands old.events counters) old.hs.state.value new.hs.state.value new.hs.out.items
+  pub cs : IsWoken (cs_stands old.tables.set) (cs_gives old.tables.set) old.cs.held (cs_reads (time_of old) old.cs.commands old.ram) old.cs.state.value new.cs.state.value new.cs.out.items
+  pub sc : (begin : Beginning) → begin.tables ≡ old.tables.set.sc → IsWoken (sc_stands begin) (sc_gives begin) old.sc.held (sc_reads (time_of old) old.sc.commands) old.sc.state.value new.sc.state.value new.sc.out.items
   pub mm : (tables : TableSet) → IsWoken (mm_stands tables) (mm_gives tables) old.mm.held (mm_reads (loads_in old) (time_of old) old.mm.commands old.ram) old.mm.state.value new.mm.state.value new.mm.out.items
-  pub md : (tables : TableSet) → IsWoken (md_stands tables) (md_gives tables) old.md.held (md_reads (time_of old) old.md.commands old.ram) old.md.state.value new.md.state.value new.md.out.items
+  pub md : (tables : Active) → IsWoken (md_stands tables) (md_gives tables) old.md.held (md_reads (time_of old) old.md.commands old.ram) old.md.state.value new.md.state.value new.md.out.items
   pub operations : new.ops.value ≡ unless old.mm.held (mm_operations (mm_reads (loads_in old) (time_of old) old.mm.commands old.ram))
   pub pipes : new.bus ≡ old.bus
   pub log : new.log ≡ old.log
@@ -133,21 +159,23 @@ IsTaken b job P = (left : Left) × (slice_index_or b.crew.results job left ≡ l
 -- the applications were woken, each by a job that left what it gave
 pub record AreWoken (counters : List Counter) (old new : Bench) : Type 0 where
   pub run : IsSameRun old new
+  pub told : new.activations ≡ old.activations
   pub slots : KeepsSlots old new
   pub five : length new.crew.results ≡ 5
-  pub hs : HasLeft new 0 (λ left. Gives (λ t. old.tables.hs ≡ t.hs) hs_stands hs_gives hs_most old.hs.held (hs_reads (time_of old) old.hs.commands old.events counters) old.hs.state.value left.stays left.hs.value left.out.items)
-  pub cs : HasLeft new 1 (λ left. Gives (λ t. (old.tables.eeprom ≡ t.eeprom) × (old.tables.memory ≡ t.memory)) cs_stands cs_gives cs_most old.cs.held (cs_reads (time_of old) old.cs.commands old.ram) old.cs.state.value left.stays left.cs.value left.out.items
-      × CsIsReady (regions_of old.ram.areas) old.tables.eeprom old.tables.memory (next_of left.stays left.cs.value old.cs.state.value))
-  pub sc : HasLeft new 2 (λ left. Gives (λ begin. old.tables.sc ≡ begin.tables) sc_stands sc_gives sc_most old.sc.held (sc_reads (time_of old) old.sc.commands) old.sc.state.value left.stays left.sc.value left.out.items
-      × ScIsReady old.tables.sc (next_of left.stays left.sc.value old.sc.state.value))
+  pub hs : HasLeft new 0 (λ left. Gives (λ t. old.tables.set.hs ≡ t.now.hs) hs_stands hs_gives hs_most old.hs.held (hs_reads (time_of old) old.hs.commands old.events counters) old.hs.state.value left.stays left.hs.value left.out.items)
+  pub cs : HasLeft new 1 (λ left. Gives (λ t. (old.tables.set.eeprom ≡ t.eeprom) × (old.tables.set.memory ≡ t.memory)) cs_stands cs_gives cs_most old.cs.held (cs_reads (time_of old) old.cs.commands old.ram) old.cs.state.value left.stays left.cs.value left.out.items
+      × CsIsReady (regions_of old.ram.areas) old.tables.set.eeprom old.tables.set.memory (next_of left.stays left.cs.value old.cs.state.value))
+  pub sc : HasLeft new 2 (λ left. Gives (λ begin. old.tables.set.sc ≡ begin.tables) sc_stands sc_gives sc_most old.sc.held (sc_reads (time_of old) old.sc.commands) old.sc.state.value left.stays left.sc.value left.out.items
+      × ScIsReady old.tables.set.sc (next_of left.stays left.sc.value old.sc.state.value))
   pub mm : HasLeft new 3 (λ left. Gives {Setup = TableSet} (λ t. Unit {0}) mm_stands mm_gives mm_most old.mm.held (mm_reads (loads_in old) (time_of old) old.mm.commands old.ram) old.mm.state.value left.stays left.mm.value left.out.items
       × Operates (loads_in old) old.mm.held (time_of old) old.mm.commands old.ram left.ops.value)
-  pub md : HasLeft new 4 (λ left. Gives {Setup = TableSet} (λ t. Unit {0}) md_stands md_gives md_most old.md.held (md_reads (time_of old) old.md.commands old.ram) old.md.state.value left.stays left.md.value left.out.items
+  pub md : HasLeft new 4 (λ left. Gives {Setup = Active} (λ t. Unit {0}) md_stands md_gives md_most old.md.held (md_reads (time_of old) old.md.commands old.ram) old.md.state.value left.stays left.md.value left.out.items
       × AllGiven (regions_of old.ram.areas) (next_of left.stays left.md.value old.md.state.value))
 
 -- what the jobs left was taken over: the next states, the items and the operations
 pub record TakesOver (old new : Bench) : Type 0 where
   pub run : IsSameRun old new
+  pub told : new.activations ≡ old.activations
   pub hs : IsTaken old 0 (λ left. (new.hs.state.value ≡ next_of left.stays left.hs.value old.hs.state.value) × (new.hs.out.items ≡ left.out.items))
   pub cs : IsTaken old 1 (λ left. (new.cs.state.value ≡ next_of left.stays left.cs.value old.cs.state.value) × (new.cs.out.items ≡ left.out.items))
   pub sc : IsTaken old 2 (λ left. (new.sc.state.value ≡ next_of left.stays left.sc.value old.sc.state.value) × (new.sc.out.items ≡ left.out.items))
@@ -159,6 +187,7 @@ pub record TakesOver (old new : Bench) : Type 0 where
 
 -- What the wakeups leave can be sent, and landed on the frame's image.
 pub record CanSend (b : Bench) : Type 0 where
+  pub told : AllPass is_item_counted b.activations.items
   pub hs : AreSendable hs_most b.hs.out.items
   pub cs : AreSendable cs_most b.cs.out.items
   pub sc : AreSendable sc_most b.sc.out.items
@@ -177,9 +206,11 @@ pub record Sends (sends : List (List ℕ)) (old new : Bench) : Type 0 where
   pub drops : new.drops.items ≡ drops_from old.bus (sends ++ flat_map packet_in (joined (items_in new)))
   pub memory : new.ram ≡ old.ram
 
--- The frame was run after s, up to its lines: memory is its image, and its operations haven't landed.
+-- The frame was run on s, which is the state behind its activations, up to its lines: memory is its image, and its operations haven't
+-- landed.
 pub record RunsIn (setup : Setup) (s : State) (frame : Frame) (b : Bench) : Type 0 where
-  pub apps : AppsStand b (after_frame setup s frame)
+  pub tables : b.tables.set ≡ s.tables
+  pub apps : AppsStand b (after_wakeups setup s frame)
   pub sent : joined (items_in b) ≡ sent_at setup s frame
   pub drops : b.drops.items ≡ drops_from (left_by frame.held s.pipes) (offers_at setup s frame)
   pub pipes : b.bus ≡ after_offers (left_by frame.held s.pipes) (offers_at setup s frame)
@@ -193,7 +224,6 @@ pub record IsSameFrame (old new : Bench) : Type 0 where
   pub number : new.number ≡ old.number
   pub failed : new.failed ≡ old.failed
   pub tables : new.tables ≡ old.tables
-  pub files : new.files ≡ old.files
   pub apps : KeepsApps old new
   pub pipes : new.bus ≡ old.bus
   pub log : new.log ≡ old.log
@@ -206,7 +236,6 @@ pub record Lands (old new : Bench) : Type 0 where
   pub number : new.number ≡ old.number + 1
   pub failed : new.failed ≡ old.failed
   pub tables : new.tables ≡ old.tables
-  pub files : new.files ≡ old.files
   pub apps : KeepsApps old new
   pub pipes : new.bus ≡ old.bus
   pub log : new.log ≡ old.log

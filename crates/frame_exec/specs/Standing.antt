@@ -11,21 +11,22 @@ use Rattle.scenario.specs.declared.frame.Upset.{Upset}
 use Rattle.scenario.specs.FrameLists.{Frame}
 use Rattle.frame_exec.specs.declared.bench.Bench.{Bench}
 use Rattle.frame_exec.specs.Applications.{hs_stands, cs_stands, sc_stands, mm_stands, md_stands}
+use Rattle.frame_exec.specs.Tables.{AreGiven}
 use Rattle.frame_exec.specs.Ready.{CsIsReady}
-use Rattle.frame_exec.specs.Runs.{Setup, State, sc_begun, image_at, run_of}
+use Rattle.frame_exec.specs.Runs.{Setup, State, active_in, sc_begun, image_at, run_of}
 
 -- the state of each application stands for its history
 pub record AppsStand (b : Bench) (s : State) : Type 0 where
-  pub hs : hs_stands s.tables s.hs b.hs.state.value
+  pub hs : hs_stands (active_in s) s.hs b.hs.state.value
   pub cs : cs_stands s.tables s.cs b.cs.state.value
   pub sc : sc_stands (sc_begun s) s.sc b.sc.state.value
   pub mm : mm_stands s.tables s.mm b.mm.state.value
-  pub md : md_stands s.tables s.md b.md.state.value
+  pub md : md_stands (active_in s) s.md b.md.state.value
 
 -- the bench has what a run has come to
 pub record Has (b : Bench) (s : State) : Type 0 where
   pub number : b.number ≡ s.number
-  pub tables : b.tables ≡ s.tables
+  pub tables : b.tables.set ≡ s.tables
   pub apps : AppsStand b s
   pub pipes : b.bus ≡ s.pipes
   pub made : LogStands s.made b.log
@@ -33,9 +34,10 @@ pub record Has (b : Bench) (s : State) : Type 0 where
 
 -- each application can be woken
 pub record IsReady (b : Bench) : Type 0 where
-  pub cs : CsIsReady (regions_of b.ram.areas) b.tables.eeprom b.tables.memory b.cs.state.value
-  pub sc : ScIsReady b.tables.sc b.sc.state.value
+  pub cs : CsIsReady (regions_of b.ram.areas) b.tables.set.eeprom b.tables.set.memory b.cs.state.value
+  pub sc : ScIsReady b.tables.set.sc b.sc.state.value
   pub md : AllGiven (regions_of b.ram.areas) b.md.state.value
+  pub given : AreGiven (regions_of b.ram.areas) b.tables
 
 -- whether a frame of the bench failed
 abbrev pub has_failed : Bench → Bool
@@ -48,7 +50,7 @@ waiting_in b = b.block
 -- the bench stands for these frames, of a scenario with this header
 pub record Stands (b : Bench) (setup : Setup) (frames : List Frame) : Type 0 where
   pub epoch : b.epoch ≡ setup.epoch
-  pub files : b.files.now ≡ setup.files
+  pub files : b.tables.files ≡ setup.files
   pub well : has_failed b ≡ false
   pub waits : waiting_in b ≡ empty_block
   pub has : Has b (run_of setup frames)

@@ -137,10 +137,16 @@ fault_at said = record { file = said.0; entry = said.1.entry; reason = said.1.re
 unfoldable pub tables_fault : List (List ℕ) → Option TablesFault
 tables_fault files = option_map fault_at (first_said entry_fault_in 1 files)
 
+-- the named files, and the tables that are active
+pub record Loaded : Type 0 where
+  pub files : List (List ℕ)
+  pub set : TableSet
+
 -- tables that were loaded from files
-pub record AreLoaded (files : List (List ℕ)) (tables : TableSet) : Type 0 where
+pub record AreLoaded (files : List (List ℕ)) (tables : Loaded) : Type 0 where
+  pub kept : tables.files ≡ files
   pub well : tables_fault files ≡ None
-  pub named : tables ≡ tables_of files
+  pub named : tables.set ≡ tables_of files
 
 -- the first file with an entry that memory of these regions refuses, and its first such entry
 unfoldable pub region_fault : List Region → List (List ℕ) → Option (ℕ × ℕ)
@@ -157,3 +163,8 @@ pub record SetGiven (regions : List Region) (tables : TableSet) : Type 0 where
   pub dwells : TablesGiven regions tables.dwells
   pub eeprom : SegmentsGiven regions tables.eeprom
   pub memory : SegmentsGiven regions tables.memory
+
+-- memory of these regions gives what the entries of the tables that are active read, and of all others that files name
+pub record AreGiven (regions : List Region) (tables : Loaded) : Type 0 where
+  pub set : SetGiven regions tables.set
+  pub named : region_fault regions tables.files ≡ None

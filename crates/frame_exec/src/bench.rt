@@ -1,8 +1,9 @@
 //! The bench: one frame after another.
 
 ghost use Rattle.std.specs.Prelude.{◌≡◌};
-ghost use Rattle.frame_exec.specs.declared.bench.TheConstants.{DROPS};
+ghost use Rattle.frame_exec.specs.declared.bench.TheConstants.{DROPS, ACTIVATIONS};
 
+use crate::activations::{can_activate, hand_over, tell};
 use crate::cs_slot::CsSlot;
 use crate::cut::Cut;
 use crate::giving::{OpenFault, refused_place};
@@ -16,7 +17,7 @@ use crate::slot::Slot;
 use crate::stages::{deliver_all, in_order, is_held, put_frame, stamp_all, take_unless, upset_all};
 use crate::tables::Tables;
 use crate::wakeups::{Scene, Wakeup};
-use bus_pipes::{Batch, Bus, Drops, PipeName};
+use bus_pipes::{Batch, Bus, Drops, Outbox, PipeName};
 use crew_board::Crew;
 use cs_slices::Cs;
 use fsw_outside::{Failed, Gate, NoMemory, Sink};
@@ -38,6 +39,9 @@ const DROPS: u32 = 1525;
 /// How many applications are woken in a frame.
 const JOBS: u32 = 5;
 
+/// How many tables a frame may name to become active.
+const ACTIVATIONS: u32 = 64;
+
 /// The bench, after some frames. It takes all its memory as it is opened, and borrows the files, from which MM loads.
 #[derive(Drop)]
 pub struct Bench<'f> {
@@ -48,7 +52,8 @@ pub struct Bench<'f> {
     // how many threads may land operations at once
     workers: u32,
     tables: Tables<'f>,
-    files: &'f Files,
+    // the events of the frame's activations
+    activations: Outbox,
     hs: HsSlot,
     // the packets that HS took from its pipe of events
     events: Batch,
@@ -69,6 +74,7 @@ pub struct Bench<'f> {
     block: Block,
     ghost drops_room: { drops.room ≡ DROPS },
     ghost five: { crew.jobs ≡ 5 },
+    ghost activations_room: { activations.room ≡ ACTIVATIONS },
 }
 
 impl<'f> Bench<'f> {
@@ -82,12 +88,16 @@ impl<'f> Bench<'f> {
     ghost use Rattle.scenario.specs.declared.frame.Upset.{Upset};
     ghost use Rattle.scenario.specs.declared.frame.App.{App};
     ghost use Rattle.scenario.specs.FrameLists.{Frame};
-    ghost use Rattle.frame_exec.specs.Runs.{Setup, State, frame_lines, log_of};
+    ghost use Rattle.frame_exec.specs.Runs.{Setup, State, activated_at, frame_lines, log_of};
     ghost use Rattle.frame_exec.specs.Standing.{Has, has_failed, waiting_in, IsReady, Stands, IsInterrupted, CanRun, setup_in};
     ghost use Rattle.frame_exec.specs.Following.{Follows, IsCutAt, Adds};
-    ghost use Rattle.frame_exec.specs.Tables.{SetGiven, AreLoaded, Opens, region_fault};
+    ghost use Rattle.frame_exec.specs.Tables.{AreGiven, AreLoaded, Opens, region_fault};
     ghost use Rattle.frame_exec.specs.Landable.{CanLand};
-    ghost use Rattle.frame_exec.specs.Stages.{IsSameRun, IsUpset, Takes, IsClear, Steps, CanSend, AreWoken, TakesOver, Sends, RunsIn, IsSameFrame, Lands, items_in, loads_in, lines_in};
+    ghost use Rattle.std.specs.List.{AllPass};
+    ghost use Rattle.bus_pipes.specs.Counted.{is_item_counted};
+    ghost use Rattle.frame_exec.specs.Activations.{accepts};
+    ghost use Rattle.table_files.specs.Files.{kind_at};
+    ghost use Rattle.frame_exec.specs.Stages.{IsSameRun, GoesOn, NamesFile, Activates, IsUpset, Takes, IsClear, Steps, CanSend, AreWoken, TakesOver, Sends, RunsIn, IsSameFrame, Lands, items_in, loads_in, lines_in};
     ghost use Rattle.frame_exec.specs.Wakes.{joined};
 
     /// A bench with the tables that were loaded from these files and the memory of the header's map, which stands for no
@@ -113,23 +123,22 @@ impl<'f> Bench<'f> {
                 entry: place.entry,
             });
         }
-        match Bench::begin(alloc, tables, files, header, workers) {
+        match Bench::begin(alloc, tables, header, workers) {
             Ok(bench) => Ok(bench),
             Err(NoMemory) => Err(OpenFault::NoMemory),
         }
     }
 
-    // A bench that stands for no frames, on tables whose reads the header's map gives.
+    /// A bench that stands for no frames, on tables whose reads the header's map gives.
     fn begin(
         alloc: Global,
         tables: Tables<'f>,
-        files: &'f Files,
         header: &Header,
         workers: u32,
     ) -> Result<Bench<'f>, NoMemory>
         requires workers { (1 ≤ workers) × (workers ≤ 16) }
-        requires given { SetGiven header.now.map tables }
-        ensures { AreLoaded files.now tables.entry → IfOk result (λ bench. Stands bench (setup_in header.now files.now) []) }
+        requires given { AreGiven header.now.map tables }
+        ensures { (files : List (List ℕ)) → AreLoaded files tables.entry → IfOk result (λ bench. Stands bench (setup_in header.now files) []) }
     {
         Ok(Bench {
             epoch: header.epoch,
@@ -143,7 +152,7 @@ impl<'f> Bench<'f> {
             mm: Slot::open(alloc, Mm::start())?,
             md: Slot::open(alloc, Md::start(tables.dwells()))?,
             tables,
-            files,
+            activations: Outbox::open(alloc, ACTIVATIONS)?,
             crew: Crew::open(alloc, workers, JOBS)?,
             ops: Box::new(alloc, Ops::new())?,
             drops: Drops::open(alloc, DROPS)?,
@@ -238,7 +247,7 @@ impl<'f> Bench<'f> {
         }
     }
 
-    // Marks the bench as failed, and says how many frames weren't handed on whole.
+    /// Marks the bench as failed, and says how many frames weren't handed on whole.
     fn cut(&mut self) -> Cut
         ensures late { (ends : List ℕ) (given : ℕ) → Notes ends given self.old.block → result.late ≡ late_in ends (given - length self.old.block.bytes) }
         ensures cut { self.new ≡ record self.old { failed = true } }
@@ -249,7 +258,7 @@ impl<'f> Bench<'f> {
         }
     }
 
-    // Lands the frame's operations bank by bank on the workers, and goes on to the next frame.
+    /// Lands the frame's operations bank by bank on the workers, and goes on to the next frame.
     #[inline(always)]
     fn land<R: Threads + Sync, G: Gate>(&mut self, rt: &R, gate: &G)
         requires number { self.old.number < 4294967296 }
@@ -258,11 +267,56 @@ impl<'f> Bench<'f> {
     {
         let workers = self.workers.max(1);
         self.ram
-            .land_banks_on(rt, workers, self.ops.items(), self.files, gate);
+            .land_banks_on(rt, workers, self.ops.items(), self.tables.files(), gate);
         self.number += 1;
     }
 
-    // Writes the frame's upsets.
+    /// Makes the tables of these files active, in order, and tells of each whether it is.
+    fn activate(&mut self, files: &[u32])
+        requires time { self.old.epoch + self.old.number < 4294967296 }
+        requires few { length files.now ≤ 64 }
+        requires ready { IsReady self.old }
+        ensures activates { Activates files.now [] self.old self.new }
+        ensures ready { IsReady self.new }
+    {
+        self.activations.clear();
+        'files: for file in files {
+            self.name_file(*file);
+        }
+    }
+
+    /// Makes the table of this file active, if it can be, and tells whether it is.
+    fn name_file(&mut self, file: u32)
+        requires time { self.old.epoch + self.old.number < 4294967296 }
+        requires room { length self.old.activations.items < 64 }
+        requires ready { IsReady self.old }
+        ensures activates { Activates (file ∷ []) self.old.activations.items self.old self.new }
+        ensures ready { IsReady self.new }
+    {
+        let time = self.epoch + self.number as u32;
+        let accepted = self.make_active(file);
+        tell(&mut self.activations, accepted, time);
+    }
+
+    /// Makes the table of this file active, and answers whether it can be.
+    fn make_active(&mut self, file: u32) -> bool
+        requires ready { IsReady self.old }
+        ensures accepts { result ≡ accepts (kind_at self.old.tables.files file) }
+        ensures names { NamesFile file self.old self.new }
+        ensures ready { IsReady self.new }
+    {
+        let Some(kind) = self.tables.kind(file) else {
+            return false;
+        };
+        if !can_activate(kind) {
+            return false;
+        }
+        self.tables.activate(file);
+        hand_over(&self.tables, kind, &mut self.hs, &mut self.md);
+        true
+    }
+
+    /// Writes the frame's upsets.
     fn upset(&mut self, upsets: &[Upset])
         requires { All (λ (u : Upset). is_mapped (regions_of self.old.ram.areas) u.at ≡ true) upsets.now }
         ensures { IsUpset upsets.now self.old self.new }
@@ -270,8 +324,7 @@ impl<'f> Bench<'f> {
         upset_all(&mut self.ram, upsets);
     }
 
-    // Each application takes what its pipes hold, unless it is held.
-    #[inline(always)]
+    /// Each application takes what its pipes hold, unless it is held.
     fn take(&mut self, held: &[App])
         ensures { Takes held.now self.old self.new }
     {
@@ -289,12 +342,13 @@ impl<'f> Bench<'f> {
         self.ops.clear();
     }
 
-    // Wakes the applications on what they took, on the frame's execution counters, and on its image, takes over what they left, and
-    // tells whether no item was given.
+    /// Wakes the applications on what they took, on the frame's execution counters, and on its image, takes over what they left, and
+    /// tells whether no item was given.
     #[inline(always)]
     fn step<R: Threads + Sync, G: Gate>(&mut self, rt: &R, gate: &G, counters: &[Counter]) -> bool
         requires time { self.old.epoch + self.old.number < 4294967296 }
         requires clear { IsClear self.old }
+        requires told { AllPass is_item_counted self.old.activations.items }
         requires ready { IsReady self.old }
         ensures steps { Steps counters.now self.old self.new }
         ensures can_send { CanSend self.new }
@@ -305,7 +359,7 @@ impl<'f> Bench<'f> {
         self.take_over()
     }
 
-    // Wakes the applications, each as a job of the crew.
+    /// Wakes the applications, each as a job of the crew.
     #[inline(always)]
     fn wake<R: Threads + Sync, G: Gate>(&mut self, rt: &R, gate: &G, counters: &[Counter])
         requires time { self.old.epoch + self.old.number < 4294967296 }
@@ -316,7 +370,7 @@ impl<'f> Bench<'f> {
         let window = self.ram.window();
         let reads = Reads {
             tables: &self.tables,
-            files: self.files,
+            files: self.tables.files(),
             events: &self.events,
             window,
             counters,
@@ -355,7 +409,7 @@ impl<'f> Bench<'f> {
         self.crew.run(rt, &jobs, gate);
     }
 
-    // Takes over what the jobs left, in the order of the applications, and tells whether no item was given.
+    /// Takes over what the jobs left, in the order of the applications, and tells whether no item was given.
     #[inline(always)]
     fn take_over(&mut self) -> bool
         requires five { length self.old.crew.results ≡ 5 }
@@ -363,6 +417,7 @@ impl<'f> Bench<'f> {
         ensures over { TakesOver self.old self.new }
         ensures none { result ≡ true → joined (items_in self.new) ≡ [] }
     {
+        let told = self.activations.is_empty();
         let hs = self.hs.take_over(&mut self.crew, 0);
         let cs = self.cs.take_over(&mut self.crew, 1);
         let sc = self.sc.take_over(&mut self.crew, 2);
@@ -370,13 +425,14 @@ impl<'f> Bench<'f> {
         left.give_operations(&mut self.ops);
         let mm = self.mm.take_over(&mut self.crew, 3);
         let md = self.md.take_over(&mut self.crew, 4);
-        hs & cs & sc & mm & md
+        told & hs & cs & sc & mm & md
     }
 
-    // Gives the items their counts, offers the frame's packets and theirs to the pipes, and tells whether nothing was sent nor dropped.
+    /// Gives the items their counts, offers the frame's packets and theirs to the pipes, and tells whether nothing was sent nor dropped.
     #[inline(always)]
     fn send(&mut self, input: &FrameInput, none: bool) -> bool
         requires can { CanSend self.old }
+        requires few { length input.now.sends + length self.old.activations.items ≤ 64 }
         requires none { none ≡ true → joined (items_in self.old) ≡ [] }
         ensures sends { Sends input.now.sends self.old self.new }
         ensures silent { result ≡ true → lines_in self.new ≡ [] }
@@ -389,13 +445,15 @@ impl<'f> Bench<'f> {
         self.is_silent()
     }
 
-    // Gives the items their counts, and offers the frame's packets and theirs to the pipes. Nothing was dropped yet.
+    /// Gives the items their counts, and offers the frame's packets and theirs to the pipes. Nothing was dropped yet.
     #[inline(never)]
     fn send_all(&mut self, input: &FrameInput)
         requires can { CanSend self.old }
+        requires few { length input.now.sends + length self.old.activations.items ≤ 64 }
         requires none { self.old.drops.items ≡ [] }
         ensures { Sends input.now.sends self.old self.new }
     {
+        stamp_all(&mut self.log, &mut self.activations);
         stamp_all(&mut self.log, &mut self.hs.out);
         stamp_all(&mut self.log, &mut self.cs.out);
         stamp_all(&mut self.log, &mut self.sc.out);
@@ -404,6 +462,7 @@ impl<'f> Bench<'f> {
         self.bus.deliver(input.sends(), &mut self.drops);
         deliver_all(
             &mut self.bus,
+            &self.activations,
             &self.hs,
             &self.cs,
             &self.sc,
@@ -413,26 +472,27 @@ impl<'f> Bench<'f> {
         );
     }
 
-    // Runs a frame up to its lines: writes its upsets, wakes the applications on its image, sends what they gave, and tells whether
-    // there is no line.
+    /// Runs a frame up to its lines: makes its tables active, writes its upsets, wakes the applications on its image, sends what they gave,
+    /// and tells whether there is no line.
     #[inline(always)]
     fn run<R: Threads + Sync, G: Gate>(&mut self, rt: &R, gate: &G, input: &FrameInput) -> bool
         requires time { self.old.epoch + self.old.number < 4294967296 }
         requires upsets { All (λ (u : Upset). is_mapped (regions_of self.old.ram.areas) u.at ≡ true) input.now.upsets }
         requires ready { IsReady self.old }
-        ensures runs { (setup : Setup) (s : State) → self.old.epoch ≡ setup.epoch → self.old.files.now ≡ setup.files → Has self.old s → RunsIn setup s input.now self.new }
-        ensures run { IsSameRun self.old self.new }
+        ensures runs { (setup : Setup) (s : State) → self.old.epoch ≡ setup.epoch → self.old.tables.files ≡ setup.files → Has self.old s → RunsIn setup (activated_at setup s input.now) input.now self.new }
+        ensures run { GoesOn self.old self.new }
         ensures can_land { CanLand (loads_in self.new) self.new.ram self.new.ops.value }
         ensures ready { IsReady self.new }
         ensures silent { result ≡ true → lines_in self.new ≡ [] }
     {
+        self.activate(input.activations());
         self.upset(input.upsets());
         self.take(input.held());
         let none = self.step(rt, gate, input.counters());
         self.send(input, none)
     }
 
-    // Writes the lines of the frame that was run, all at once.
+    /// Writes the lines of the frame that was run, all at once.
     fn write<O: Sink>(&mut self, sink: &mut O, silent: bool) -> Result<(), Failed>
         requires number { self.old.number < 4294967296 }
         requires none { self.old.block ≡ empty_block }
@@ -448,7 +508,7 @@ impl<'f> Bench<'f> {
         self.block.flush(sink)
     }
 
-    // Puts the lines of the frame that was run behind those that wait, and notes where they end.
+    /// Puts the lines of the frame that was run behind those that wait, and notes where they end.
     fn add_lines<O: Sink>(&mut self, sink: &mut O, silent: bool) -> Result<(), Failed>
         requires number { self.old.number < 4294967296 }
         requires silent { silent ≡ true → lines_in self.old ≡ [] }
@@ -462,7 +522,7 @@ impl<'f> Bench<'f> {
         self.block.mark_end(sink)
     }
 
-    // Puts the lines of the frame that was run behind those that wait.
+    /// Puts the lines of the frame that was run behind those that wait.
     fn put_lines<O: Sink>(&mut self, sink: &mut O, silent: bool) -> Result<(), Failed>
         requires number { self.old.number < 4294967296 }
         requires silent { silent ≡ true → lines_in self.old ≡ [] }
@@ -474,7 +534,14 @@ impl<'f> Bench<'f> {
         if silent {
             return Ok(());
         }
-        let lists = in_order(&self.hs, &self.cs, &self.sc, &self.mm, &self.md);
+        let lists = in_order(
+            &self.activations,
+            &self.hs,
+            &self.cs,
+            &self.sc,
+            &self.mm,
+            &self.md,
+        );
         put_frame(
             &mut self.block,
             sink,
@@ -485,7 +552,7 @@ impl<'f> Bench<'f> {
         )
     }
 
-    // Whether nothing was sent nor dropped in the frame that was run.
+    /// Whether nothing was sent nor dropped in the frame that was run.
     #[inline(always)]
     fn is_silent(&self) -> bool
         ensures { result ≡ true → lines_in self.now ≡ [] }
@@ -493,12 +560,13 @@ impl<'f> Bench<'f> {
         self.gave_nothing() && self.drops.is_empty()
     }
 
-    // Whether no application gave anything in the frame that was run.
+    /// Whether nothing was told of activations and no application gave anything in the frame that was run.
     #[inline(always)]
     fn gave_nothing(&self) -> bool
         ensures { result ≡ true → joined (items_in self.now) ≡ [] }
     {
-        self.hs.out.is_empty()
+        self.activations.is_empty()
+            && self.hs.out.is_empty()
             && self.cs.out.is_empty()
             && self.sc.out.is_empty()
             && self.mm.out.is_empty()

@@ -29,17 +29,16 @@ impl Application<()> for Cs {
 
     ghost most = { MOST_ITEMS };
 
-    ghost belongs = { λ setup reads. (reads.tables.now.eeprom ≡ setup.eeprom) × (reads.tables.now.memory ≡ setup.memory) };
+    ghost belongs = { λ setup reads. (reads.tables.now.set.eeprom ≡ setup.eeprom) × (reads.tables.now.set.memory ≡ setup.memory) };
 
     ghost input = { λ reads commands. input_of reads.time commands reads.window };
 
-    ghost can_step = { λ reads cs. CsIsReady (regions_of (seen reads.window).areas) reads.tables.now.eeprom reads.tables.now.memory cs };
+    ghost can_step = { λ reads cs. CsIsReady (regions_of (seen reads.window).areas) reads.tables.now.set.eeprom reads.tables.now.set.memory cs };
 
     ghost is_clear = { λ beside. Unit {0} };
 
     ghost fills = { λ reads commands beside. Unit {0} };
 
-    #[inline(always)]
     fn is_idle(&self, reads: &Reads<'_, '_, '_>, commands: &[Packet]) -> bool {
         let _ = reads;
         self.is_idle(commands)

@@ -44,7 +44,7 @@ pub(crate) fn refused_place(map: &Map, files: &Files) -> Option<EntryPlace>
     None
 }
 
-// The first entry of a file that memory of the map refuses.
+/// The first entry of a file that memory of the map refuses.
 fn refused_in(map: &Map, image: FileImage<'_>) -> Option<u32>
     requires { (file : List ℕ) × Shows file image }
     ensures { (file : List ℕ) → Shows file image.entry → result ≡ refused_in map.now file }
@@ -55,7 +55,7 @@ fn refused_in(map: &Map, image: FileImage<'_>) -> Option<u32>
     }
 }
 
-// The first entry of a table that memory of the map refuses.
+/// The first entry of a table that memory of the map refuses.
 fn refused_entry(map: &Map, kind: TableKind, payload: &[u8]) -> Option<u32>
     requires { IsTable kind (length payload.now) }
     ensures { result ≡ refused_entry map.now kind payload.now }
@@ -73,7 +73,7 @@ fn refused_entry(map: &Map, kind: TableKind, payload: &[u8]) -> Option<u32>
     }
 }
 
-// The first entry of a dwell table whose read memory of the map refuses.
+/// The first entry of a dwell table whose read memory of the map refuses.
 fn refused_dwell(map: &Map, payload: &[u8]) -> Option<u32>
     requires { length payload.now ≡ 204 }
     ensures { result ≡ where_well (first_refused map.now (dwell_of payload.now).entries) None (dwell_fault_of payload.now) }
@@ -84,7 +84,7 @@ fn refused_dwell(map: &Map, payload: &[u8]) -> Option<u32>
     }
 }
 
-// The first entry of a checksum table whose bytes memory of the map refuses.
+/// The first entry of a checksum table whose bytes memory of the map refuses.
 fn refused_segment(map: &Map, payload: &[u8]) -> Option<u32>
     requires { length payload.now ≡ 192 }
     ensures { result ≡ where_well (first_refused_segment map.now (segments_of payload.now)) None (segments_fault_of payload.now) }

@@ -2,9 +2,8 @@
 
 ghost use Rattle.std.specs.Prelude.{◌≡◌};
 ghost use Rattle.hs_monitors.specs.declared.step.TheConstants.{MOST_ITEMS};
-ghost use Rattle.hs_monitors.specs.Histories.{Input};
-ghost use Rattle.frame_exec.specs.Tables.{TableSet};
-ghost use Rattle.frame_exec.specs.Applications.{hs_stands, hs_gives, hs_reads};
+ghost use Rattle.hs_monitors.specs.Histories.{HsEntry};
+ghost use Rattle.frame_exec.specs.Applications.{Active, hs_stands, hs_gives, hs_reads};
 
 use crate::application::Application;
 use crate::reads::Reads;
@@ -16,9 +15,9 @@ use packet_forms::Packet;
 pub(crate) type HsSlot = Slot<Hs>;
 
 impl Application<()> for Hs {
-    ghost Setup = { TableSet };
+    ghost Setup = { Active };
 
-    ghost Input = { Input };
+    ghost Input = { HsEntry };
 
     ghost stands = { hs_stands };
 
@@ -26,7 +25,7 @@ impl Application<()> for Hs {
 
     ghost most = { MOST_ITEMS };
 
-    ghost belongs = { λ setup reads. reads.tables.now.hs ≡ setup.hs };
+    ghost belongs = { λ setup reads. reads.tables.now.set.hs ≡ setup.now.hs };
 
     ghost input = { λ reads commands. hs_reads reads.time commands reads.events.now reads.counters.now };
 

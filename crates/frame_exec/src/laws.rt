@@ -7,7 +7,7 @@ ghost use Rattle.scenario.specs.FrameLists.{Frame};
 ghost use Rattle.table_files.specs.Kinds.{IsKnown};
 ghost use Rattle.table_files.specs.declared.kinds.TableKind.{TableKind};
 ghost use Rattle.frame_exec.specs.Runs.{Setup, beginning, after_frame, run_of, frame_lines, log_of};
-ghost use Rattle.frame_exec.specs.Rows.{noop_sent, quiet, noop_setup, noop_line};
+ghost use Rattle.frame_exec.specs.Rows.{noop_sent, quiet, none_activated, noop_setup, noop_line, refused_line};
 ghost use Rattle.frame_exec.specs.Tables.{is_loaded};
 
 /// A run and its log without frames, and at one frame more.
@@ -25,6 +25,8 @@ pub fn known_tables_are_loaded()
 {}
 
 /// A run of two frames in which MM alone is woken, and the first of which sends it a no-op: its log is the event that answers it, byte by byte.
+/// And a run of one frame that names a file which isn't there: its log is the event of the refused activation.
 pub fn worked_run()
-    ensures { log_of noop_setup (noop_sent ∷ quiet ∷ []) ≡ noop_line }
+    ensures answered { log_of noop_setup (noop_sent ∷ quiet ∷ []) ≡ noop_line }
+    ensures refused { log_of noop_setup (none_activated ∷ []) ≡ refused_line }
 {}

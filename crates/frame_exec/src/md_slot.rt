@@ -4,10 +4,11 @@ ghost use Rattle.std.specs.Prelude.{◌≡◌};
 ghost use Rattle.memory_window.specs.Memory.{regions_of};
 ghost use Rattle.memory_window.specs.Window.{seen};
 ghost use Rattle.md_dwell.specs.declared.step.TheConstants.{MOST_ITEMS};
-ghost use Rattle.md_dwell.specs.Orders.{Input, input_of};
+ghost use Rattle.histories.specs.Entries.Entry.{Woken};
+ghost use Rattle.md_dwell.specs.Histories.{MdEntry};
+ghost use Rattle.md_dwell.specs.Orders.{input_of};
 ghost use Rattle.md_dwell.specs.State.{AllGiven};
-ghost use Rattle.frame_exec.specs.Tables.{TableSet};
-ghost use Rattle.frame_exec.specs.Applications.{md_stands, md_gives};
+ghost use Rattle.frame_exec.specs.Applications.{Active, md_stands, md_gives};
 
 use crate::application::Application;
 use crate::reads::Reads;
@@ -19,9 +20,9 @@ use packet_forms::Packet;
 pub(crate) type MdSlot = Slot<Md>;
 
 impl Application<()> for Md {
-    ghost Setup = { TableSet };
+    ghost Setup = { Active };
 
-    ghost Input = { Input };
+    ghost Input = { MdEntry };
 
     ghost stands = { md_stands };
 
@@ -31,7 +32,7 @@ impl Application<()> for Md {
 
     ghost belongs = { λ setup reads. Unit {0} };
 
-    ghost input = { λ reads commands. input_of reads.time commands reads.window };
+    ghost input = { λ reads commands. Woken (input_of reads.time commands reads.window) };
 
     ghost can_step = { λ reads md. AllGiven (regions_of (seen reads.window).areas) md };
 

@@ -26,11 +26,11 @@ impl Application<()> for Sc {
 
     ghost most = { MOST_ITEMS };
 
-    ghost belongs = { λ setup reads. reads.tables.now.sc ≡ setup.tables };
+    ghost belongs = { λ setup reads. reads.tables.now.set.sc ≡ setup.tables };
 
     ghost input = { λ reads commands. sc_reads reads.time commands };
 
-    ghost can_step = { λ reads sc. IsReady reads.tables.now.sc sc };
+    ghost can_step = { λ reads sc. IsReady reads.tables.now.set.sc sc };
 
     ghost is_clear = { λ beside. Unit {0} };
 

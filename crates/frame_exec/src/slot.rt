@@ -95,7 +95,7 @@ impl<S> Slot<S> {
         self.go_on(reads, next, out, beside);
     }
 
-    // Leaves the state behind a wakeup in `next`.
+    /// Leaves the state behind a wakeup in `next`.
     #[inline(never)]
     fn go_on<X>(
         &self,

@@ -28,7 +28,7 @@ use memory_window::Ram;
 use packet_log::{Block, Line, Log, head_of, write_drop, write_item};
 use scenario::{App, Upset};
 
-// The place of an application in the order of the applications.
+/// The place of an application in the order of the applications.
 fn place_of(app: App) -> u8
     ensures { result ≡ place_of app }
 {
@@ -112,18 +112,20 @@ fn deliver_items(bus: &mut Bus, items: &[Out], drops: &mut Drops)
     }
 }
 
-/// What the applications gave, a list each, in their order.
+/// What was told of activations, and what the applications gave, a list each, in their order.
 pub(crate) fn in_order<'a>(
+    activations: &'a Outbox,
     hs: &'a HsSlot,
     cs: &'a CsSlot,
     sc: &'a ScSlot,
     mm: &'a MmSlot,
     md: &'a MdSlot,
-) -> [&'a [Out]; 5]
-    ensures shown { shown result ≡ joined (hs.now.out.items ∷ cs.now.out.items ∷ sc.now.out.items ∷ mm.now.out.items ∷ md.now.out.items ∷ []) }
-    ensures five { length result ≡ 5 }
+) -> [&'a [Out]; 6]
+    ensures shown { shown result ≡ joined (activations.now.items ∷ hs.now.out.items ∷ cs.now.out.items ∷ sc.now.out.items ∷ mm.now.out.items ∷ md.now.out.items ∷ []) }
+    ensures six { length result ≡ 6 }
 {
     [
+        activations.items(),
         hs.out.items(),
         cs.out.items(),
         sc.out.items(),
@@ -132,9 +134,11 @@ pub(crate) fn in_order<'a>(
     ]
 }
 
-/// Offers the packets of what the applications sent to their pipes, in the order of the applications.
+/// Offers the packets of what was told of activations and of what the applications sent to their pipes, in the order of the
+/// applications.
 pub(crate) fn deliver_all(
     bus: &mut Bus,
+    activations: &Outbox,
     hs: &HsSlot,
     cs: &CsSlot,
     sc: &ScSlot,
@@ -142,12 +146,12 @@ pub(crate) fn deliver_all(
     md: &MdSlot,
     drops: &mut Drops,
 )
-    requires { length drops.old.items + length (joined (hs.now.out.items ∷ cs.now.out.items ∷ sc.now.out.items ∷ mm.now.out.items ∷ md.now.out.items ∷ [])) ≤ drops.old.room }
-    ensures after { bus.new ≡ after_offers bus.old (flat_map packet_in (joined (hs.now.out.items ∷ cs.now.out.items ∷ sc.now.out.items ∷ mm.now.out.items ∷ md.now.out.items ∷ []))) }
-    ensures drops { drops.new ≡ adding drops.old (drops_from bus.old (flat_map packet_in (joined (hs.now.out.items ∷ cs.now.out.items ∷ sc.now.out.items ∷ mm.now.out.items ∷ md.now.out.items ∷ [])))) }
+    requires { length drops.old.items + length (joined (activations.now.items ∷ hs.now.out.items ∷ cs.now.out.items ∷ sc.now.out.items ∷ mm.now.out.items ∷ md.now.out.items ∷ [])) ≤ drops.old.room }
+    ensures after { bus.new ≡ after_offers bus.old (flat_map packet_in (joined (activations.now.items ∷ hs.now.out.items ∷ cs.now.out.items ∷ sc.now.out.items ∷ mm.now.out.items ∷ md.now.out.items ∷ []))) }
+    ensures drops { drops.new ≡ adding drops.old (drops_from bus.old (flat_map packet_in (joined (activations.now.items ∷ hs.now.out.items ∷ cs.now.out.items ∷ sc.now.out.items ∷ mm.now.out.items ∷ md.now.out.items ∷ [])))) }
     ensures room { drops.new.room ≡ drops.old.room }
 {
-    deliver_lists(bus, &in_order(hs, cs, sc, mm, md), drops);
+    deliver_lists(bus, &in_order(activations, hs, cs, sc, mm, md), drops);
 }
 
 /// Offers the packets of lists of items that were sent to their pipes, one list after another.

@@ -2,6 +2,7 @@
 
 ghost use Rattle.std.specs.Prelude.{◌≡◌, ℕ, ◌≤◌, List, length, None, Some, IfSome, IfOk, IfErr};
 ghost use Rattle.table_files.specs.Headers.{Shows};
+ghost use Rattle.table_files.specs.Files.{file_at, kind_at};
 ghost use Rattle.table_files.specs.Kinds.{IsTable};
 ghost use Rattle.table_files.specs.declared.kinds.TableKind.{TableKind};
 ghost use Rattle.frame_exec.specs.Tables.{with_table, with_file, entry_fault, entry_fault_in, tables_fault};
@@ -16,9 +17,10 @@ use sc_tables::{RtsSet, ScTables, load_ats, load_rts};
 use std::marker::Model;
 use table_files::{EntryFault, FileImage, Files, TableKind};
 
-/// The tables of the applications. The sequences of SC borrow the files.
+/// The tables of the applications that are active, and the files that name them. The sequences of SC borrow the files.
 #[derive(Drop)]
 pub struct Tables<'f> {
+    files: &'f Files,
     dwells: [Dwell; 4],
     eeprom: Segments,
     memory: Segments,
@@ -28,26 +30,25 @@ pub struct Tables<'f> {
 
 impl<'f> Model for Tables<'f> {
     ghost use Rattle.std.specs.Prelude.{◌≡◌, length};
-    ghost use Rattle.frame_exec.specs.Tables.{TableSet};
+    ghost use Rattle.frame_exec.specs.Tables.{Loaded};
 
-    ghost Value = { TableSet };
+    ghost Value = { Loaded };
 
-    ghost view = { λ t. record { dwells = t.dwells; eeprom = t.eeprom; memory = t.memory; hs = t.hs; sc = t.sc } };
+    ghost view = { λ t. record { files = t.files.now; set = record { dwells = t.dwells; eeprom = t.eeprom; memory = t.memory; hs = t.hs; sc = t.sc } } };
 
     ghost invariant = { λ t. length t.dwells ≡ 4 };
-
-    ghost inverse = { λ t. record { dwells = t.dwells; eeprom = t.eeprom; memory = t.memory; hs = t.hs; sc = t.sc } };
 }
 
 impl<'f> Tables<'f> {
-    ghost use Rattle.frame_exec.specs.Tables.{blank_tables, tables_of};
+    ghost use Rattle.frame_exec.specs.Tables.{blank_tables, AreLoaded};
 
-    /// The tables where no file is named: all their bytes are 0.
+    /// The tables that are active where none is named: all their bytes are 0.
     #[tactic(auto, unfolding(crate::specs::Tables::blank_tables))]
-    fn blank() -> Tables<'f>
-        ensures { result ≡ blank_tables }
+    fn blank(files: &'f Files) -> Tables<'f>
+        ensures { result ≡ record { files = files.now; set = blank_tables } }
     {
         Tables {
+            files,
             dwells: [Dwell::blank(); 4],
             eeprom: Segments::blank(),
             memory: Segments::blank(),
@@ -59,12 +60,11 @@ impl<'f> Tables<'f> {
     /// The tables that the files name, or the first fault that their entries have. A table that isn't named has all its bytes 0, and
     /// of files of one kind the first counts. It takes no memory.
     pub fn load(files: &'f Files) -> Result<Tables<'f>, TablesFault>
-        ensures tables { IfOk result (λ tables. tables ≡ tables_of files.now) }
-        ensures well { IfOk result (λ tables. tables_fault files.now ≡ None) }
+        ensures loaded { IfOk result (AreLoaded files.now) }
         ensures fault { IfErr result (λ fault. tables_fault files.now ≡ Some fault) }
         ensures small { IfErr result (λ fault. fault.reason ≤ 5) }
     {
-        let mut tables = Tables::blank();
+        let mut tables = Tables::blank(files);
         let mut found = None;
         let mut left = files.len();
         'files: while left > 0 {
@@ -78,9 +78,32 @@ impl<'f> Tables<'f> {
         }
     }
 
+    /// The kind of the table that FILE `file` names, counted from 1; None exactly where no table file has this number.
+    pub fn kind(&self, file: u32) -> Option<TableKind>
+        ensures { result ≡ kind_at self.now.files file }
+    {
+        self.files.kind(file)
+    }
+
+    /// Makes the table of this FILE the active one of its kind.
+    pub fn activate(&mut self, file: u32)
+        requires { (kind : TableKind) × (kind_at self.old.files file ≡ Some kind) }
+        ensures { self.new ≡ record self.old { set = with_file self.old.set (file_at self.old.files file) } }
+    {
+        let files = self.files();
+        let _ = self.put_file(files.get(file));
+    }
+
+    /// The files that were named.
+    pub(crate) fn files(&self) -> &'f Files
+        ensures { result.now ≡ self.now.files }
+    {
+        self.files
+    }
+
     /// The four dwell tables.
     pub(crate) fn dwells(&self) -> &[Dwell; 4]
-        ensures dwells { result.now ≡ self.now.dwells }
+        ensures dwells { result.now ≡ self.now.set.dwells }
         ensures four { length result.now ≡ 4 }
     {
         &self.dwells
@@ -88,36 +111,36 @@ impl<'f> Tables<'f> {
 
     /// The EEPROM table of CS.
     pub(crate) fn eeprom(&self) -> &Segments
-        ensures { result.now ≡ self.now.eeprom }
+        ensures { result.now ≡ self.now.set.eeprom }
     {
         &self.eeprom
     }
 
     /// The memory table of CS.
     pub(crate) fn memory(&self) -> &Segments
-        ensures { result.now ≡ self.now.memory }
+        ensures { result.now ≡ self.now.set.memory }
     {
         &self.memory
     }
 
     /// The tables of HS.
     pub(crate) fn hs(&self) -> &HsTables
-        ensures { result.now ≡ self.now.hs }
+        ensures { result.now ≡ self.now.set.hs }
     {
         &self.hs
     }
 
     /// The sequences of SC.
     pub(crate) fn sc(&self) -> &ScTables<'f>
-        ensures { result.now ≡ self.now.sc }
+        ensures { result.now ≡ self.now.set.sc }
     {
         &self.sc
     }
 
-    // Puts the table of a file in its place, if it is one and its entries have no fault.
+    /// Puts the table of a file in its place, if it is one and its entries have no fault.
     fn put_file(&mut self, image: FileImage<'f>) -> Option<EntryFault>
         requires { (file : List ℕ) × Shows file image }
-        ensures table { (file : List ℕ) → Shows file image.entry → self.new ≡ with_file self.old file }
+        ensures table { (file : List ℕ) → Shows file image.entry → self.new ≡ record self.old { set = with_file self.old.set file } }
         ensures fault { (file : List ℕ) → Shows file image.entry → result ≡ entry_fault_in file }
         ensures small { IfSome result (λ fault. fault.reason ≤ 5) }
     {
@@ -127,10 +150,10 @@ impl<'f> Tables<'f> {
         }
     }
 
-    // Puts a table in its place, unless its entries have a fault.
+    /// Puts a table in its place, unless its entries have a fault.
     fn put(&mut self, kind: TableKind, payload: &'f [u8]) -> Option<EntryFault>
         requires { IsTable kind (length payload.now) }
-        ensures table { self.new ≡ with_table self.old kind payload.now }
+        ensures table { self.new ≡ record self.old { set = with_table self.old.set kind payload.now } }
         ensures fault { result ≡ entry_fault kind payload.now }
         ensures small { IfSome result (λ fault. fault.reason ≤ 5) }
     {
@@ -147,11 +170,11 @@ impl<'f> Tables<'f> {
         }
     }
 
-    // Puts dwell table n, from 1 to 4, in its place.
+    /// Puts dwell table n, from 1 to 4, in its place.
     fn put_dwell(&mut self, n: u8, payload: &[u8]) -> Option<EntryFault>
         requires number { (1 ≤ n) × (n ≤ 4) }
         requires size { length payload.now ≡ 204 }
-        ensures table { self.new ≡ with_table self.old (TableKind.Dwell n) payload.now }
+        ensures table { self.new ≡ record self.old { set = with_table self.old.set (TableKind.Dwell n) payload.now } }
         ensures fault { result ≡ entry_fault (TableKind.Dwell n) payload.now }
         ensures small { IfSome result (λ fault. fault.reason ≤ 5) }
     {
@@ -165,10 +188,10 @@ impl<'f> Tables<'f> {
         }
     }
 
-    // Puts absolute sequence n, 1 or 2, in its place.
+    /// Puts absolute sequence n, 1 or 2, in its place.
     fn put_ats(&mut self, n: u8, payload: &'f [u8]) -> Option<EntryFault>
         requires { (1 ≤ n) × (n ≤ 2) }
-        ensures table { self.new ≡ with_table self.old (TableKind.Ats n) payload.now }
+        ensures table { self.new ≡ record self.old { set = with_table self.old.set (TableKind.Ats n) payload.now } }
         ensures fault { result ≡ entry_fault (TableKind.Ats n) payload.now }
         ensures small { IfSome result (λ fault. fault.reason ≤ 5) }
     {
@@ -181,11 +204,11 @@ impl<'f> Tables<'f> {
         }
     }
 
-    // Puts relative sequence n, from 1 to 64, in its place.
+    /// Puts relative sequence n, from 1 to 64, in its place.
     fn put_rts(&mut self, n: u8, payload: &'f [u8]) -> Option<EntryFault>
         requires number { (1 ≤ n) × (n ≤ 64) }
         requires size { length payload.now ≤ 2048 }
-        ensures table { self.new ≡ with_table self.old (TableKind.Rts n) payload.now }
+        ensures table { self.new ≡ record self.old { set = with_table self.old.set (TableKind.Rts n) payload.now } }
         ensures fault { result ≡ entry_fault (TableKind.Rts n) payload.now }
         ensures small { IfSome result (λ fault. fault.reason ≤ 5) }
     {

@@ -28,9 +28,9 @@ impl<'a, 'r, 'n, 'f> Model for Scene<'a, 'r, 'n, 'f> {
 
     ghost Value = { Seen };
 
-    ghost view = { λ s. record { hs = s.hs.now; events = s.reads.events.now; cs = s.cs.now; sc = s.sc.now; mm = s.mm.now; md = s.md.now; tables = s.reads.tables.now; files = s.reads.files.now; memory = seen s.reads.window; counters = s.reads.counters.now; time = s.reads.time } };
+    ghost view = { λ s. record { hs = s.hs.now; events = s.reads.events.now; cs = s.cs.now; sc = s.sc.now; mm = s.mm.now; md = s.md.now; tables = s.reads.tables.now.set; files = s.reads.files.now; memory = seen s.reads.window; counters = s.reads.counters.now; time = s.reads.time } };
 
-    ghost invariant = { λ s. CanWake (record { hs = s.hs.now; events = s.reads.events.now; cs = s.cs.now; sc = s.sc.now; mm = s.mm.now; md = s.md.now; tables = s.reads.tables.now; files = s.reads.files.now; memory = seen s.reads.window; counters = s.reads.counters.now; time = s.reads.time }) };
+    ghost invariant = { λ s. CanWake (record { hs = s.hs.now; events = s.reads.events.now; cs = s.cs.now; sc = s.sc.now; mm = s.mm.now; md = s.md.now; tables = s.reads.tables.now.set; files = s.reads.files.now; memory = seen s.reads.window; counters = s.reads.counters.now; time = s.reads.time }) };
 }
 
 /// The wakeup of an application, as a job.
@@ -65,7 +65,7 @@ impl<'a, 'r, 'n, 'f> Scene<'a, 'r, 'n, 'f> {
     ghost use Rattle.scenario.specs.declared.frame.App.TheVariants as names;
     ghost use Rattle.frame_exec.specs.Jobs.{Leaves};
 
-    // Wakes HS. The scratch is clear.
+    /// Wakes HS. The scratch is clear.
     #[inline(always)]
     fn wake_hs(&self, scratch: &mut Left)
         requires { scratch.old.out.items ≡ [] }
@@ -80,7 +80,7 @@ impl<'a, 'r, 'n, 'f> Scene<'a, 'r, 'n, 'f> {
         );
     }
 
-    // Wakes CS. The scratch is clear.
+    /// Wakes CS. The scratch is clear.
     #[inline(always)]
     fn wake_cs(&self, scratch: &mut Left)
         requires { scratch.old.out.items ≡ [] }
@@ -95,7 +95,7 @@ impl<'a, 'r, 'n, 'f> Scene<'a, 'r, 'n, 'f> {
         );
     }
 
-    // Wakes SC. The scratch is clear.
+    /// Wakes SC. The scratch is clear.
     #[inline(always)]
     fn wake_sc(&self, scratch: &mut Left)
         requires { scratch.old.out.items ≡ [] }
@@ -110,7 +110,7 @@ impl<'a, 'r, 'n, 'f> Scene<'a, 'r, 'n, 'f> {
         );
     }
 
-    // Wakes MM. The scratch is clear but for operations.
+    /// Wakes MM. The scratch is clear but for operations.
     #[inline(always)]
     fn wake_mm(&self, scratch: &mut Left)
         requires { scratch.old.out.items ≡ [] }
@@ -126,7 +126,7 @@ impl<'a, 'r, 'n, 'f> Scene<'a, 'r, 'n, 'f> {
         );
     }
 
-    // Wakes MD. The scratch is clear.
+    /// Wakes MD. The scratch is clear.
     #[inline(always)]
     fn wake_md(&self, scratch: &mut Left)
         requires { scratch.old.out.items ≡ [] }

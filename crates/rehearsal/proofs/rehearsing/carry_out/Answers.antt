@@ -39,7 +39,7 @@ pub returns-in-None-clause-outcome : goal.returns-in-None-clause-outcome
 returns-in-None-clause-outcome g c =
     told_then c.in-Ok.ensures.content (told_and c.run_scenario.ensures.opening c.run_scenario.ensures.outcome) (λ before middle after first second.
     reads_scenario c.args.plan.now c.files.result.now c.run_scenario.result c.scenario.result.now c.take_files.new.files _ (g.S.Shelf.faults c.take_files.new.shelf) before middle after (sym c.in-None.ensures.value) c.files.ensures.value c.in-Ok.ensures.well
-    c.scenario.ensures first.0 first.1 c.in-Ok-load.ensures.well second.0 second.1)
+    c.scenario.ensures first.0 first.1 c.in-Ok-load.ensures.loaded.well second.0 second.1)
 
 pub returns-in-None-clause-opening : goal.returns-in-None-clause-opening
 returns-in-None-clause-opening g c =
@@ -49,7 +49,7 @@ returns-in-None-clause-opening g c =
 pub returns-clause-outcome : goal.returns-clause-outcome
 returns-clause-outcome g c =
     told_map c.in-Ok.ensures.content (λ before after first.
-    runs_drill c.args.plan.now c.files.result.now c.run_drill.result c.in-Some.k c.take_files.new.files _ before after (sym c.in-Some.ensures.value) c.files.ensures.value first.0 first.1 first.2 c.in-Ok-load.ensures.well
+    runs_drill c.args.plan.now c.files.result.now c.run_drill.result c.in-Some.k c.take_files.new.files _ before after (sym c.in-Some.ensures.value) c.files.ensures.value first.0 first.1 first.2 c.in-Ok-load.ensures.loaded.well
     (c.run_drill.ensures.well.1, c.run_drill.ensures.well.2) c.run_drill.ensures.outcome)
 
 pub returns-clause-opening : goal.returns-clause-opening

@@ -1,8 +1,8 @@
-use Rattle.std.proofs.Common.{List, ℕ, ◌++◌, length, sym, ap, ◌∙◌, subst, arith}
-use denote.Ref.{Bor}
+use Rattle.std.proofs.Common.{◌++◌, length, sym, ap, ◌∙◌, subst, arith}
 use Rattle.std.specs.Prelude.{Err}
 use Rattle.fsw_outside.specs.declared.traits.Failed.{Failed}
 use Rattle.frame_exec.specs.Stages.{lines_in}
+use Rattle.frame_exec.specs.Tables.{Loaded}
 use Rattle.frame_exec.specs.Runs.{run_of}
 use Rattle.packet_log.specs.Blocks.{Waiting, Notes, ends_from, joined}
 use Rattle.frame_exec.specs.Following.{lines_behind, Adds}
@@ -40,8 +40,8 @@ returns-in-Ok-clause-follows g c = λ setup earlier later follows.
     let r = c.run-silent.ensures.runs setup (run_of setup (earlier ++ later)) follows.epoch follows.files follows.has in
     let lines = lines_are setup (earlier ++ later) c.args.input.now c.run-silent.new.self.number _ c.run-silent.new.self.drops.items (run.number ∙ follows.has.number) r.sent r.drops in
     follows_next c.land.new.self setup earlier later c.args.input.now _ c.run-silent.new.self.block c.add_lines.new.self.block _ _
-    (c.land.ensures.epoch ∙ same.epoch ∙ run.epoch ∙ follows.epoch) (ap (λ (fs : Bor (List (List ℕ))). fs.now) (c.land.ensures.files ∙ same.files ∙ run.files) ∙ follows.files) (c.land.ensures.failed ∙ same.failed ∙ run.failed ∙ follows.well)
-    (has_next c.run-silent.new.self c.add_lines.new.self c.land.new.self setup (earlier ++ later) c.args.input.now same c.land.ensures (ap (λ (fs : Bor (List (List ℕ))). fs.now) run.files ∙ follows.files) (run.number ∙ follows.has.number) (run.tables ∙ follows.has.tables) r)
+    (c.land.ensures.epoch ∙ same.epoch ∙ run.epoch ∙ follows.epoch) (ap (λ (t : Loaded). t.files) (c.land.ensures.tables ∙ same.tables) ∙ run.files ∙ follows.files) (c.land.ensures.failed ∙ same.failed ∙ run.failed ∙ follows.well)
+    (has_next c.run-silent.new.self c.add_lines.new.self c.land.new.self setup (earlier ++ later) c.args.input.now same c.land.ensures (run.files ∙ follows.files) (run.number ∙ follows.has.number) r)
     (ready_next c.run-silent.new.self c.add_lines.new.self c.land.new.self setup (earlier ++ later) c.args.input.now same c.land.ensures c.run-silent.ensures.ready)
     c.land.ensures.waits lines
     (subst (Notes (ends_from 0 (lines_behind setup earlier later)) (length (joined (lines_behind setup earlier later)))) (sym run.waits) follows.notes) c.in-Ok.ensures.adds

@@ -12,18 +12,19 @@ use Rattle.hs_tables.specs.declared.tables.HsTables.{HsTables}
 use Rattle.hs_monitors.specs.Histories.{setup_of}
 use Rattle.hs_monitors.specs.State.{Stands as HsStands}
 use Rattle.frame_exec.proofs.Frames.{stands_opened}
+use Rattle.frame_exec.proofs.Health.{tables_begun}
 use Rattle.frame_exec.proofs.bench.Bench.begin.Goals as goal
 
 pub returns : goal.returns
-returns c = λ loaded.
-    let tables = c.args.tables in
+returns c = λ files loaded.
+    let tables = c.args.tables.set in
     let regions = c.args.header.now.map in
-    let dwells = c.start-5.ensures.given regions (subst (TablesGiven regions) (sym c.dwells.ensures.dwells) c.requires.given.dwells) in
-    stands_opened _ _ refl refl refl c.in_ok-open-9.ensures.empty refl loaded.named
-    (subst (HsStands (setup_of tables.hs 0 3) []) (sym c.in_ok-open.ensures) (subst (λ (hs : HsTables). HsStands (setup_of hs 0 3) [] c.start.result) c.hs.ensures c.start.ensures))
+    let dwells = c.start-5.ensures.given regions (subst (TablesGiven regions) (sym c.dwells.ensures.dwells) c.requires.given.set.dwells) in
+    stands_opened _ _ refl loaded.kept refl c.in_ok-open-10.ensures.empty refl loaded.named
+    (sym (tables_begun (setup_of tables.hs 0 3)), subst (HsStands (setup_of tables.hs 0 3) []) (sym c.in_ok-open.ensures) (subst (λ (hs : HsTables). HsStands (setup_of hs 0 3) [] c.start.result) c.hs.ensures c.start.ensures))
     (subst (CsStands tables.eeprom tables.memory []) (sym c.in_ok-open-2.ensures)
     (subst (λ (memory : List Segment). CsStands tables.eeprom memory [] c.start-2.result) c.memory.ensures (subst (λ (eeprom : List Segment). CsStands eeprom c.memory.result.now [] c.start-2.result) c.eeprom.ensures c.start-2.ensures)))
     (subst (ScStands (begun_at c.args.header.now.epoch tables.sc) []) (sym c.in_ok-open-3.ensures) (subst (λ (sc : List (List TimedCommand)). ScStands (begun_at c.args.header.now.epoch sc) [] c.start-3.result) c.sc.ensures c.start-3.ensures.stands))
     (subst (MmStands []) (sym c.in_ok-open-4.ensures) c.start-4.ensures)
     (subst (MdStands tables.dwells []) (sym c.in_ok-open-5.ensures) (subst (λ (ts : List DwellTable). MdStands ts [] c.start-5.result) c.dwells.ensures.dwells c.start-5.ensures.stands))
-    c.requires.given (subst (ScIsReady tables.sc) (sym c.in_ok-open-3.ensures) (subst (λ (sc : List (List TimedCommand)). ScIsReady sc c.start-3.result) c.sc.ensures c.start-3.ensures.ready)) (subst (AllGiven regions) (sym c.in_ok-open-5.ensures) dwells) c.in_ok-open-8.ensures c.start-6.ensures c.in_ok-new-2.ensures.start
+    c.requires.given (subst (ScIsReady tables.sc) (sym c.in_ok-open-3.ensures) (subst (λ (sc : List (List TimedCommand)). ScIsReady sc c.start-3.result) c.sc.ensures c.start-3.ensures.ready)) (subst (AllGiven regions) (sym c.in_ok-open-5.ensures) dwells) c.in_ok-open-9.ensures c.start-6.ensures c.in_ok-new-2.ensures.start

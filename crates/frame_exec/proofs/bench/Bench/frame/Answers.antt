@@ -1,9 +1,9 @@
 use Rattle.std.proofs.Common.{ℕ, List, ◌++◌, ◌∙◌, ap, subst, arith}
-use denote.Ref.{Bor}
+use Rattle.frame_exec.specs.Tables.{Loaded}
 use Rattle.frame_exec.specs.Runs.{run_of}
 use Rattle.fsw_outside.specs.Written.{AppendsPart}
 use Rattle.fsw_outside.specs.TellingLaws.{told_map}
-use Rattle.frame_exec.proofs.Frames.{lines_are, has_next, ready_next, can_land_still, upsets_mapped, time_fits}
+use Rattle.frame_exec.proofs.Frames.{activated_image, lines_are, has_next, ready_next, can_land_still, upsets_mapped, time_fits}
 use Rattle.frame_exec.proofs.bench.Bench.frame.Goals as goal
 
 pub run-silent-requires-clause-time : goal.run-silent-requires-clause-time
@@ -41,16 +41,16 @@ returns-in-Ok-clause-stands g c = λ setup frames stands.
     let same = c.in-Ok.ensures.same in
     record {
       epoch = c.land.ensures.epoch ∙ same.epoch ∙ run.epoch ∙ stands.epoch;
-      files = ap (λ (fs : Bor (List (List ℕ))). fs.now) (c.land.ensures.files ∙ same.files ∙ run.files) ∙ stands.files;
+      files = ap (λ (t : Loaded). t.files) (c.land.ensures.tables ∙ same.tables) ∙ run.files ∙ stands.files;
       well = c.land.ensures.failed ∙ same.failed ∙ run.failed ∙ stands.well;
       waits = c.land.ensures.waits ∙ c.in-Ok.ensures.handed;
-      has = has_next c.run-silent.new.self c.write.new.self c.land.new.self setup frames c.args.input.now same c.land.ensures (ap (λ (fs : Bor (List (List ℕ))). fs.now) run.files ∙ stands.files) (run.number ∙ stands.has.number) (run.tables ∙ stands.has.tables)
+      has = has_next c.run-silent.new.self c.write.new.self c.land.new.self setup frames c.args.input.now same c.land.ensures (run.files ∙ stands.files) (run.number ∙ stands.has.number)
           (c.run-silent.ensures.runs setup (run_of setup frames) stands.epoch stands.files stands.has);
       ready = ready_next c.run-silent.new.self c.write.new.self c.land.new.self setup frames c.args.input.now same c.land.ensures c.run-silent.ensures.ready;
     }
 
 pub returns-in-Err-clause-interrupted : goal.returns-in-Err-clause-interrupted
-returns-in-Err-clause-interrupted g c = λ setup frames stands. record { memory = c.in-Err.ensures.same.memory ∙ (c.run-silent.ensures.runs setup (run_of setup frames) stands.epoch stands.files stands.has).memory }
+returns-in-Err-clause-interrupted g c = λ setup frames stands. record { memory = c.in-Err.ensures.same.memory ∙ (c.run-silent.ensures.runs setup (run_of setup frames) stands.epoch stands.files stands.has).memory ∙ activated_image setup (run_of setup frames) c.args.input.now }
 
 pub returns-in-Err-clause-lines : goal.returns-in-Err-clause-lines
 returns-in-Err-clause-lines g c = λ setup frames stands.

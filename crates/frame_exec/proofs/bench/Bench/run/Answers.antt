@@ -1,32 +1,79 @@
-use denote.Ref.{Bor}
-use Rattle.std.proofs.Common.{◌≡◌, ℕ, List, true, All, sym, ◌∙◌, ap, subst}
+use Rattle.std.proofs.Common.{◌≡◌, ℕ, List, length, true, All, sym, ◌∙◌, ap, subst, arith}
+use Rattle.std.specs.List.{AllPass}
 use Rattle.memory_window.specs.Regions.{is_mapped}
 use Rattle.memory_window.specs.Memory.{Memory, regions_of}
+use Rattle.memory_window.specs.declared.regions.Region.{Region}
 use Rattle.scenario.specs.declared.frame.Upset.{Upset}
+use Rattle.bus_pipes.specs.Held.{Held}
+use Rattle.bus_pipes.specs.Counted.{is_item_counted}
+use Rattle.bus_pipes.specs.declared.names.Out.{Out}
 use Rattle.packet_log.specs.Standing.{Stands as LogStands}
 use Rattle.scenario.specs.declared.frame.App.{App}
 use Rattle.packet_forms.specs.declared.name.Counter.{Counter}
-use Rattle.frame_exec.specs.Stages.{Takes, Steps}
+use Rattle.frame_exec.specs.Tables.{Loaded}
+use Rattle.frame_exec.specs.Runs.{activated_at}
+use Rattle.frame_exec.specs.Stages.{Takes, Steps, time_of}
+use Rattle.frame_exec.proofs.Activating.{events_counted, events_many}
 use Rattle.frame_exec.proofs.Frames.{apps_kept, ready_by, regions_same}
+use Rattle.frame_exec.proofs.Naming.{activated_has, events_at}
 use Rattle.frame_exec.proofs.Waking.{image_is}
 use Rattle.frame_exec.proofs.Stepping.{ran}
 use Rattle.frame_exec.proofs.bench.Bench.run.Goals as goal
 
+pub activate-requires-clause-few : goal.activate-requires-clause-few
+activate-requires-clause-few g c =
+    let limit = c.activations.ensures.limit in let same = ap (λ (ns : List ℕ). length ns) c.activations.ensures.value in omega (arith, limit, same)
+
 pub upset-requires : goal.upset-requires
-upset-requires g c = subst (λ (upsets : List Upset). All (λ (u : Upset). is_mapped (regions_of c.args.self.now.ram.areas) u.at ≡ true) upsets) (sym c.upsets.ensures.value) c.requires.upsets
+upset-requires g c =
+    subst (λ (upsets : List Upset). All (λ (u : Upset). is_mapped (regions_of c.activate.new.self.ram.areas) u.at ≡ true) upsets) (sym c.upsets.ensures.value)
+    (subst (λ (regions : List Region). All (λ (u : Upset). is_mapped regions u.at ≡ true) c.args.input.now.upsets) (sym (ap (λ (m : Memory). regions_of m.areas) c.activate.ensures.activates.memory)) c.requires.upsets)
+
+pub step-none-requires-clause-told : goal.step-none-requires-clause-told
+step-none-requires-clause-told g c = λ _ _.
+    let told = ap (λ (held : Held Out). held.items) (c.take.ensures.told ∙ c.upset.ensures.told) ∙ c.activate.ensures.activates.events in
+    subst (AllPass is_item_counted) (sym told) (events_counted c.args.self.now.tables.files (time_of c.args.self.now) c.activations.result.now)
 
 pub step-none-requires-clause-ready : goal.step-none-requires-clause-ready
 step-none-requires-clause-ready g c = λ _ _.
-    let old = c.args.self.now in
-    let upset = ready_by old c.upset.new.self (regions_same old.ram c.upset.new.self.ram c.upsets.result.now c.upset.ensures.memory) c.upset.ensures.run.tables c.upset.ensures.apps c.requires.ready in
+    let active = c.activate.new.self in
+    let upset = ready_by active c.upset.new.self (regions_same active.ram c.upset.new.self.ram c.upsets.result.now c.upset.ensures.memory) c.upset.ensures.run.tables c.upset.ensures.apps c.activate.ensures.ready in
     ready_by c.upset.new.self c.take.new.self (ap (λ (m : Memory). regions_of m.areas) c.take.ensures.memory) c.take.ensures.run.tables c.take.ensures.apps upset
+
+pub send-requires-clause-few : goal.send-requires-clause-few
+send-requires-clause-few g c =
+    let told = ap (λ (held : Held Out). length held.items) (c.step-none.ensures.steps.told ∙ c.take.ensures.told ∙ c.upset.ensures.told) ∙ ap (λ (items : List Out). length items) c.activate.ensures.activates.events
+    ∙ events_many c.args.self.now.tables.files (time_of c.args.self.now) c.activations.result.now ∙ ap (λ (ns : List ℕ). length ns) c.activations.ensures.value in
+    let limit = c.activations.ensures.limit in
+    omega (arith, told, limit)
+
+pub returns-clause-run : goal.returns-clause-run
+returns-clause-run g c =
+    let active = c.activate.ensures.activates.goes in
+    let upset = c.upset.ensures.run in
+    let take = c.take.ensures.run in
+    let step = c.step-none.ensures.steps.run in
+    let send = c.send.ensures.sends.run in
+    record {
+      waits = send.waits ∙ step.waits ∙ take.waits ∙ upset.waits ∙ active.waits;
+      epoch = send.epoch ∙ step.epoch ∙ take.epoch ∙ upset.epoch ∙ active.epoch;
+      number = send.number ∙ step.number ∙ take.number ∙ upset.number ∙ active.number;
+      failed = send.failed ∙ step.failed ∙ take.failed ∙ upset.failed ∙ active.failed;
+      files = ap (λ (t : Loaded). t.files) (send.tables ∙ step.tables ∙ take.tables ∙ upset.tables) ∙ active.files;
+    }
 
 pub returns-clause-runs : goal.returns-clause-runs
 returns-clause-runs g c = λ setup s epoch files has.
     let old = c.args.self.now in
     let frame = c.args.input.now in
+    let active = c.activate.ensures.activates in
+    let now = c.activate.new.self in
+    let t = activated_at setup s frame in
+    let has_now = activated_has now setup s frame c.activations.result.now c.activations.ensures.value (active.has setup s files has) in
     let upset = c.upset.ensures in
     let steps = subst (λ (counters : List Counter). Steps counters c.take.new.self c.step-none.new.self) c.counters.ensures.value c.step-none.ensures.steps in
-    ran setup s frame c.upset.new.self c.take.new.self c.step-none.new.self (upset.run.epoch ∙ epoch) (ap (λ (fs : Bor (List (List ℕ))). fs.now) upset.run.files ∙ files) (upset.run.number ∙ has.number) (upset.run.tables ∙ has.tables) (upset.pipes ∙ has.pipes)
-    (image_is s frame old.ram c.upset.new.self.ram c.upsets.result.now has.memory c.upsets.ensures.value upset.memory) (apps_kept old c.upset.new.self s upset.apps has.apps)
-    (subst (λ (held : List App). Takes held c.upset.new.self c.take.new.self) c.held.ensures.value c.take.ensures) steps c.send.new.self (subst (LogStands s.made) (sym upset.log) has.made) c.send.ensures.sends
+    ran setup t frame c.upset.new.self c.take.new.self c.step-none.new.self (upset.run.epoch ∙ active.goes.epoch ∙ epoch) (ap (λ (l : Loaded). l.files) upset.run.tables ∙ active.goes.files ∙ files) (upset.run.number ∙ has_now.number)
+    (ap (λ (l : Loaded). l.set) upset.run.tables ∙ has_now.tables) (upset.pipes ∙ has_now.pipes) (image_is t frame now.ram c.upset.new.self.ram c.upsets.result.now has_now.memory c.upsets.ensures.value upset.memory)
+    (apps_kept now c.upset.new.self t upset.apps has_now.apps)
+    (ap (λ (held : Held Out). held.items) upset.told ∙ events_at old setup s frame now.activations.items c.activations.result.now files epoch has.number c.activations.ensures.value active.events)
+    (subst (λ (held : List App). Takes held c.upset.new.self c.take.new.self) c.held.ensures.value c.take.ensures) steps c.send.new.self (subst (LogStands t.made) (sym upset.log) has_now.made) c.send.ensures.sends

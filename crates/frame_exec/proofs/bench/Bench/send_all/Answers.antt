@@ -11,6 +11,7 @@ use Rattle.frame_exec.proofs.bench.Bench.send_all.Goals as goal
 pub returns : goal.returns
 returns c =
     let old = c.args.self.now in
+    let told = old.activations.items in
     let hs = old.hs.out.items in
     let cs = old.cs.out.items in
     let sc = old.sc.out.items in
@@ -19,7 +20,7 @@ returns c =
     let sends = c.sends.ensures.value in
     let offered = c.deliver.ensures.after ∙ ap (after_offers old.bus) sends in
     record {
-      run = record { waits = refl; epoch = refl; number = refl; failed = refl; tables = refl; files = refl };
+      run = record { waits = refl; epoch = refl; number = refl; failed = refl; tables = refl };
       apps = record { hs = refl; cs = refl; sc = refl; mm = refl; md = refl };
       operations = refl;
       sent = λ made stands.
@@ -27,21 +28,26 @@ returns c =
           let two = c.stamp_all-2.ensures.stands _ one in
           let three = c.stamp_all-3.ensures.stands _ two in
           let four = c.stamp_all-4.ensures.stands _ three in
-          sent_then made hs _ (cs ++ (sc ++ (mm ++ (md ++ [])))) _ (c.stamp_all.ensures.sent made stands)
-          (sent_then (made ++ flat_map makes hs) cs _ (sc ++ (mm ++ (md ++ []))) _ (c.stamp_all-2.ensures.sent _ one)
-          (sent_then ((made ++ flat_map makes hs) ++ flat_map makes cs) sc _ (mm ++ (md ++ [])) _ (c.stamp_all-3.ensures.sent _ two)
-          (sent_then (((made ++ flat_map makes hs) ++ flat_map makes cs) ++ flat_map makes sc) mm _ (md ++ []) _ (c.stamp_all-4.ensures.sent _ three)
-          (sent_then ((((made ++ flat_map makes hs) ++ flat_map makes cs) ++ flat_map makes sc) ++ flat_map makes mm) md _ [] [] (c.stamp_all-5.ensures.sent _ four) (sym (sent_none _))))));
+          let five = c.stamp_all-5.ensures.stands _ four in
+          sent_then made told _ (hs ++ (cs ++ (sc ++ (mm ++ (md ++ []))))) _ (c.stamp_all.ensures.sent made stands)
+          (sent_then (made ++ flat_map makes told) hs _ (cs ++ (sc ++ (mm ++ (md ++ [])))) _ (c.stamp_all-2.ensures.sent _ one)
+          (sent_then ((made ++ flat_map makes told) ++ flat_map makes hs) cs _ (sc ++ (mm ++ (md ++ []))) _ (c.stamp_all-3.ensures.sent _ two)
+          (sent_then (((made ++ flat_map makes told) ++ flat_map makes hs) ++ flat_map makes cs) sc _ (mm ++ (md ++ [])) _ (c.stamp_all-4.ensures.sent _ three)
+          (sent_then ((((made ++ flat_map makes told) ++ flat_map makes hs) ++ flat_map makes cs) ++ flat_map makes sc) mm _ (md ++ []) _ (c.stamp_all-5.ensures.sent _ four)
+          (sent_then (((((made ++ flat_map makes told) ++ flat_map makes hs) ++ flat_map makes cs) ++ flat_map makes sc) ++ flat_map makes mm) md _ [] [] (c.stamp_all-6.ensures.sent _ five) (sym (sent_none _)))))));
       made = λ made stands.
           let one = c.stamp_all.ensures.stands made stands in
           let two = c.stamp_all-2.ensures.stands _ one in
           let three = c.stamp_all-3.ensures.stands _ two in
           let four = c.stamp_all-4.ensures.stands _ three in
           let five = c.stamp_all-5.ensures.stands _ four in
-          made_two made hs (cs ++ (sc ++ (mm ++ (md ++ [])))) _ (made_two (made ++ flat_map makes hs) cs (sc ++ (mm ++ (md ++ []))) _
-          (made_two ((made ++ flat_map makes hs) ++ flat_map makes cs) sc (mm ++ (md ++ [])) _
-          (made_two (((made ++ flat_map makes hs) ++ flat_map makes cs) ++ flat_map makes sc) mm (md ++ []) _
-          (made_two ((((made ++ flat_map makes hs) ++ flat_map makes cs) ++ flat_map makes sc) ++ flat_map makes mm) md [] _ (subst (λ (packets : List (List ℕ)). LogStands packets c.stamp_all-5.new.log) (sym (append-nil _)) five)))));
+          let six = c.stamp_all-6.ensures.stands _ five in
+          made_two made told (hs ++ (cs ++ (sc ++ (mm ++ (md ++ []))))) _
+          (made_two (made ++ flat_map makes told) hs (cs ++ (sc ++ (mm ++ (md ++ [])))) _
+          (made_two ((made ++ flat_map makes told) ++ flat_map makes hs) cs (sc ++ (mm ++ (md ++ []))) _
+          (made_two (((made ++ flat_map makes told) ++ flat_map makes hs) ++ flat_map makes cs) sc (mm ++ (md ++ [])) _
+          (made_two ((((made ++ flat_map makes told) ++ flat_map makes hs) ++ flat_map makes cs) ++ flat_map makes sc) mm (md ++ []) _
+          (made_two (((((made ++ flat_map makes told) ++ flat_map makes hs) ++ flat_map makes cs) ++ flat_map makes sc) ++ flat_map makes mm) md [] _ (subst (λ (packets : List (List ℕ)). LogStands packets c.stamp_all-6.new.log) (sym (append-nil _)) six))))));
       pipes = offers_two old.bus c.deliver.new.self _ c.args.input.now.sends _ offered c.deliver_all.ensures.after;
       drops = drops_two old.bus c.deliver.new.self c.args.self.now.drops c.deliver.new.drops _ c.args.input.now.sends _ c.requires.none offered
           (c.deliver.ensures.drops ∙ ap (λ (packets : List (List ℕ)). adding c.args.self.now.drops (drops_from old.bus packets)) sends) c.deliver_all.ensures.drops;

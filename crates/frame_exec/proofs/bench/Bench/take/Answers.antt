@@ -12,7 +12,8 @@ returns c =
     let md = ap (λ (p : Pipes). p.md) c.take-4.ensures.pipes ∙ ap (λ (p : Pipes). p.md) c.take-3.ensures.pipes ∙ ap (λ (p : Pipes). p.md) c.take-2.ensures.pipes ∙ ap (λ (p : Pipes). p.md) c.take_unless.ensures.pipes
     ∙ ap (λ (p : Pipes). p.md) c.take.ensures.pipes in
     record {
-      run = record { waits = refl; epoch = refl; number = refl; failed = refl; tables = refl; files = refl };
+      run = record { waits = refl; epoch = refl; number = refl; failed = refl; tables = refl };
+      told = refl;
       apps = record { hs = c.take.ensures.state; cs = c.take-2.ensures.state; sc = c.take-3.ensures.state; mm = c.take-4.ensures.state; md = c.take-5.ensures.state };
       hs = taken_by _ _ _ _ _ _ _ c.is_held-hs_held.ensures refl c.take.ensures.takes;
       events = λ free. c.take_unless.ensures.taken (c.is_held-hs_held.ensures ∙ free) ∙ events;

@@ -21,7 +21,8 @@ returns-clause-over c =
     let count : length behind ≡ 5 = sc.count ∙ cs.count ∙ hs.count ∙ c.requires.five in
     let same = sym mm.from.1 ∙ get_or-set_same behind 3 gave mm.from.0 (omega (arith, count)) in
     record {
-      run = record { waits = refl; epoch = refl; number = refl; failed = refl; tables = refl; files = refl };
+      run = record { waits = refl; epoch = refl; number = refl; failed = refl; tables = refl };
+      told = refl;
       hs = (hs.from.0, hs.from.1, (hs.from.2, hs.from.3));
       cs = (cs.from.0, sym (hs.others 1 cs.from.0 (omega arith)) ∙ cs.from.1, (cs.from.2, cs.from.3));
       sc = (sc.from.0, sym (hs.others 2 sc.from.0 (omega arith)) ∙ sym (cs.others 2 sc.from.0 (omega arith)) ∙ sc.from.1, (sc.from.2, sc.from.3));
@@ -46,4 +47,4 @@ returns-clause-over c =
     }
 
 pub returns-clause-none : goal.returns-clause-none
-returns-clause-none c = none_given _ _ _ _ _ _ _ _ _ _ c.take_over-hs.ensures.none c.take_over-cs.ensures.none c.take_over-sc.ensures.none c.take_over-mm.ensures.none c.take_over-md.ensures.none
+returns-clause-none c = none_given _ _ _ _ _ _ _ _ _ _ _ _ c.is_empty-told.ensures c.take_over-hs.ensures.none c.take_over-cs.ensures.none c.take_over-sc.ensures.none c.take_over-mm.ensures.none c.take_over-md.ensures.none

@@ -1,12 +1,13 @@
-use Rattle.std.proofs.Common.{◌≡◌, ◌+◌, ◌∙◌, refl, sym, subst, arith}
+use Rattle.std.proofs.Common.{◌≡◌, ℕ, List, ◌+◌, ◌∙◌, refl, sym, subst, arith}
 use Rattle.memory_window.specs.Memory.{Memory, regions_of}
 use Rattle.md_dwell.specs.State.{AllGiven}
-use Rattle.frame_exec.specs.Applications.{cs_stands, mm_stands, md_stands, cs_gives, mm_gives, md_gives, cs_reads, mm_reads, md_reads}
+use Rattle.frame_exec.specs.Applications.{Active, cs_stands, mm_stands, md_stands, cs_gives, mm_gives, md_gives, cs_reads, mm_reads, md_reads}
 use Rattle.frame_exec.specs.Ready.{CsIsReady}
 use Rattle.frame_exec.specs.Tables.{TableSet}
 use Rattle.frame_exec.specs.Wakes.{next_of}
 use Rattle.frame_exec.specs.Jobs.{Gives, Operates}
-use Rattle.frame_exec.specs.Stages.{loads_in}
+use Rattle.table_files.specs.Files.{loads_of}
+use Rattle.frame_exec.proofs.Waking.{of_both}
 use Rattle.frame_exec.proofs.bench.Bench.wake.Goals as goal
 
 pub invariant_of-scene : goal.invariant_of-scene
@@ -14,7 +15,7 @@ invariant_of-scene g c =
     let old = c.args.self.now in
     let is = sym c.window-window.ensures.window in
     record {
-      cs = subst (λ (m : Memory). CsIsReady (regions_of m.areas) old.tables.eeprom old.tables.memory old.cs.state.value) is c.requires.ready.cs;
+      cs = subst (λ (m : Memory). CsIsReady (regions_of m.areas) old.tables.set.eeprom old.tables.set.memory old.cs.state.value) is c.requires.ready.cs;
       sc = c.requires.ready.sc;
       md = subst (λ (m : Memory). AllGiven (regions_of m.areas) old.md.state.value) is c.requires.ready.md;
     }
@@ -27,15 +28,16 @@ returns g c =
     let five : old.crew.jobs ≡ 5 = old.five in
     let done = c.run.ensures.results.1 in
     record {
-      run = record { waits = refl; epoch = refl; number = refl; failed = refl; tables = refl; files = refl };
+      run = record { waits = refl; epoch = refl; number = refl; failed = refl; tables = refl };
+      told = refl;
       slots = record { hs = refl; cs = refl; sc = refl; mm = refl; md = refl; operations = refl; pipes = refl; log = refl; memory = refl };
       five = c.run.ensures.results.0 ∙ five;
       hs = λ left at. done 0 (omega (arith, five)) _ left refl at;
-      cs = λ left at. subst (λ (m : Memory). Gives (λ t. (old.tables.eeprom ≡ t.eeprom) × (old.tables.memory ≡ t.memory)) cs_stands cs_gives 33 old.cs.held (cs_reads time old.cs.commands m) old.cs.state.value left.stays left.cs.value left.out.items
-          × CsIsReady (regions_of m.areas) old.tables.eeprom old.tables.memory (next_of left.stays left.cs.value old.cs.state.value)) is (done 1 (omega (arith, five)) _ left refl at);
+      cs = λ left at. subst (λ (m : Memory). Gives (λ t. (old.tables.set.eeprom ≡ t.eeprom) × (old.tables.set.memory ≡ t.memory)) cs_stands cs_gives 33 old.cs.held (cs_reads time old.cs.commands m) old.cs.state.value left.stays left.cs.value left.out.items
+          × CsIsReady (regions_of m.areas) old.tables.set.eeprom old.tables.set.memory (next_of left.stays left.cs.value old.cs.state.value)) is (done 1 (omega (arith, five)) _ left refl at);
       sc = λ left at. done 2 (omega (arith, five)) _ left refl at;
-      mm = λ left at. subst (λ (m : Memory). Gives {Setup = TableSet} (λ t. Unit {0}) mm_stands mm_gives 272 old.mm.held (mm_reads (loads_in old) time old.mm.commands m) old.mm.state.value left.stays left.mm.value left.out.items
-          × Operates (loads_in old) old.mm.held time old.mm.commands m left.ops.value) is (done 3 (omega (arith, five)) _ left refl at);
-      md = λ left at. subst (λ (m : Memory). Gives {Setup = TableSet} (λ t. Unit {0}) md_stands md_gives 20 old.md.held (md_reads time old.md.commands m) old.md.state.value left.stays left.md.value left.out.items
+      mm = λ left at. of_both (λ (files : List (List ℕ)) (m : Memory). Gives {Setup = TableSet} (λ t. Unit {0}) mm_stands mm_gives 272 old.mm.held (mm_reads (loads_of files) time old.mm.commands m) old.mm.state.value left.stays left.mm.value left.out.items
+          × Operates (loads_of files) old.mm.held time old.mm.commands m left.ops.value) _ _ _ _ c.files.ensures is (done 3 (omega (arith, five)) _ left refl at);
+      md = λ left at. subst (λ (m : Memory). Gives {Setup = Active} (λ t. Unit {0}) md_stands md_gives 20 old.md.held (md_reads time old.md.commands m) old.md.state.value left.stays left.md.value left.out.items
           × AllGiven (regions_of m.areas) (next_of left.stays left.md.value old.md.state.value)) is (done 4 (omega (arith, five)) _ left refl at);
     }

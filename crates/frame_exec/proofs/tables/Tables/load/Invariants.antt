@@ -6,7 +6,8 @@ use Rattle.frame_exec.proofs.tables.Tables.load.Given as goal
 -- the tables of the files behind those that are left, and the first fault that they have
 abbrev pub invariant-files : goal.invariant-files
 invariant-files l = record {
-  tables : l.tables ≡ tables_of (drop l.left l.files);
+  named : l.tables.files ≡ l.files;
+  tables : l.tables.set ≡ tables_of (drop l.left l.files);
   found : l.found ≡ option_map fault_at (first_said entry_fault_in (l.left + 1) (drop l.left l.files));
   small : IfSome l.found (λ fault. fault.reason ≤ 5);
   within : l.left ≤ length l.files;
