@@ -132,6 +132,42 @@ def health():
     )
 
 
+def standby():
+    return Example(
+        "standby",
+        "Both tables are of application monitors, and watch LOAD, whose counter stands still. The first is active at the start, and would act after ten frames. "
+        "In frame 2 the second becomes active, which an event 1 of `TBL` tells; its watch begins anew, so the counter has changed in frame 2 and stands still in frame 3, where the monitor acts. "
+        "The second activation names a FILE that isn't there: event 2 of `TBL`, of type 3.",
+        [
+            "# Monitors that stand by become active in frame 2; no FILE has number 3.",
+            f"epoch {EPOCH}",
+            RAM,
+            "start",
+            "app LOAD 7",
+            "tick",
+            "app LOAD 7",
+            "tick",
+            "app LOAD 7",
+            "activate 2",
+            "activate 3",
+            "tick",
+            "app LOAD 7",
+            "tick",
+            "tick",
+            "end",
+        ],
+        [
+            event(2, "TBL", 0, 1, 2),
+            event(2, "TBL", 1, 2, 3),
+            event(3, "HS", 2, 103, 3),
+        ],
+        {
+            "apps_1.table": apps_table({1: ("LOAD", 10, 3)}),
+            "apps_2.table": apps_table({1: ("LOAD", 1, 3)}),
+        },
+    )
+
+
 def dwell():
     return Example(
         "dwell",
@@ -637,4 +673,4 @@ def commands():
     )
 
 
-EXAMPLES = [first(), health(), dwell(), checksum(), sequences(), sequence_mistake(), eeprom(), loads(), held(), refused_file(), refused_scenario(), commands()]
+EXAMPLES = [first(), health(), standby(), dwell(), checksum(), sequences(), sequence_mistake(), eeprom(), loads(), held(), refused_file(), refused_scenario(), commands()]

@@ -29,7 +29,7 @@ struct Example<'a> {
     report: Report,
 }
 
-// The file of a table's place, from 0; without bytes where there is none.
+/// The file of a table's place, from 0; without bytes where there is none.
 fn file_of(alloc: Global, tables: &[Table<'_>], place: usize) -> Result<Vec<u8>, Fail> {
     let mut file = Vec::new(alloc);
     if let Some(table) = tables.get(place) {
@@ -39,7 +39,7 @@ fn file_of(alloc: Global, tables: &[Table<'_>], place: usize) -> Result<Vec<u8>,
     Ok(file)
 }
 
-// Asserts what an example of at most six tables gives.
+/// Asserts what an example of at most six tables gives.
 fn assert_example<R: Threads + Sync + AllocGlobal + Abort>(
     rt: &R,
     example: &Example<'_>,

@@ -16,5 +16,6 @@ mod refusals;
 mod rows;
 mod runs;
 mod sequences;
+mod standby;
 mod tables;
 mod workers;

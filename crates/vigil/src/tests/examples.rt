@@ -23,7 +23,7 @@ struct Example<'a> {
     report: Report,
 }
 
-// The file of a table's place, from 0; without bytes where there is none.
+/// The file of a table's place, from 0; without bytes where there is none.
 fn file_of(alloc: Global, tables: &[Table<'_>], place: usize) -> Result<Vec<u8>, Fail> {
     let mut file = Vec::new(alloc);
     if let Some(table) = tables.get(place) {
@@ -33,7 +33,7 @@ fn file_of(alloc: Global, tables: &[Table<'_>], place: usize) -> Result<Vec<u8>,
     Ok(file)
 }
 
-// Asserts what an example of at most six tables gives.
+/// Asserts what an example of at most six tables gives.
 fn assert_example<R: Threads + Sync + AllocGlobal + Abort>(
     rt: &R,
     example: &Example<'_>,
@@ -111,6 +111,34 @@ const HEALTH: Example<'static> = Example {
 #[test]
 fn health_example(rt: HostRuntime) -> Result<(), Fail> {
     assert_example(&rt, &HEALTH)
+}
+
+const STANDBY: Example<'static> = Example {
+    text: "# Monitors that stand by become active in frame 2; no FILE has number 3.\nepoch 1000\nregion RAM 0x1000 256\nstart\napp LOAD 7\ntick\napp LOAD 7\ntick\napp LOAD 7\nactivate 2\nactivate 3\ntick\napp LOAD 7\ntick\ntick\nend\n",
+    tables: &[
+        Table {
+            bytes: b"\x63\x46\x45\x31\x00\x00\x00\x08\x00\x00\x00\x00\x00\x00\x00\x00\x00\x00\x00\x00\x00\x00\x00\x00\x00\x00\x00\x00\x00\x00\x00\x00\x00\x00\x00\x00\x00\x00\x00\x00\x00\x00\x00\x00\x00\x00\x00\x00\x00\x00\x00\x00\x00\x00\x00\x00\x00\x00\x00\x00\x00\x00\x00\x00\x00\x00\x00\x00\x00\x00\x00\x00\x00\x00\x03\x00\x48\x53\x2E\x41\x70\x70\x4D\x6F\x6E\x5F\x54\x62\x6C\x00\x00\x00\x00\x00\x00\x00\x00\x00\x00\x00\x00\x00\x00\x00\x00\x00\x00\x00\x00\x00\x00\x00\x00\x00\x00\x00\x4C\x4F\x41\x44\x00\x00\x00\x00\x00\x00\x00\x00\x00\x00\x00\x00\x00\x00\x00\x00\x00\x0A\x00\x03",
+            len: 884,
+        },
+        Table {
+            bytes: b"\x63\x46\x45\x31\x00\x00\x00\x08\x00\x00\x00\x00\x00\x00\x00\x00\x00\x00\x00\x00\x00\x00\x00\x00\x00\x00\x00\x00\x00\x00\x00\x00\x00\x00\x00\x00\x00\x00\x00\x00\x00\x00\x00\x00\x00\x00\x00\x00\x00\x00\x00\x00\x00\x00\x00\x00\x00\x00\x00\x00\x00\x00\x00\x00\x00\x00\x00\x00\x00\x00\x00\x00\x00\x00\x03\x00\x48\x53\x2E\x41\x70\x70\x4D\x6F\x6E\x5F\x54\x62\x6C\x00\x00\x00\x00\x00\x00\x00\x00\x00\x00\x00\x00\x00\x00\x00\x00\x00\x00\x00\x00\x00\x00\x00\x00\x00\x00\x00\x4C\x4F\x41\x44\x00\x00\x00\x00\x00\x00\x00\x00\x00\x00\x00\x00\x00\x00\x00\x00\x00\x01\x00\x03",
+            len: 884,
+        },
+    ],
+    log: "2 pkt 0808C0000025000003EA000054424C0000000000000000000000000000000000000100020000004200000001\n2 pkt 0808C0010025000003EA000054424C0000000000000000000000000000000000000200030000004200000001\n3 pkt 0808C0020025000003EB00004853000000000000000000000000000000000000006700030000004200000001\n",
+    error: "",
+    report: Report {
+        status: Status::Done,
+        file: 0,
+        line: 0,
+        reason: 0,
+        frames: 5,
+    },
+};
+
+#[test]
+fn standby_example(rt: HostRuntime) -> Result<(), Fail> {
+    assert_example(&rt, &STANDBY)
 }
 
 const DWELL: Example<'static> = Example {

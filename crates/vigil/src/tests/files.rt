@@ -16,12 +16,12 @@ use std::thread::Threads;
 const SCENARIO: &str =
     "epoch 1000\nregion RAM 0x1000 256\nregion MEM16 0x1100 64\nstart\ntick\nend\n";
 
-// The first so many bytes of a file.
+/// The first so many bytes of a file.
 fn first_bytes(file: &[u8], count: usize) -> &[u8] {
     &file[..file.len().min(count)]
 }
 
-// Asserts how these words end over a scenario of one frame beside these files.
+/// Asserts how these words end over a scenario of one frame beside these files.
 fn assert_ends<R: Threads + Sync + AllocGlobal + Abort>(
     rt: &R,
     words: &[&str],
@@ -36,7 +36,7 @@ fn assert_ends<R: Threads + Sync + AllocGlobal + Abort>(
     Ok(())
 }
 
-// Asserts that these words end at a refused file: its number, the entry or 0, and the reason.
+/// Asserts that these words end at a refused file: its number, the entry or 0, and the reason.
 fn assert_refused<R: Threads + Sync + AllocGlobal + Abort>(
     rt: &R,
     words: &[&str],
@@ -181,7 +181,7 @@ fn health_entries_are_refused(rt: HostRuntime) -> Result<(), Fail> {
 
 #[test]
 fn health_headers_are_refused(rt: HostRuntime) -> Result<(), Fail> {
-    let whole = apps_file(rt.alloc(), &[(1, "LOAD", 1, 3)])?;
+    let whole = apps_file(rt.alloc(), &[(1, "LOAD", 2, 3)])?;
     assert_eq!(rt; whole.len(), 884);
     let mut long = apps_file(rt.alloc(), &[(1, "LOAD", 1, 3)])?;
     long.push(0)?;
@@ -199,7 +199,7 @@ fn health_headers_are_refused(rt: HostRuntime) -> Result<(), Fail> {
     assert_refused(&rt, words, &[&too_large], (1, 0, 9))
 }
 
-// Every file's entries are looked at before any is asked of the map, and then the first file is told.
+/// Every file's entries are looked at before any is asked of the map, and then the first file is told.
 #[test]
 fn loaders_come_before_the_map(rt: HostRuntime) -> Result<(), Fail> {
     let outside = dwell_file(rt.alloc(), "MD.DWELL_TABLE4", 0, &[(25, 4, 0, 0x2000)])?;
@@ -211,7 +211,18 @@ fn loaders_come_before_the_map(rt: HostRuntime) -> Result<(), Fail> {
     assert_refused(&rt, words, &[&far, &outside], (1, 2, 10))
 }
 
-// The shelf fails on a call: where it opens or reads FILE 1, FILE 2 or the scenario. Nothing is opened after it.
+/// A file that stands by is looked at as the first of its kind is.
+#[test]
+fn standby_files_are_refused(rt: HostRuntime) -> Result<(), Fail> {
+    let well = dwell_file(rt.alloc(), "MD.DWELL_TABLE4", 0, &[(1, 4, 0, 0x1000)])?;
+    let outside = dwell_file(rt.alloc(), "MD.DWELL_TABLE4", 0, &[(25, 4, 0, 0x2000)])?;
+    let strange = dwell_file(rt.alloc(), "MD.DWELL_TABLE4", 2, &[])?;
+    let words = &["s", "a", "b"];
+    assert_refused(&rt, words, &[&well, &outside], (2, 25, 10))?;
+    assert_refused(&rt, words, &[&well, &strange], (2, 0, 12))
+}
+
+/// The shelf fails on a call: where it opens or reads FILE 1, FILE 2 or the scenario. Nothing is opened after it.
 #[test]
 fn shelf_fails_on_a_file(rt: HostRuntime) -> Result<(), Fail> {
     let first = dwell_file(rt.alloc(), "MD.DWELL_TABLE1", 0, &[])?;
@@ -253,7 +264,7 @@ fn shelf_fails_on_a_file(rt: HostRuntime) -> Result<(), Fail> {
     )
 }
 
-// A file is read in pieces of any length.
+/// A file is read in pieces of any length.
 #[test]
 fn files_are_read_byte_by_byte(rt: HostRuntime) -> Result<(), Fail> {
     let file = dwell_file(rt.alloc(), "MD.DWELL_TABLE1", 0, &[(25, 3, 1, 0)])?;
@@ -265,7 +276,7 @@ fn files_are_read_byte_by_byte(rt: HostRuntime) -> Result<(), Fail> {
     Ok(())
 }
 
-// An empty entry isn't looked at, and a whole region of 16 bits may be read.
+/// An empty entry isn't looked at, and a whole region of 16 bits may be read.
 #[test]
 fn checksum_tables_are_taken(rt: HostRuntime) -> Result<(), Fail> {
     let segments = [(1, 0, 0x2000, 4), (2, 0, 0x1101, 0), (3, 1, 0x1100, 64)];
@@ -275,7 +286,7 @@ fn checksum_tables_are_taken(rt: HostRuntime) -> Result<(), Fail> {
     assert_ends(&rt, &["s", "a", "b"], &[&first, &second], done, "")
 }
 
-// A refused header is told before an entry that its map would refuse, and that entry before a frame's bad line.
+/// A refused header is told before an entry that its map would refuse, and that entry before a frame's bad line.
 #[test]
 fn header_comes_before_the_map(rt: HostRuntime) -> Result<(), Fail> {
     let file = dwell_file(rt.alloc(), "MD.DWELL_TABLE1", 0, &[(2, 1, 0, 0x2000)])?;
@@ -288,7 +299,7 @@ fn header_comes_before_the_map(rt: HostRuntime) -> Result<(), Fail> {
     Ok(())
 }
 
-// A hundred FILE words are accepted, also where all name one table; one word more is refused.
+/// A hundred FILE words are accepted, also where all name one table; one word more is refused.
 #[test]
 fn a_hundred_files_are_accepted(rt: HostRuntime) -> Result<(), Fail> {
     let file = dwell_file(rt.alloc(), "MD.DWELL_TABLE1", 0, &[])?;
@@ -300,8 +311,8 @@ fn a_hundred_files_are_accepted(rt: HostRuntime) -> Result<(), Fail> {
     assert_ends(&rt, &words, &[&file], refused, "vigil: words refused\n")
 }
 
-// Six tables are named in a mixed order. What they give in a frame stands in the order of the applications and of
-// the tables, and a poke of that frame is read by none of them.
+/// Six tables are named in a mixed order. What they give in a frame stands in the order of the applications and of
+/// the tables, and a poke of that frame is read by none of them.
 #[test]
 fn six_tables_answer_in_one_frame(rt: HostRuntime) -> Result<(), Fail> {
     let alloc = rt.alloc();
@@ -348,7 +359,7 @@ const SIX_TABLES: Rehearsal<'static> = Rehearsal {
     ],
 };
 
-// A file is read to its 65,701st byte and not on: the call behind it, which would fail, isn't made. The call before it is.
+/// A file is read to its 65,701st byte and not on: the call behind it, which would fail, isn't made. The call before it is.
 #[test]
 fn long_file_is_not_read_on(rt: HostRuntime) -> Result<(), Fail> {
     let mut long = Vec::new(rt.alloc());

@@ -38,7 +38,7 @@ pub struct Ran {
     pub err: MemSink,
 }
 
-// These words, as the program takes them.
+/// These words, as the program takes them.
 fn words_of(alloc: Global, words: &[&str]) -> Result<Words, NoMemory> {
     let mut given = Words::open(alloc)?;
     for word in words.iter() {
@@ -57,7 +57,7 @@ pub fn run<R: Threads + Sync + AllocGlobal>(
     run_beside(rt, words, text, &[], outside)
 }
 
-// The file of this place, from 0, and an empty one where there is none.
+/// The file of this place, from 0, and an empty one where there is none.
 fn nth<'a>(files: &[&'a [u8]], place: usize) -> &'a [u8] {
     match files.get(place) {
         Some(file) => *file,
@@ -119,7 +119,7 @@ pub enum Line<'a> {
     Text(&'a str),
 }
 
-// Appends an event's line, where the application's name has two letters and the time of frame 0 is 1000.
+/// Appends an event's line, where the time of frame 0 is 1000.
 fn push_event(
     log: &mut String,
     name: &str,
@@ -134,7 +134,10 @@ fn push_event(
     for byte in name.bytes() {
         write!(log, "{byte:02X}")?;
     }
-    write!(log, "{:036}{id:04X}{kind:04X}0000004200000001\n", 0)
+    for _ in name.len()..20 {
+        write!(log, "00")?;
+    }
+    write!(log, "{id:04X}{kind:04X}0000004200000001\n")
 }
 
 /// Appends a line.
@@ -237,7 +240,7 @@ pub struct Rehearsal<'a> {
     pub lines: &'a [Line<'a>],
 }
 
-// Appends those parts that stand in a frame.
+/// Appends those parts that stand in a frame.
 fn push_parts(text: &mut String, parts: &[Part<'_>], frame: u32) -> Result<(), AllocError> {
     for part in parts.iter() {
         if part.0 == frame {
@@ -247,7 +250,7 @@ fn push_parts(text: &mut String, parts: &[Part<'_>], frame: u32) -> Result<(), A
     Ok(())
 }
 
-// Appends a frame.
+/// Appends a frame.
 fn push_frame(text: &mut String, parts: &[&[Part<'_>]], frame: u32) -> Result<(), AllocError> {
     for some in parts.iter() {
         push_parts(text, some, frame)?;
