@@ -99,7 +99,7 @@ impl Report {
 /// A line for the error output.
 pub type ErrorLine = ArrayString<256>;
 
-// Appends a number in decimal digits.
+/// Appends a number in decimal digits.
 fn push_number(line: &mut ErrorLine, number: u32)
     requires { length line.old.bytes ≤ 216 }
     ensures value { line.new.bytes ≡ line.old.bytes ++ decimal number }

@@ -21,7 +21,7 @@ const RELATIVE: u16 = 64;
 /// How many of them are started in a frame: two commands each.
 const IN_A_FRAME: u16 = 8;
 
-// In which frame a sequence is started: the first one begins with the run.
+/// In which frame a sequence is started: the first one begins with the run.
 fn started(number: u16) -> u16
     requires { number ≤ 64 }
 {
@@ -31,13 +31,13 @@ fn started(number: u16) -> u16
     (number - 1) / IN_A_FRAME + 1
 }
 
-// The command that a sequence holds.
+/// The command that a sequence holds.
 fn held(alloc: Global, number: u16) -> Result<Vec<u8>, Fail> {
     unread(alloc, number, 10)
 }
 
-// Puts a file of each relative sequence on the shelf, and its name behind the words. Each name is of one letter more than the one before,
-// so that no other file has it.
+/// Puts a file of each relative sequence on the shelf, and its name behind the words. Each name is of one letter more than the one before,
+/// so that no other file has it.
 fn put_sequences(alloc: Global, shelf: &mut MemShelf, words: &mut Words) -> Result<(), Fail>
     requires closed { IsFalse (has_open_file shelf.old) }
     requires short { All (λ file. length file.name ≤ 1) (content_of shelf.old).files }
@@ -55,7 +55,7 @@ fn put_sequences(alloc: Global, shelf: &mut MemShelf, words: &mut Words) -> Resu
     Ok(())
 }
 
-// Appends the lines of frames in which the sequences are enabled and started, and then of those until all have ended.
+/// Appends the lines of frames in which the sequences are enabled and started, and then of those until all have ended.
 fn push_frames(text: &mut String) -> Result<(), Fail> {
     for frame in 0..RELATIVE / IN_A_FRAME {
         for (code, check) in [(7_u8, 0x8A_u16), (4, 0x89)] {
@@ -77,7 +77,7 @@ fn push_frames(text: &mut String) -> Result<(), Fail> {
     Ok(())
 }
 
-// Appends the lines that tell of the sequences being enabled and started, which the first one is already; then housekeeping.
+/// Appends the lines that tell of the sequences being enabled and started, which the first one is already; then housekeeping.
 fn push_starts(log: &mut String) -> Result<(), Fail> {
     for frame in 1..9_u32 {
         let count = frame.saturating_sub(1).saturating_mul(16);
@@ -108,7 +108,7 @@ fn push_starts(log: &mut String) -> Result<(), Fail> {
     Ok(())
 }
 
-// Appends the lines of the commands that leave, eight in each frame in order of number, and of the sequences that end.
+/// Appends the lines of the commands that leave, eight in each frame in order of number, and of the sequences that end.
 fn push_departures(alloc: Global, log: &mut String) -> Result<(), Fail> {
     for number in 1..RELATIVE + 1 {
         let frame = u32::from(DUE + (number - 1) / IN_A_FRAME);
@@ -121,7 +121,7 @@ fn push_departures(alloc: Global, log: &mut String) -> Result<(), Fail> {
     Ok(())
 }
 
-// All are enabled and run, and all of their commands are due at one time: eight leave in each frame, in order of number.
+/// All are enabled and run, and all of their commands are due at one time: eight leave in each frame, in order of number.
 #[test]
 fn all_relative_sequences_run(rt: HostRuntime) -> Result<(), Fail> {
     let alloc = rt.alloc();

@@ -14,7 +14,7 @@ const HEADER: &str = "epoch 1000\nregion RAM 0x10000 4096\nstart\n";
 /// A byte that isn't 0, so that checksums over it aren't 0.
 const CHANGED: Part<'static> = (0, "upset 0x10001 1\n");
 
-// Asserts what a rehearsal gives beside files of both checksum tables.
+/// Asserts what a rehearsal gives beside files of both checksum tables.
 fn assert_both<R: Threads + Sync + AllocGlobal + Abort>(
     rt: &R,
     eeprom: &[Segment],
@@ -87,8 +87,8 @@ const MEND: &str = "tick\nupset 0x10000 0\n";
 // In the third frame from here on the last byte of the entry is changed.
 const LAST: &str = "tick\ntick\nupset 0x109C3 1\ntick\nend\n";
 
-// The pass that is abandoned gives no event. The next one begins at the first byte, in the wakeup in which all is on
-// again, and its last byte is changed as its third slice is read.
+/// The pass that is abandoned gives no event. The next one begins at the first byte, in the wakeup in which all is on
+/// again, and its last byte is changed as its third slice is read.
 fn assert_abandoned<R: Threads + Sync + AllocGlobal + Abort>(
     rt: &R,
     off: (&str, u32),
@@ -288,7 +288,7 @@ fn passes_and_commands(rt: HostRuntime) -> Result<(), Fail> {
     Ok(())
 }
 
-// A file of a checksum table with 16 enabled entries of one byte, from this address on.
+/// A file of a checksum table with 16 enabled entries of one byte, from this address on.
 fn bytes_file(alloc: Global, name: &str, first: u32) -> Result<Vec<u8>, Fail> {
     let mut entries = Vec::new(alloc);
     let mut at = first;
@@ -299,7 +299,7 @@ fn bytes_file(alloc: Global, name: &str, first: u32) -> Result<Vec<u8>, Fail> {
     segments_file(alloc, name, &entries)
 }
 
-// Appends 32 frames, in each of which the next byte is changed and the one before is mended.
+/// Appends 32 frames, in each of which the next byte is changed and the one before is mended.
 fn push_changes(text: &mut String) -> Result<(), AllocError> {
     for at in 65_536..65_568u32 {
         let before = at.saturating_sub(1);
@@ -311,7 +311,7 @@ fn push_changes(text: &mut String) -> Result<(), AllocError> {
     text.push_str("send 18A0C00000010086\ntick\ntick\nend\n")
 }
 
-// Each byte is changed in the one frame in which its place is read for the second time.
+/// Each byte is changed in the one frame in which its place is read for the second time.
 #[test]
 fn places_are_read_in_a_ring(rt: HostRuntime) -> Result<(), Fail> {
     let first = bytes_file(rt.alloc(), "CS.DefEepromTbl", 0x10000)?;

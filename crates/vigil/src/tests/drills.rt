@@ -16,7 +16,7 @@ use std::thread::Threads;
 /// What `drill:7` writes without tables.
 const SUMMARY: &str = "frames 2000\nlines 2621\nbytes 226802\ncrc 7FC4\n";
 
-// On any number of workers, by both forms of the number, and over a shelf whose every call fails.
+/// On any number of workers, by both forms of the number, and over a shelf whose every call fails.
 #[test]
 fn drill_summary(rt: HostRuntime) -> Result<(), Fail> {
     let words: [&[&str]; 4] = [
@@ -38,7 +38,7 @@ fn drill_summary(rt: HostRuntime) -> Result<(), Fail> {
     Ok(())
 }
 
-// The output takes one byte at a call, and fails at this call.
+/// The output takes one byte at a call, and fails at this call.
 #[test]
 fn summary_is_cut_at_each_byte(rt: HostRuntime) -> Result<(), Fail> {
     let mut place = 0;
@@ -58,7 +58,7 @@ fn summary_is_cut_at_each_byte(rt: HostRuntime) -> Result<(), Fail> {
     Ok(())
 }
 
-// The text of a generated scenario.
+/// The text of a generated scenario.
 fn text_of(alloc: Global, k: u32) -> Result<Vec<u8>, Fail> {
     let mut drill = Drill::start(k.min(999_999));
     let mut text = Vec::new(alloc);
@@ -70,7 +70,7 @@ fn text_of(alloc: Global, k: u32) -> Result<Vec<u8>, Fail> {
     Ok(text)
 }
 
-// The summary of this log.
+/// The summary of this log.
 fn summary_of(alloc: Global, log: &[u8]) -> Result<String, Fail> {
     let lines = log.iter().filter(|byte| **byte == b'\n').count();
     let bytes = log.len();
@@ -83,8 +83,8 @@ const DRILL: [&str; 9] = ["drill:7", "a", "b", "c", "d", "e", "f", "g", "h"];
 
 const FILE: [&str; 9] = ["s", "a", "b", "c", "d", "e", "f", "g", "h"];
 
-// Asserts that a drill beside these files gives the summary of the log that the same scenario gives from a file, and another
-// one than without tables.
+/// Asserts that a drill beside these files gives the summary of the log that the same scenario gives from a file, and another
+/// one than without tables.
 fn assert_same<R: Threads + Sync + AllocGlobal + Abort>(
     rt: &R,
     files: &[&[u8]],
@@ -102,7 +102,7 @@ fn assert_same<R: Threads + Sync + AllocGlobal + Abort>(
     Ok(())
 }
 
-// A table of each kind and a load file: a counter that stays is acted on by the start of a sequence, which starts another.
+/// A table of each kind and a load file: a counter that stays is acted on by the start of a sequence, which starts another.
 #[test]
 fn drill_with_tables(rt: HostRuntime) -> Result<(), Fail> {
     let alloc = rt.alloc();
@@ -141,7 +141,7 @@ fn drill_with_tables(rt: HostRuntime) -> Result<(), Fail> {
     assert_same(&rt, &[&load, &memory])
 }
 
-// Dwell entries that are refused, and the report: by the loader, and by the map, whose last byte is 0x1FFFF.
+/// Dwell entries that are refused, and the report: by the loader, and by the map, whose last byte is 0x1FFFF.
 #[test]
 fn drill_with_refused_tables(rt: HostRuntime) -> Result<(), Fail> {
     let rows = [

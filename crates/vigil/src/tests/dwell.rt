@@ -52,7 +52,7 @@ const RISING_ON: [Part<'static>; 6] = [
 /// Three bytes, where a wakeup is left out before the third.
 const THREE: [Dwelling; 3] = [(1, 1, 0, 0x1000), (2, 1, 2, 0x1001), (3, 1, 0, 0x1002)];
 
-// Asserts what a rehearsal gives beside a file of dwell table 1.
+/// Asserts what a rehearsal gives beside a file of dwell table 1.
 fn assert_first<R: Threads + Sync + AllocGlobal + Abort>(
     rt: &R,
     enabled: u16,
@@ -263,7 +263,7 @@ fn four_tables_in_order(rt: HostRuntime) -> Result<(), Fail> {
     assert_rehearsal(&rt, HEADER, &[&fourth, &third, &first, &second], &FOUR)
 }
 
-// 25 entries of four bytes are one packet in each frame.
+/// 25 entries of four bytes are one packet in each frame.
 #[test]
 fn full_table_is_one_packet(rt: HostRuntime) -> Result<(), Fail> {
     let alloc = rt.alloc();

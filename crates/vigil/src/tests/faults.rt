@@ -24,13 +24,13 @@ const FRAME_ENDS: [usize; 3] = [116, 153, 158];
 /// How long the log is after each frame.
 const LOG_ENDS: [usize; 3] = [0, 239, 383];
 
-// How many of these places lie within so many bytes.
+/// How many of these places lie within so many bytes.
 fn within(ends: &[usize; 3], bytes: usize) -> u32 {
     let [first, second, third] = *ends;
     u32::from(first <= bytes) + u32::from(second <= bytes) + u32::from(third <= bytes)
 }
 
-// How long the log of so many frames is.
+/// How long the log of so many frames is.
 fn log_length(frames: u32) -> usize {
     match frames {
         0 => 0,
@@ -40,7 +40,7 @@ fn log_length(frames: u32) -> usize {
     }
 }
 
-// Asserts a report, its line, and that the output is the first so many bytes of the log.
+/// Asserts a report, its line, and that the output is the first so many bytes of the log.
 fn assert_first_part<R: Abort + AllocGlobal>(
     rt: &R,
     ran: &Ran,
@@ -56,7 +56,7 @@ fn assert_first_part<R: Abort + AllocGlobal>(
     Ok(())
 }
 
-// The shelf's call of this number fails; call 0 is the opening.
+/// The shelf's call of this number fails; call 0 is the opening.
 fn assert_failed_read<R: Threads + Sync + AllocGlobal + Abort>(
     rt: &R,
     call: u32,
@@ -90,7 +90,7 @@ fn each_read_fails_once(rt: HostRuntime) -> Result<(), Fail> {
     Ok(())
 }
 
-// No call of the shelf has this number.
+/// No call of the shelf has this number.
 #[test]
 fn no_further_read_comes(rt: HostRuntime) -> Result<(), Fail> {
     for (call, most) in [(164, 1), (26, 7), (3, 4096)] {
@@ -107,7 +107,7 @@ fn no_further_read_comes(rt: HostRuntime) -> Result<(), Fail> {
     Ok(())
 }
 
-// The output's call of this number fails, where each call takes a byte.
+/// The output's call of this number fails, where each call takes a byte.
 fn assert_failed_write<R: Threads + Sync + AllocGlobal + Abort>(
     rt: &R,
     call: u32,
@@ -132,7 +132,7 @@ fn each_write_fails_once(rt: HostRuntime) -> Result<(), Fail> {
     Ok(())
 }
 
-// The output's call of this number fails, if there is one; what was written before stays.
+/// The output's call of this number fails, if there is one; what was written before stays.
 fn assert_failed_piece<R: Threads + Sync + AllocGlobal + Abort>(
     rt: &R,
     call: u32,
@@ -163,7 +163,7 @@ fn pieces_are_a_first_part(rt: HostRuntime) -> Result<(), Fail> {
     Ok(())
 }
 
-// The shelf hands out a frame and a part of a line, and then fails; and so behind two frames.
+/// The shelf hands out a frame and a part of a line, and then fails; and so behind two frames.
 #[test]
 fn failed_read_ends_the_run(rt: HostRuntime) -> Result<(), Fail> {
     let outside = Outside {

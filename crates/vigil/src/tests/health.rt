@@ -504,7 +504,7 @@ fn watches(rt: HostRuntime) -> Result<(), Fail> {
     Ok(())
 }
 
-// The text of 32 event messages in frame 0, and of two frames more.
+/// The text of 32 event messages in frame 0, and of two frames more.
 fn full_pipe(alloc: Global) -> Result<String, AllocError> {
     let mut text = String::from_str(alloc, HEADER)?;
     push_times(&mut text, LOAD_SEVEN, 32)?;
@@ -512,7 +512,7 @@ fn full_pipe(alloc: Global) -> Result<String, AllocError> {
     Ok(text)
 }
 
-// The log of 512 restarts in frame 1, of whose events 32 are kept and 480 dropped.
+/// The log of 512 restarts in frame 1, of whose events 32 are kept and 480 dropped.
 fn restarts(alloc: Global) -> Result<String, AllocError> {
     let mut log = String::new(alloc);
     for count in 0..512u32 {
@@ -530,7 +530,7 @@ fn restarts(alloc: Global) -> Result<String, AllocError> {
     Ok(log)
 }
 
-// Each of 32 event messages is matched by each of 16 entries, and what that makes of events fills the pipe again.
+/// Each of 32 event messages is matched by each of 16 entries, and what that makes of events fills the pipe again.
 #[test]
 fn each_entry_matches_each_event(rt: HostRuntime) -> Result<(), Fail> {
     let alloc = rt.alloc();
@@ -544,7 +544,7 @@ fn each_entry_matches_each_event(rt: HostRuntime) -> Result<(), Fail> {
     assert_log_beside(&rt, &[&events], text.as_str(), 3, log.as_str())
 }
 
-// Each of 32 application monitors of one name looks at the counter of that name, and acts once.
+/// Each of 32 application monitors of one name looks at the counter of that name, and acts once.
 #[test]
 fn each_entry_watches_its_name(rt: HostRuntime) -> Result<(), Fail> {
     let alloc = rt.alloc();

@@ -26,18 +26,18 @@ struct Ending<'a> {
     written: usize,
 }
 
-// A table of a first read that waits a hundred frames for its second one.
+/// A table of a first read that waits a hundred frames for its second one.
 fn table(alloc: Global) -> Result<Vec<u8>, Fail> {
     let entries = [(1, 2, 100, 0x1000), (2, 1, 1, 0x1002)];
     dwell_file(alloc, "MD.DWELL_TABLE1", 1, &entries)
 }
 
-// The first so many bytes.
+/// The first so many bytes.
 fn first_bytes(bytes: &[u8], count: usize) -> &[u8] {
     &bytes[..bytes.len().min(count)]
 }
 
-// Asserts how the rehearsal of this scenario ends beside this file.
+/// Asserts how the rehearsal of this scenario ends beside this file.
 fn assert_ending<R: Threads + Sync + AllocGlobal + Abort>(
     rt: &R,
     scenario: &str,
@@ -53,7 +53,7 @@ fn assert_ending<R: Threads + Sync + AllocGlobal + Abort>(
     Ok(())
 }
 
-// How it ends where a call of the shelf fails, behind so many on the file: no frame, or those handed out.
+/// How it ends where a call of the shelf fails, behind so many on the file: no frame, or those handed out.
 fn ending_at_call(call: u32, on_file: u32, most: u32) -> Ending<'static> {
     if call < on_file {
         return Ending {
@@ -76,7 +76,7 @@ fn ending_at_call(call: u32, on_file: u32, most: u32) -> Ending<'static> {
     }
 }
 
-// On the file there are an opening, a call for each piece, and one that tells its end; and so on the scenario.
+/// On the file there are an opening, a call for each piece, and one that tells its end; and so on the scenario.
 #[test]
 fn each_call_of_the_shelf_fails_once(rt: HostRuntime) -> Result<(), Fail> {
     let file = table(rt.alloc())?;
@@ -117,7 +117,7 @@ fn each_write_fails_once(rt: HostRuntime) -> Result<(), Fail> {
     Ok(())
 }
 
-// Asserts that a file is refused for this reason, or that nothing is wrong where it is 0, with pieces of each length.
+/// Asserts that a file is refused for this reason, or that nothing is wrong where it is 0, with pieces of each length.
 fn assert_reason<R: Threads + Sync + AllocGlobal + Abort>(
     rt: &R,
     file: &[u8],
@@ -154,7 +154,7 @@ fn file_is_cut(rt: HostRuntime) -> Result<(), Fail> {
     Ok(())
 }
 
-// The file with one byte changed, by exclusive or with 0xFF.
+/// The file with one byte changed, by exclusive or with 0xFF.
 fn changed(alloc: Global, file: &[u8], place: usize) -> Result<Vec<u8>, Fail> {
     let mut bytes = Vec::new(alloc);
     for (index, byte) in file.iter().enumerate() {
@@ -217,7 +217,7 @@ fn scenario_is_cut(rt: HostRuntime) -> Result<(), Fail> {
     Ok(())
 }
 
-// A refusal is the same where the output of its line fails.
+/// A refusal is the same where the output of its line fails.
 #[test]
 fn error_output_fails(rt: HostRuntime) -> Result<(), Fail> {
     let monitors = [(1, "A", 2, 3), (2, "B", 3, 2), (3, "C", 4, 12)];

@@ -12,7 +12,7 @@ use std::thread::Threads;
 
 const NOOP: &str = "send 1888C000000100AE\n";
 
-// A scenario of a header, a line that is repeated, and an end.
+/// A scenario of a header, a line that is repeated, and an end.
 fn repeated(
     alloc: Global,
     begin: &str,
@@ -27,7 +27,7 @@ fn repeated(
     Ok(text)
 }
 
-// Appends the events of so many accepted no-ops of a frame, the first of which has this sequence count.
+/// Appends the events of so many accepted no-ops of a frame, the first of which has this sequence count.
 fn push_noops(
     log: &mut String,
     name: &str,
@@ -38,7 +38,7 @@ fn push_noops(
     push_events(log, name, frame, (first, many), (16, 2))
 }
 
-// Appends the events of so many commands of a frame, by the first sequence count, and by the event's number and type.
+/// Appends the events of so many commands of a frame, by the first sequence count, and by the event's number and type.
 fn push_events(
     log: &mut String,
     name: &str,
@@ -71,7 +71,7 @@ fn held_pipe_fills_and_drops(rt: HostRuntime) -> Result<(), Fail> {
     assert_log(&rt, text.as_str(), 4, log.as_str())
 }
 
-// Seventeen no-ops for an application in frame 0, one more in frame 1, where it is held, and one in frame 2.
+/// Seventeen no-ops for an application in frame 0, one more in frame 1, where it is held, and one in frame 2.
 fn assert_held<R: Threads + Sync + AllocGlobal + Abort>(
     rt: &R,
     name: &str,
@@ -100,7 +100,7 @@ fn each_held_application_keeps_its_pipe(rt: HostRuntime) -> Result<(), Fail> {
     assert_held(&rt, "MD", "1890C000000100B6")
 }
 
-// While HS is held, 32 events stay in its event pipe, and the next one is dropped.
+/// While HS is held, 32 events stay in its event pipe, and the next one is dropped.
 #[test]
 fn held_events_fill_their_pipe(rt: HostRuntime) -> Result<(), Fail> {
     let mut text = repeated(rt.alloc(), "", NOOP, 16, "tick\nhold HS\n")?;
@@ -118,7 +118,7 @@ fn held_events_fill_their_pipe(rt: HostRuntime) -> Result<(), Fail> {
     assert_log(&rt, text.as_str(), 4, log.as_str())
 }
 
-// A frame has 64 items; a 65th is refused at its line.
+/// A frame has 64 items; a 65th is refused at its line.
 #[test]
 fn a_frame_has_64_items(rt: HostRuntime) -> Result<(), Fail> {
     let upset = "upset 0x1000 1\n";
@@ -137,8 +137,8 @@ fn a_frame_has_64_items(rt: HostRuntime) -> Result<(), Fail> {
     Ok(())
 }
 
-// In each of 8,750 frames eight no-ops are accepted and eight commands refused: 140,000 events, whose sequence count
-// begins anew after 16,384, and both counts, which begin anew after 256.
+/// In each of 8,750 frames eight no-ops are accepted and eight commands refused: 140,000 events, whose sequence count
+/// begins anew after 16,384, and both counts, which begin anew after 256.
 #[test]
 fn counts_begin_anew(rt: HostRuntime) -> Result<(), Fail> {
     let mut frame = String::new(rt.alloc());
@@ -177,7 +177,7 @@ fn a_scenario_has_100000_frames(rt: HostRuntime) -> Result<(), Fail> {
     Ok(())
 }
 
-// The scenario is read no further than it is run: the shelf's call behind the first piece would fail.
+/// The scenario is read no further than it is run: the shelf's call behind the first piece would fail.
 #[test]
 fn failed_write_leaves_the_rest_unread(rt: HostRuntime) -> Result<(), Fail> {
     let begin = "send 1888C000000100AE\ntick\ntick\n";

@@ -86,7 +86,7 @@ fn operations_land_in_command_order(rt: HostRuntime) -> Result<(), Fail> {
     assert_lines(&rt, HEADER, body, 3, &lines)
 }
 
-// A load of 9 bytes, and the same with a check that is wrong by one bit; loads of 1 and of 200 bytes, and payloads of 6 and of 207.
+/// A load of 9 bytes, and the same with a check that is wrong by one bit; loads of 1 and of 200 bytes, and payloads of 6 and of 207.
 #[test]
 fn loads_have_a_check(rt: HostRuntime) -> Result<(), Fail> {
     let body = "send 1888C0000010041C00001000BB3D313233343536373839\n\
@@ -118,7 +118,7 @@ fn loads_have_a_check(rt: HostRuntime) -> Result<(), Fail> {
     assert_lines(&rt, HEADER, body, 3, &lines)
 }
 
-// Dumps of 128 and of 129 bytes, and of lengths that are refused.
+/// Dumps of 128 and of 129 bytes, and of lengths that are refused.
 #[test]
 fn dumps_are_cut_into_parts(rt: HostRuntime) -> Result<(), Fail> {
     let body = "send 1888C000000A08100000100000000800A5\n\
@@ -172,7 +172,7 @@ fn a_dump_of_2048_bytes_has_sixteen_packets(rt: HostRuntime) -> Result<(), Fail>
     assert_log(&rt, text, 2, log.as_str())
 }
 
-// Regions of every kind side by side: in MEM16 and MEM32 address and length have units, EEPROM is protected, and no range goes over two regions.
+/// Regions of every kind side by side: in MEM16 and MEM32 address and length have units, EEPROM is protected, and no range goes over two regions.
 #[test]
 fn ranges_in_their_units(rt: HostRuntime) -> Result<(), Fail> {
     let lines = [
@@ -212,7 +212,7 @@ fn ranges_in_their_units(rt: HostRuntime) -> Result<(), Fail> {
     )
 }
 
-// Fills of 65,536 bytes and of 1 byte over two banks of 65,536 bytes, and lengths that are refused.
+/// Fills of 65,536 bytes and of 1 byte over two banks of 65,536 bytes, and lengths that are refused.
 #[test]
 fn fills_cross_banks(rt: HostRuntime) -> Result<(), Fail> {
     let body = "send 1888C000000A087700008001000100005A\n\
@@ -251,7 +251,7 @@ fn fills_cross_banks(rt: HostRuntime) -> Result<(), Fail> {
     )
 }
 
-// A poke, a load and a fill of the same bytes, and the peek behind them, which shows the image.
+/// A poke, a load and a fill of the same bytes, and the peek behind them, which shows the image.
 #[test]
 fn all_writes_of_a_frame_land_in_order(rt: HostRuntime) -> Result<(), Fail> {
     let body = "send 1888C000000A0392200000100001020304\n\
@@ -324,7 +324,7 @@ fn loads_cross_banks(rt: HostRuntime) -> Result<(), Fail> {
     )
 }
 
-// Load files are numbered among themselves; one that isn't there, and one that memory refuses.
+/// Load files are numbered among themselves; one that isn't there, and one that memory refuses.
 #[test]
 fn load_files_stand_among_tables(rt: HostRuntime) -> Result<(), Fail> {
     let body = "send 1888C000000305AB0002\n\
@@ -355,7 +355,7 @@ fn load_files_stand_among_tables(rt: HostRuntime) -> Result<(), Fail> {
     assert_lines_beside(&rt, HEADER, &files, body, 3, &lines)
 }
 
-// Asserts that a file is refused with this reason.
+/// Asserts that a file is refused with this reason.
 fn assert_refused<R: Threads + Sync + AllocGlobal + Abort>(
     rt: &R,
     file: &[u8],
@@ -378,7 +378,7 @@ fn assert_refused<R: Threads + Sync + AllocGlobal + Abort>(
     Ok(())
 }
 
-// A file of 65,536 bytes is accepted; one of 0 or 65,537 bytes, with another number of bytes or another check, or cut in its headers isn't.
+/// A file of 65,536 bytes is accepted; one of 0 or 65,537 bytes, with another number of bytes or another check, or cut in its headers isn't.
 #[test]
 fn load_files_are_refused(rt: HostRuntime) -> Result<(), Fail> {
     let sized = "vigil: file 1 refused, reason 6, entry 0\n";

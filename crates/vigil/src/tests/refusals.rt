@@ -191,7 +191,7 @@ const ACCEPTED_WORDS: [&[&str]; 7] = [
     &["--workers", "16", "s"],
 ];
 
-// Asserts how an empty scenario of one line is run under these words, and what is told.
+/// Asserts how an empty scenario of one line is run under these words, and what is told.
 fn assert_words<R: Threads + Sync + AllocGlobal + Abort>(
     rt: &R,
     words: &[&str],
@@ -230,7 +230,7 @@ fn words_accepted(rt: HostRuntime) -> Result<(), Fail> {
     Ok(())
 }
 
-// Where the error output fails, the status stays and nothing is told.
+/// Where the error output fails, the status stays and nothing is told.
 #[test]
 fn failing_error_output_changes_nothing(rt: HostRuntime) -> Result<(), Fail> {
     let outside = Outside {

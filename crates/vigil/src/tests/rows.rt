@@ -44,7 +44,7 @@ fn peek_refusals_in_order(rt: HostRuntime) -> Result<(), Fail> {
     assert_lines(&rt, HEADER, body, 2, &lines)
 }
 
-// The housekeeping at the end shows that the region is open for writing.
+/// The housekeeping at the end shows that the region is open for writing.
 #[test]
 fn eeprom_protection(rt: HostRuntime) -> Result<(), Fail> {
     let body = "send 1888C000000A038F080000200000000001\nsend 1888C00000020BA701\n\
@@ -81,7 +81,7 @@ fn command_refusals(rt: HostRuntime) -> Result<(), Fail> {
     assert_lines(&rt, HEADER, body, 2, &lines)
 }
 
-// A poke of 32 bits and then one of 16, whose value is cut, are read in three sizes in the next frames.
+/// A poke of 32 bits and then one of 16, whose value is cut, are read in three sizes in the next frames.
 #[test]
 fn pokes_are_read_a_frame_later(rt: HostRuntime) -> Result<(), Fail> {
     let body = "send 1888C000000A03B2200000102001020304\ntick\n\
@@ -100,7 +100,7 @@ fn pokes_are_read_a_frame_later(rt: HostRuntime) -> Result<(), Fail> {
     assert_lines(&rt, HEADER, body, 4, &lines)
 }
 
-// Upsets come before a peek of the same frame, in line order.
+/// Upsets come before a peek of the same frame, in line order.
 #[test]
 fn upsets_come_before_the_image(rt: HostRuntime) -> Result<(), Fail> {
     let body =
@@ -112,7 +112,7 @@ fn upsets_come_before_the_image(rt: HostRuntime) -> Result<(), Fail> {
     assert_lines(&rt, HEADER, body, 2, &lines)
 }
 
-// Protection is asked of commands alone: an upset changes a protected EEPROM byte.
+/// Protection is asked of commands alone: an upset changes a protected EEPROM byte.
 #[test]
 fn upset_of_a_protected_byte(rt: HostRuntime) -> Result<(), Fail> {
     let body = "send 1888C000000602830800002000\ntick\nupset 0x2000 18\ntick\nend\n";

@@ -644,7 +644,7 @@ pub fn unread(alloc: Global, number: u16, size: u16) -> Result<Vec<u8>, Fail> {
     Ok(packet)
 }
 
-// A load of so many commands of so many bytes, all at 1002 and stored from the last number to the first, leaves eight a frame, in order of number.
+/// A load of so many commands of so many bytes, all at 1002 and stored from the last number to the first, leaves eight a frame, in order of number.
 fn assert_leaves_in_order<R: Threads + Sync + AllocGlobal + Abort>(
     rt: &R,
     count: u16,
@@ -683,7 +683,7 @@ fn assert_leaves_in_order<R: Threads + Sync + AllocGlobal + Abort>(
     )
 }
 
-// The most commands, and the longest ones: 65,500 bytes of payload.
+/// The most commands, and the longest ones: 65,500 bytes of payload.
 #[test]
 fn long_loads_leave_in_order(rt: HostRuntime) -> Result<(), Fail> {
     assert_leaves_in_order(&rt, 1_000, 10)?;

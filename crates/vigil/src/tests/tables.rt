@@ -10,13 +10,13 @@ pub type Dwelling = (usize, u16, u16, u32);
 /// An entry of a checksum table: its place from 1, its state, its start and its length.
 pub type Segment = (usize, u16, u32, u32);
 
-// Appends a number of two bytes.
+/// Appends a number of two bytes.
 fn push_u16(bytes: &mut Vec<u8>, number: u16) -> Result<(), Fail> {
     bytes.extend_from_slice(&number.to_be_bytes())?;
     Ok(())
 }
 
-// Appends a number of four bytes.
+/// Appends a number of four bytes.
 fn push_u32(bytes: &mut Vec<u8>, number: u32) -> Result<(), Fail> {
     bytes.extend_from_slice(&number.to_be_bytes())?;
     Ok(())
@@ -103,14 +103,14 @@ pub type Count<'a> = (usize, &'a str, u16);
 /// An entry of message actions: its place from 1, its state, its cooldown and its packet.
 pub type Action<'a> = (usize, u16, u16, &'a [u8]);
 
-// Appends a name, in 20 bytes.
+/// Appends a name, in 20 bytes.
 fn push_name(bytes: &mut Vec<u8>, name: &str) -> Result<(), Fail> {
     let len = bytes.len().saturating_add(20);
     bytes.extend_from_slice(name.as_bytes())?;
     pad(bytes, len)
 }
 
-// A file of monitors whose payload has so many bytes. The places of the entries rise.
+/// A file of monitors whose payload has so many bytes. The places of the entries rise.
 fn monitors_file(
     alloc: Global,
     name: &str,

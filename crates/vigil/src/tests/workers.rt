@@ -13,7 +13,7 @@ use std::thread::Threads;
 
 const HEADER: &str = "epoch 1000\nregion RAM 0 131072\nregion EEPROM 0x20000 4096\nstart\n";
 
-// The commands of a frame, by the last digit of its number.
+/// The commands of a frame, by the last digit of its number.
 fn commands(digit: u32) -> &'static str {
     match digit {
         1 => "send 18A9C0000003028E0001\nsend 18A9C000000307880002\nsend 18A9C000000307890003\n\
@@ -30,7 +30,7 @@ fn commands(digit: u32) -> &'static str {
     }
 }
 
-// Appends a frame: five execution counters that go on at their own pace, an upset, and commands.
+/// Appends a frame: five execution counters that go on at their own pace, an upset, and commands.
 fn push_frame(text: &mut String, frame: u32) -> Result<(), AllocError> {
     write!(
         text,
@@ -44,7 +44,7 @@ fn push_frame(text: &mut String, frame: u32) -> Result<(), AllocError> {
     text.push_str("tick\n")
 }
 
-// A scenario of 300 frames.
+/// A scenario of 300 frames.
 fn scenario(alloc: Global) -> Result<String, AllocError> {
     let mut text = String::from_str(alloc, HEADER)?;
     for frame in 0..300 {
@@ -74,7 +74,7 @@ const PACKETS: [&[u8]; 8] = [
 /// What an event has that tells the end of a relative sequence.
 const SEQUENCE_ENDED: &str = "53430000000000000000000000000000000000000068";
 
-// A file of an absolute sequence of forty commands, seven seconds from one to the next.
+/// A file of an absolute sequence of forty commands, seven seconds from one to the next.
 fn forty_commands(alloc: Global) -> Result<Vec<u8>, Fail> {
     let mut commands: Vec<Timed<'static>> = Vec::new(alloc);
     let mut number = 0;
@@ -91,13 +91,13 @@ fn forty_commands(alloc: Global) -> Result<Vec<u8>, Fail> {
     ats_file(alloc, "SC.ATS_TBL1", &commands)
 }
 
-// A file of a relative sequence of two no-ops, the second this many seconds behind the first.
+/// A file of a relative sequence of two no-ops, the second this many seconds behind the first.
 fn two_commands(alloc: Global, name: &str, seconds: u16) -> Result<Vec<u8>, Fail> {
     let [first, _, second, _, _, _, _, _] = PACKETS;
     rts_file(alloc, name, &[(1, first), (seconds, second)])
 }
 
-// Files of the six dwell and checksum tables.
+/// Files of the six dwell and checksum tables.
 fn readings(alloc: Global) -> Result<[Vec<u8>; 6], Fail> {
     Ok([
         dwell_file(
@@ -123,7 +123,7 @@ fn readings(alloc: Global) -> Result<[Vec<u8>; 6], Fail> {
     ])
 }
 
-// With five application monitors, four dwell tables, two checksum tables, an absolute sequence and six relative ones.
+/// With five application monitors, four dwell tables, two checksum tables, an absolute sequence and six relative ones.
 #[test]
 fn rehearsal_is_the_same_on_workers(rt: HostRuntime) -> Result<(), Fail> {
     let alloc = rt.alloc();
@@ -151,7 +151,7 @@ fn rehearsal_is_the_same_on_workers(rt: HostRuntime) -> Result<(), Fail> {
     compare_runs(&rt, text.as_str(), &files)
 }
 
-// A rehearsal beside these files on so many workers, through a gate that holds nothing.
+/// A rehearsal beside these files on so many workers, through a gate that holds nothing.
 fn run_on<R: Threads + Sync + AllocGlobal>(
     rt: &R,
     workers: &str,
@@ -181,7 +181,7 @@ fn run_on<R: Threads + Sync + AllocGlobal>(
     run_beside(rt, &words[..files.len().min(14) + 3], text, files, outside)
 }
 
-// The log by the words as they are, on several numbers of workers, and a first part of it where the output fails.
+/// The log by the words as they are, on several numbers of workers, and a first part of it where the output fails.
 fn compare_runs<R: Threads + Sync + AllocGlobal + Abort>(
     rt: &R,
     text: &str,
@@ -275,7 +275,7 @@ const NOOP: &str = "epoch 1000\n\
     tick\n\
     end\n";
 
-// Runs the no-op on two workers, where some jobs are held until others have entered, and says which were met.
+/// Runs the no-op on two workers, where some jobs are held until others have entered, and says which were met.
 fn met<R: Threads + Sync + AllocGlobal + Abort>(
     rt: &R,
     held: u64,
@@ -300,7 +300,7 @@ fn two_jobs_at_once(rt: HostRuntime) -> Result<(), Fail> {
     Ok(())
 }
 
-// With shares that are fixed beforehand a job that is held would keep another of the same worker from entering.
+/// With shares that are fixed beforehand a job that is held would keep another of the same worker from entering.
 #[test]
 fn jobs_are_drawn(rt: HostRuntime) -> Result<(), Fail> {
     for job in 0..5u32 {
