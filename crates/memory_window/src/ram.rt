@@ -53,9 +53,7 @@ impl Ram {
         ensures start { IfOk result (λ ram. ram ≡ start_memory map) }
         ensures map { IfOk result (λ ram. regions_of ram.areas ≡ map) }
     {
-        let Ok(store) = Store::zeroed(alloc, map.total() as usize) else {
-            return Err(NoMemory);
-        };
+        let store = Store::zeroed(alloc, map.total() as usize)?;
         Ok(Ram {
             guarded: start_flags(map.regions()),
             map,
