@@ -1,5 +1,6 @@
 -- A bench whose frame named files, so that their tables are active now.
-use Rattle.std.proofs.Common.{◌≡◌, ℕ, ◌+◌, Bool, true, false, List, [], ◌∷◌, ◌++◌, Option, Some, None, Box, Global, refl, sym, ◌∙◌, ap, subst, append_assoc}
+use Rattle.std.proofs.Common.{◌≡◌, ◌==◌, ℕ, ◌+◌, Bool, true, false, List, [], ◌∷◌, ◌++◌, length, Option, Some, None, Box, Global, refl, sym, ◌∙◌, ap, subst, append_assoc, arith}
+use Rattle.std.proofs.lemmas.Bool.Decides.{nat_tests}
 use Rattle.std.specs.Prelude.{fold, map}
 use Rattle.std.proofs.lemmas.List.{map-append}
 use Rattle.std.proofs.lemmas.List.Sums.{fold-append}
@@ -203,3 +204,18 @@ pub events_at : (old : Bench) (setup : Setup) (s : State) (frame : Frame) (items
 events_at old setup s frame items numbers files epoch number is told =
     let time : time_of old ≡ time_at setup (activated_at setup s frame) = ap (λ (e : ℕ). e + old.number) epoch ∙ ap (λ (n : ℕ). setup.epoch + n) (number ∙ sym (activated_number setup s frame)) in
     told ∙ ap (λ (fs : List (List ℕ)). table_events fs (time_of old) numbers) files ∙ ap (λ (t : ℕ). table_events setup.files t numbers) time ∙ ap (table_events setup.files (time_at setup (activated_at setup s frame))) is
+
+none_told : (items : List Out) → true ≡ (length items == 0) → items ≡ []
+none_told [] none = refl
+none_told (item ∷ items) none = absurd (grind (arith, nat_tests))
+
+-- no file is named, and nothing was told of an earlier frame's
+pub activates_nothing : (b : Bench) (numbers : List ℕ) → true ≡ (length numbers == 0) → true ≡ (length b.activations.items == 0) → Activates numbers [] b b
+unfolding table_events
+activates_nothing b [] none told = record {
+  goes = record { waits = refl; epoch = refl; number = refl; failed = refl; files = refl };
+  memory = refl;
+  events = none_told b.activations.items told;
+  has = λ setup s files has. has;
+}
+activates_nothing b (n ∷ numbers) none told = absurd (grind (arith, nat_tests))

@@ -271,8 +271,24 @@ impl<'f> Bench<'f> {
         self.number += 1;
     }
 
-    /// Makes the tables of these files active, in order, and tells of each whether it is.
+    /// Makes the tables of these files active, in order, and tells of each whether it is. Most frames name none.
+    #[inline(always)]
     fn activate(&mut self, files: &[u32])
+        requires time { self.old.epoch + self.old.number < 4294967296 }
+        requires few { length files.now ≤ 64 }
+        requires ready { IsReady self.old }
+        ensures activates { Activates files.now [] self.old self.new }
+        ensures ready { IsReady self.new }
+    {
+        if files.is_empty() && self.activations.is_empty() {
+            return;
+        }
+        self.activate_all(files);
+    }
+
+    /// Forgets what an earlier frame told, and makes the tables of these files active.
+    #[inline(never)]
+    fn activate_all(&mut self, files: &[u32])
         requires time { self.old.epoch + self.old.number < 4294967296 }
         requires few { length files.now ≤ 64 }
         requires ready { IsReady self.old }

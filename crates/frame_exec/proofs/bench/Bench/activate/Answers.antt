@@ -1,38 +1,8 @@
-use Rattle.std.proofs.Common.{ℕ, List, [], ◌∷◌, length, take, get_or, refl, sym, ◌∙◌, ap, subst, arith, take_all}
-use Rattle.std.proofs.lemmas.List.{get_or_default, length-take}
-use Rattle.histories.proofs.Fronts.{front_more}
-use Rattle.bus_pipes.specs.declared.names.Out.{Out}
-use Rattle.frame_exec.specs.Stages.{Activates, time_of}
-use Rattle.frame_exec.proofs.Activating.{events_many}
-use Rattle.frame_exec.proofs.Naming.{activates_none, activates_more, ready_told}
+use Rattle.std.proofs.Common.{sym, ◌∙◌}
+use Rattle.frame_exec.proofs.Naming.{activates_nothing}
 use Rattle.frame_exec.proofs.bench.Bench.activate.Goals as goal
 
-pub files-init : goal.files-init
-files-init c = record { named = activates_none c.args.self.now c.clear.new.self _ _ _ c.clear.ensures.none; ready = ready_told c.args.self.now c.clear.new.self _ _ _ c.requires.ready }
-
-pub name_file-requires-clause-room : goal.name_file-requires-clause-room
-name_file-requires-clause-room c =
-    let old = c.args.self.now in
-    let numbers = take c.files.file-index c.args.files.now in
-    let told = ap (λ (items : List Out). length items) c.files.invariant.named.events ∙ events_many old.tables.files (time_of old) numbers in
-    let front = length-take c.files.file-index c.args.files.now in
-    omega (arith, told, front, c.files-test.true, c.requires.few)
-
-pub name_file-requires-clause-time : goal.name_file-requires-clause-time
-name_file-requires-clause-time c =
-    let goes = c.files.invariant.named.goes in
-    omega (arith, goes.epoch, goes.number, c.requires.time)
-
-pub files-preserved : goal.files-preserved
-files-preserved c =
-    let i = c.files.file-index in
-    let files = c.args.files.now in
-    let file = get_or files i 0 in
-    record {
-      named = subst (λ (ns : List ℕ). Activates ns [] c.args.self.now c.name_file.new.self) (sym (front_more files i file c.files-test.true (get_or_default files i 0 file c.files-test.true)))
-          (activates_more c.args.self.now c.files.self c.name_file.new.self (take i files) (file ∷ []) [] _ refl c.files.invariant.named c.name_file.ensures.activates);
-      ready = c.name_file.ensures.ready;
-    }
-
-pub returns-clause-activates : goal.returns-clause-activates
-returns-clause-activates c = subst (λ (ns : List ℕ). Activates ns [] c.args.self.now c.files.self) (take_all c.files.file-index c.args.files.now c.files-test.false) c.files.invariant.named
+-- no file is named
+pub returns-then-is_empty-2-clause-activates : goal.returns-then-is_empty-2-clause-activates
+returns-then-is_empty-2-clause-activates c =
+    activates_nothing c.args.self.now c.args.files.now (sym c.if-is_empty.true ∙ c.is_empty.ensures) (sym c.if-is_empty-2.true ∙ c.is_empty-then-is_empty.ensures)

@@ -1,7 +1,7 @@
 use Rattle.std.proofs.Common.{[], take}
 use Rattle.frame_exec.specs.Standing.{IsReady}
 use Rattle.frame_exec.specs.Stages.{Activates}
-use Rattle.frame_exec.proofs.bench.Bench.activate.Given as goal
+use Rattle.frame_exec.proofs.bench.Bench.activate_all.Given as goal
 
 -- the files so far were named
 abbrev pub invariant-files : goal.invariant-files
