@@ -108,6 +108,18 @@ impl Bus {
         }
     }
 
+    /// Empties every pipe: the bus is as one that was opened.
+    pub fn clear(&mut self)
+        ensures { self.new ≡ empty_pipes }
+    {
+        self.hs.clear();
+        self.hs_ev.clear();
+        self.cs.clear();
+        self.sc.clear();
+        self.mm.clear();
+        self.md.clear();
+    }
+
     /// Takes all packets of a pipe.
     pub fn take_all(&mut self, pipe: PipeName, batch: &mut Batch)
         ensures taken { batch.new ≡ packets_in pipe self.old }

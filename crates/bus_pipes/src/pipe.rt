@@ -63,6 +63,13 @@ impl Pipe {
         self.packets.is_empty()
     }
 
+    /// Empties the pipe.
+    pub fn clear(&mut self)
+        ensures { self.new ≡ record self.old { packets = [] } }
+    {
+        self.packets.clear();
+    }
+
     /// Takes the first packet, or None where the pipe is empty.
     pub fn take(&mut self) -> Option<Packet>
         ensures first { result ≡ slice_get self.old.packets 0 }

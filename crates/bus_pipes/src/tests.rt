@@ -177,6 +177,43 @@ fn a_held_pipe_fills_and_drops(rt: HostRuntime) -> Result<(), Fail> {
     Ok(())
 }
 
+const NAMES: [PipeName; 6] = [
+    PipeName::Hs,
+    PipeName::HsEv,
+    PipeName::Cs,
+    PipeName::Sc,
+    PipeName::Mm,
+    PipeName::Md,
+];
+
+/// A bus that was cleared holds nothing, and its pipes take as many packets as those of one that was opened.
+#[test]
+fn cleared_bus_is_as_one_that_was_opened(rt: HostRuntime) -> Result<(), Fail> {
+    let mut bus = Bus::open(rt.alloc())?;
+    let mut drops = Drops::open(rt.alloc(), 23)?;
+    let packets = [
+        telemetry(0x18AE, 0, &[]),
+        telemetry(0x0808, 0, &[]),
+        telemetry(0x189F, 0, &[]),
+        telemetry(0x18A9, 0, &[]),
+        telemetry(0x1888, 0, &[]),
+        telemetry(0x1890, 0, &[]),
+    ];
+    bus.deliver(&packets, &mut drops);
+    for name in NAMES {
+        assert!(rt; !bus.is_empty(name));
+    }
+    bus.clear();
+    for name in NAMES {
+        assert!(rt; bus.is_empty(name));
+    }
+    bus.deliver(&[packets[4]; 17], &mut drops);
+    assert_eq!(rt; drops.len(), 1);
+    bus.clear();
+    assert!(rt; bus.take(PipeName::Mm).is_none());
+    Ok(())
+}
+
 #[test]
 fn outboxes_hold_what_was_pushed(rt: HostRuntime) -> Result<(), Fail> {
     let mut outbox = Outbox::open(rt.alloc(), 3)?;
