@@ -30,7 +30,7 @@ load_event id =
     ∷ 0x4C ∷ 0x4F ∷ 0x41 ∷ 0x44 ∷ 0 ∷ 0 ∷ 0 ∷ 0 ∷ 0 ∷ 0 ∷ 0 ∷ 0 ∷ 0 ∷ 0 ∷ 0 ∷ 0 ∷ 0 ∷ 0 ∷ 0 ∷ 0
     ∷ 0 ∷ id ∷ 0 ∷ 2 ∷ 0 ∷ 0 ∷ 0 ∷ 0x42 ∷ 0 ∷ 0 ∷ 0 ∷ 1 ∷ []
 
--- the commands that switch application monitoring on and off, and the request for housekeeping
+-- the commands that switch application monitoring on and off
 abbrev pub enable : List ℕ
 enable = 0x18 ∷ 0xAE ∷ 0xC0 ∷ 0 ∷ 0 ∷ 1 ∷ 2 ∷ 0x8A ∷ []
 
@@ -41,6 +41,14 @@ disable = 0x18 ∷ 0xAE ∷ 0xC0 ∷ 0 ∷ 0 ∷ 1 ∷ 3 ∷ 0x8B ∷ []
 abbrev pub deafen : List ℕ
 deafen = 0x18 ∷ 0xAE ∷ 0xC0 ∷ 0 ∷ 0 ∷ 1 ∷ 5 ∷ 0x8D ∷ []
 
+-- those that set the resets made to 0, and their maximum to none
+abbrev pub clear : List ℕ
+clear = 0x18 ∷ 0xAE ∷ 0xC0 ∷ 0 ∷ 0 ∷ 1 ∷ 8 ∷ 0x80 ∷ []
+
+abbrev pub limit_none : List ℕ
+limit_none = 0x18 ∷ 0xAE ∷ 0xC0 ∷ 0 ∷ 0 ∷ 3 ∷ 9 ∷ 0x83 ∷ 0 ∷ 0 ∷ []
+
+-- the request for housekeeping
 abbrev pub request : List ℕ
 request = 0x18 ∷ 0xAF ∷ 0xC0 ∷ 0 ∷ 0 ∷ 1 ∷ 0 ∷ 0x89 ∷ []
 

@@ -17,9 +17,9 @@ ghost use Rattle.hs_monitors.specs.Verdicts.{hs_protocol};
 ghost use Rattle.hs_monitors.specs.Acting.{acts, countdown_of};
 ghost use Rattle.hs_monitors.specs.Events.{is_event, is_matched};
 ghost use Rattle.hs_monitors.specs.Housekeeping.{watching_of, housekeeping_of};
-ghost use Rattle.hs_monitors.specs.Step.{hs_items};
+ghost use Rattle.hs_monitors.specs.Step.{hs_items, resets_made, resets_maximum};
 ghost use Rattle.hs_monitors.specs.Cooldowns.{sendings_of, last_leaves};
-ghost use Rattle.hs_monitors.specs.Rows.{cam_bytes, hs_info, load_event, enable, disable, deafen, request, load_row, load_rows, seven_rows, setup_with, watching, listening, wakeup, load_at, counted, saw, heard};
+ghost use Rattle.hs_monitors.specs.Rows.{cam_bytes, hs_info, load_event, enable, disable, deafen, clear, limit_none, request, load_row, load_rows, seven_rows, setup_with, watching, listening, wakeup, load_at, counted, saw, heard};
 
 /// An entry with the cycle count n acts in exactly the check in which its countdown goes from above zero to zero, and in no later check of
 /// the watch. The countdown begins at n; each changed check sets it to n, and each other one takes one off it.
@@ -82,8 +82,22 @@ pub fn cooldown_spaces_message_actions()
 pub fn resets_up_to_the_maximum()
     ensures three { hs_items (setup_with (load_rows 4 28 1 1) (seven_rows 0 16 0) [] 0) [] (wakeup 0 [] [] []) ≡ outs.Made (hs_event 101 0xE8) ∷ outs.Reset ∷ outs.Made (hs_event 101 0xE8) ∷ outs.Reset ∷ outs.Made (hs_event 101 0xE8) ∷ outs.Reset ∷ outs.Made (hs_event 105 0xE8) ∷ [] }
     ensures begun { hs_items (setup_with (load_rows 2 30 1 1) (seven_rows 0 16 0) [] 2) [] (wakeup 0 [] [] []) ≡ outs.Made (hs_event 101 0xE8) ∷ outs.Reset ∷ outs.Made (hs_event 105 0xE8) ∷ [] }
-    ensures cleared { hs_items (setup_with (load_rows 1 31 1 1) (seven_rows 0 16 0) [] 3) [] (wakeup 0 ((0x18 ∷ 0xAE ∷ 0xC0 ∷ 0 ∷ 0 ∷ 1 ∷ 8 ∷ 0x80 ∷ []) ∷ []) [] []) ≡ outs.Made (hs_info 24 0xE8) ∷ outs.Made (hs_event 101 0xE8) ∷ outs.Reset ∷ [] }
-    ensures limited { hs_items (setup_with (load_rows 1 31 1 1) (seven_rows 0 16 0) [] 0) [] (wakeup 0 ((0x18 ∷ 0xAE ∷ 0xC0 ∷ 0 ∷ 0 ∷ 3 ∷ 9 ∷ 0x83 ∷ 0 ∷ 0 ∷ []) ∷ []) [] []) ≡ outs.Made (hs_info 25 0xE8) ∷ outs.Made (hs_event 105 0xE8) ∷ [] }
+    ensures cleared { hs_items (setup_with (load_rows 1 31 1 1) (seven_rows 0 16 0) [] 3) [] (wakeup 0 (clear ∷ []) [] []) ≡ outs.Made (hs_info 24 0xE8) ∷ outs.Made (hs_event 101 0xE8) ∷ outs.Reset ∷ [] }
+    ensures limited { hs_items (setup_with (load_rows 1 31 1 1) (seven_rows 0 16 0) [] 0) [] (wakeup 0 (limit_none ∷ []) [] []) ≡ outs.Made (hs_info 25 0xE8) ∷ outs.Made (hs_event 105 0xE8) ∷ [] }
+{}
+
+/// The resets made and their maximum, behind a history: those with which it begins, and one more for each reset that is requested. Behind a
+/// command of code 8 the resets made are those requested since, and one of code 9 sets the maximum. An activation changes neither.
+pub fn resets_are_handed_on()
+    ensures made { (setup : Setup) → resets_made setup [] ≡ setup.made }
+    ensures most { (setup : Setup) → resets_maximum setup [] ≡ setup.max }
+    ensures one { resets_made (setup_with (load_rows 1 31 1 1) (seven_rows 0 16 0) [] 1) (Woken (wakeup 0 [] [] []) ∷ []) ≡ 2 }
+    ensures full { resets_made (setup_with (load_rows 4 28 1 1) (seven_rows 0 16 0) [] 1) (Woken (wakeup 0 [] [] []) ∷ []) ≡ 3 }
+    ensures cleared { resets_made (setup_with (load_rows 0 32 0 0) (seven_rows 0 16 0) [] 3) (Woken (wakeup 0 (clear ∷ []) [] []) ∷ []) ≡ 0 }
+    ensures since { resets_made (setup_with (load_rows 1 31 1 1) (seven_rows 0 16 0) [] 3) (Woken (wakeup 0 (clear ∷ []) [] []) ∷ Woken (wakeup 1 [] [] []) ∷ []) ≡ 1 }
+    ensures activated { resets_made (setup_with (load_rows 1 31 1 1) (seven_rows 0 16 0) [] 0) (Woken (wakeup 0 [] [] []) ∷ Activated (Apps (load_rows 1 31 1 1)) ∷ Woken (wakeup 1 [] [] []) ∷ []) ≡ 2 }
+    ensures limited { resets_maximum (setup_with (load_rows 0 32 0 0) (seven_rows 0 16 0) [] 0) (Woken (wakeup 0 (limit_none ∷ []) [] []) ∷ Woken (wakeup 1 [] [] []) ∷ []) ≡ 0 }
+    ensures unlimited { resets_maximum (setup_with (load_rows 1 31 1 1) (seven_rows 0 16 0) [] 0) (Woken (wakeup 0 (clear ∷ []) [] []) ∷ []) ≡ 3 }
 {}
 
 /// The application monitors act before the event monitors, and housekeeping stands at its place among the commands.

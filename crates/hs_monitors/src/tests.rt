@@ -193,6 +193,7 @@ fn laws_hold() {
     laws::enable_refreshes();
     laws::cooldown_spaces_message_actions();
     laws::resets_up_to_the_maximum();
+    laws::resets_are_handed_on();
     laws::wakeup_rows();
     laws::command_rows();
     laws::refusal_rows();
