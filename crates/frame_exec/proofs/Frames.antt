@@ -22,6 +22,7 @@ use Rattle.packet_log.specs.Standing.{Stands as LogStands}
 use Rattle.scenario.specs.declared.frame.Upset.{Upset}
 use Rattle.scenario.specs.FrameLists.{Frame}
 use Rattle.frame_exec.specs.declared.bench.Bench.{Bench}
+use Rattle.hs_monitors.specs.Step.{resets_made, resets_maximum}
 use Rattle.hs_monitors.specs.declared.state.Hs.{Hs}
 use Rattle.mm_core.specs.declared.state.Mm.{Mm}
 use Rattle.sc_sequences.specs.Histories.{begun_at}
@@ -30,15 +31,15 @@ use Rattle.sc_sequences.specs.declared.state.Sc.{Sc}
 use Rattle.cs_slices.specs.declared.state.Cs.{Cs}
 use Rattle.cs_slices.specs.declared.segments.Segment.{Segment}
 use Rattle.md_dwell.specs.declared.state.Md.{Md}
-use Rattle.md_dwell.specs.State.{AllGiven}
+use Rattle.md_dwell.specs.State.{Stands as MdStands, AllGiven}
 use Rattle.frame_exec.specs.Tables.{TableSet, Loaded, AreGiven, with_file, tables_of}
 use Rattle.frame_exec.specs.Ready.{CsIsReady}
-use Rattle.frame_exec.specs.Applications.{hs_stands, cs_stands, sc_stands, mm_stands, md_stands}
+use Rattle.frame_exec.specs.Applications.{hs_setup, hs_stands, cs_stands, sc_stands, mm_stands, md_stands}
 use Rattle.frame_exec.specs.Sending.{upset_by}
-use Rattle.frame_exec.specs.Runs.{Setup, State, active_in, beginning, with_active, after_naming, after_activation, activated_at, after_wakeups, sc_begun, image_at, left_by, sent_at, offers_at, after_frame, run_of, frame_lines, lines_at, operations_at}
+use Rattle.frame_exec.specs.Runs.{Setup, State, time_at, active_in, beginning, with_active, after_naming, after_activation, activated_at, after_wakeups, sc_begun, image_at, left_by, sent_at, offers_at, after_frame, run_of, frame_lines, lines_at, operations_at, resets_at, behind_reset, behind}
 use Rattle.frame_exec.specs.Standing.{AppsStand, Has, IsReady, Stands, CanRun}
 use Rattle.frame_exec.specs.Landable.{CanLand}
-use Rattle.frame_exec.specs.Stages.{KeepsApps, RunsIn, IsSameFrame, Lands, loads_in}
+use Rattle.frame_exec.specs.Stages.{KeepsApps, RunsIn, IsSameFrame, Lands, StartsAnew, loads_in}
 
 -- what a run has come to, at one more frame
 pub run_more : (setup : Setup) (frames : List Frame) (frame : Frame) → run_of setup (frames ++ frame ∷ []) ≡ after_frame setup (run_of setup frames) frame
@@ -78,12 +79,22 @@ pub activated_image : (setup : Setup) (s : State) (frame : Frame) → image_at (
 unfolding image_at
 activated_image setup s frame = ap (λ (m : Memory). fold upset_by m frame.upsets) (activated_memory setup s frame)
 
+-- what stays where a processor reset takes effect stays either way
+behind_keeps : {B : Type 0} (f : State → B) (resets : Bool) (setup : Setup) (s : State) → f (behind_reset setup s) ≡ f s → f (behind resets setup s) ≡ f s
+behind_keeps f true setup s keeps = keeps
+behind_keeps f false setup s keeps = refl
+
+frame_number : (setup : Setup) (s : State) (frame : Frame) → (after_frame setup s frame).number ≡ s.number + 1
+unfolding after_frame after_wakeups behind_reset
+frame_number setup s frame =
+    let t = activated_at setup s frame in
+    behind_keeps (λ (u : State). u.number) (resets_at setup t frame) setup (after_wakeups setup t frame) refl ∙ ap (λ (n : ℕ). n + 1) (activated_number setup s frame)
+
 -- the number of frames, behind a state
 number_from : (setup : Setup) (s : State) (frames : List Frame) → (fold (after_frame setup) s frames).number ≡ s.number + length frames
-unfolding after_frame after_wakeups
 number_from setup s [] = sym (add-zero s.number)
 number_from setup s (frame ∷ frames) =
-    let one = activated_number setup s frame in
+    let one = frame_number setup s frame in
     number_from setup (after_frame setup s frame) frames ∙ omega (arith, one)
 
 -- the number of frames of a run
@@ -101,10 +112,11 @@ regions_same before after upsets is = ap (λ (m : Memory). regions_of m.areas) i
 
 -- a frame leaves the regions
 frame_regions : (setup : Setup) (s : State) (frame : Frame) → regions_of (after_frame setup s frame).memory.areas ≡ regions_of s.memory.areas
-unfolding after_frame after_wakeups image_at
+unfolding after_frame after_wakeups behind_reset image_at
 frame_regions setup s frame =
     let t = activated_at setup s frame in
-    regions-changed _ (fold upset_by t.memory frame.upsets).areas ∙ upset_regions t.memory frame.upsets ∙ ap (λ (m : Memory). regions_of m.areas) (activated_memory setup s frame)
+    ap (λ (m : Memory). regions_of m.areas) (behind_keeps (λ (u : State). u.memory) (resets_at setup t frame) setup (after_wakeups setup t frame) refl)
+    ∙ regions-changed _ (fold upset_by t.memory frame.upsets).areas ∙ upset_regions t.memory frame.upsets ∙ ap (λ (m : Memory). regions_of m.areas) (activated_memory setup s frame)
 
 -- frames leave the regions
 regions_from : (setup : Setup) (s : State) (frames : List Frame) → regions_of (fold (after_frame setup) s frames).memory.areas ≡ regions_of s.memory.areas
@@ -180,11 +192,20 @@ module _ (before middle b : Bench) (setup : Setup) (frames : List Frame) (frame 
   tables_same : b.tables ≡ before.tables
   tables_same = lands.tables ∙ same.tables
 
-  pub has_next : before.tables.files ≡ setup.files → before.number ≡ (run_of setup frames).number → RunsIn setup (activated_at setup (run_of setup frames) frame) frame before → Has b (run_of setup (frames ++ frame ∷ []))
-  unfolding after_frame
-  has_next files number ran =
-      subst (Has b) (sym (run_more setup frames frame))
+  has_landed : before.tables.files ≡ setup.files → before.number ≡ (run_of setup frames).number → RunsIn setup (activated_at setup (run_of setup frames) frame) frame before
+      → Has b (after_wakeups setup (activated_at setup (run_of setup frames) frame) frame)
+  has_landed files number ran =
       (has_after before b setup (activated_at setup (run_of setup frames) frame) frame kept (lands.pipes ∙ same.pipes) (lands.log ∙ same.log) (landed ∙ ap (λ (fs : List (List ℕ)). land (loads_of fs) before.ops.value before.ram) files) (lands.number ∙ ap (λ (n : ℕ). n + 1) (same.number ∙ number ∙ sym (activated_number setup (run_of setup frames) frame))) (ap (λ (t : Loaded). t.set) tables_same ∙ ran.tables) ran)
+
+  -- and then a processor reset took effect, where one was asked for
+  pub has_next : (end : Bench) → StartsAnew b end → before.epoch ≡ setup.epoch → before.tables.files ≡ setup.files → before.number ≡ (run_of setup frames).number
+      → RunsIn setup (activated_at setup (run_of setup frames) frame) frame before → Has end (run_of setup (frames ++ frame ∷ []))
+  unfolding after_frame
+  has_next end anew epoch files number ran =
+      let s = after_wakeups setup (activated_at setup (run_of setup frames) frame) frame in
+      subst (Has end) (sym (run_more setup frames frame))
+      (subst (λ (resets : Bool). Has end (behind resets setup s)) (lands.resets ∙ same.resets ∙ ran.resets)
+      (anew.has setup s (lands.epoch ∙ same.epoch ∙ epoch) (ap (λ (t : Loaded). t.files) tables_same ∙ files) (has_landed files number ran)))
 
   pub ready_next : IsReady before → IsReady b
   ready_next ready = ready_by before b (ap (λ (m : Memory). regions_of m.areas) landed ∙ regions-changed _ before.ram.areas) tables_same kept ready
@@ -195,39 +216,63 @@ can_land_still before middle same can =
     subst (λ (t : Loaded). CanLand (loads_of t.files) middle.ram middle.ops.value) (sym same.tables)
     (subst (λ (m : Memory). CanLand (loads_in before) m middle.ops.value) (sym same.memory) (subst (λ (ops : List MemOp). CanLand (loads_in before) before.ram ops) (sym same.operations) can))
 
+-- a bench whose histories begin: with this number of frames, at this time of SC, and with these resets of HS
+pub has_begun : (b : Bench) (setup : Setup) (number began resets limit : ℕ) (made : List (List ℕ)) (memory : Memory) → b.number ≡ number → b.tables.set ≡ tables_of setup.files
+    → hs_stands (record { first = b.tables.set; now = b.tables.set; resets = resets; limit = limit }) [] b.hs.state.value → cs_stands b.tables.set [] b.cs.state.value → sc_stands (begun_at began b.tables.set.sc) [] b.sc.state.value
+    → mm_stands b.tables.set [] b.mm.state.value → MdStands b.tables.set.dwells [] b.md.state.value → b.bus ≡ empty_pipes → LogStands made b.log → b.ram ≡ memory
+    → Has b (record (beginning setup) { number = number; began = began; resets = resets; limit = limit; made = made; memory = memory })
+unfolding beginning
+has_begun b setup number began resets limit made memory numbered tables hs cs sc mm md pipes log image = record {
+  number = numbered;
+  tables = tables;
+  apps = record {
+    hs = subst (λ (t : TableSet). hs_stands (record { first = t; now = t; resets = resets; limit = limit }) [] b.hs.state.value) tables hs;
+    cs = subst (λ (t : TableSet). cs_stands t [] b.cs.state.value) tables cs;
+    sc = subst (λ (t : TableSet). sc_stands (begun_at began t.sc) [] b.sc.state.value) tables sc;
+    mm = mm;
+    md = subst (λ (t : TableSet). MdStands t.dwells [] b.md.state.value) tables md;
+  };
+  pipes = pipes;
+  made = log;
+  memory = image;
+}
+
+-- and can be woken
+pub ready_begun : (b : Bench) (regions : List Region) → regions_of b.ram.areas ≡ regions → cs_stands b.tables.set [] b.cs.state.value → ScIsReady b.tables.set.sc b.sc.state.value → AllGiven regions b.md.state.value
+    → AreGiven regions b.tables → IsReady b
+ready_begun b regions same cs sequences dwells given = record {
+  cs = cs_ready_by regions (regions_of b.ram.areas) b.tables.set.eeprom b.tables.set.memory b.tables.set.eeprom b.tables.set.memory b.cs.state.value same refl refl (record { started = ([], cs); first = given.set.eeprom; second = given.set.memory });
+  sc = sequences;
+  md = subst (λ (rs : List Region). AllGiven rs b.md.state.value) (sym same) dwells;
+  given = subst (λ (rs : List Region). AreGiven rs b.tables) (sym same) given;
+}
+
 -- a bench that was opened stands for no frames
 pub stands_opened : (b : Bench) (setup : Setup) → b.epoch ≡ setup.epoch → b.tables.files ≡ setup.files → b.failed ≡ false → b.block ≡ empty_block → b.number ≡ 0 → b.tables.set ≡ tables_of setup.files
-    → hs_stands (record { first = b.tables.set; now = b.tables.set }) [] b.hs.state.value → cs_stands b.tables.set [] b.cs.state.value → sc_stands (begun_at setup.epoch b.tables.set.sc) [] b.sc.state.value → mm_stands b.tables.set [] b.mm.state.value
-    → md_stands (record { first = b.tables.set; now = b.tables.set }) [] b.md.state.value → AreGiven setup.regions b.tables → ScIsReady b.tables.set.sc b.sc.state.value → AllGiven setup.regions b.md.state.value → b.bus ≡ empty_pipes → LogStands [] b.log → b.ram ≡ start_memory setup.regions → Stands b setup []
+    → hs_stands (record { first = b.tables.set; now = b.tables.set; resets = 0; limit = 3 }) [] b.hs.state.value → cs_stands b.tables.set [] b.cs.state.value → sc_stands (begun_at setup.epoch b.tables.set.sc) [] b.sc.state.value → mm_stands b.tables.set [] b.mm.state.value
+    → MdStands b.tables.set.dwells [] b.md.state.value → AreGiven setup.regions b.tables → ScIsReady b.tables.set.sc b.sc.state.value → AllGiven setup.regions b.md.state.value → b.bus ≡ empty_pipes → LogStands [] b.log → b.ram ≡ start_memory setup.regions → Stands b setup []
 unfolding run_of beginning
-stands_opened b setup epoch files well waits number tables hs cs sc mm md given sequences dwells pipes made memory =
-    let same : regions_of b.ram.areas ≡ setup.regions = ap (λ (m : Memory). regions_of m.areas) memory ∙ regions-cut setup.regions _ in
-    record {
-      epoch = epoch;
-      files = files;
-      well = well;
-      waits = waits;
-      has = record {
-        number = number;
-        tables = tables;
-        apps = record {
-          hs = subst (λ (t : TableSet). hs_stands (record { first = t; now = t }) [] b.hs.state.value) tables hs;
-          cs = subst (λ (t : TableSet). cs_stands t [] b.cs.state.value) tables cs;
-          sc = subst (λ (t : TableSet). sc_stands (begun_at setup.epoch t.sc) [] b.sc.state.value) tables sc;
-          mm = mm;
-          md = subst (λ (t : TableSet). md_stands (record { first = t; now = t }) [] b.md.state.value) tables md;
-        };
-        pipes = pipes;
-        made = made;
-        memory = memory;
-      };
-      ready = record {
-        cs = cs_ready_by setup.regions (regions_of b.ram.areas) b.tables.set.eeprom b.tables.set.memory b.tables.set.eeprom b.tables.set.memory b.cs.state.value same refl refl (record { started = ([], cs); first = given.set.eeprom; second = given.set.memory });
-        sc = sequences;
-        md = subst (λ (regions : List Region). AllGiven regions b.md.state.value) (sym same) dwells;
-        given = subst (λ (regions : List Region). AreGiven regions b.tables) (sym same) given;
-      };
-    }
+stands_opened b setup epoch files well waits number tables hs cs sc mm md given sequences dwells pipes made memory = record {
+  epoch = epoch;
+  files = files;
+  well = well;
+  waits = waits;
+  has = has_begun b setup 0 setup.epoch 0 3 [] (start_memory setup.regions) number tables hs cs sc mm md pipes made memory;
+  ready = ready_begun b setup.regions (ap (λ (m : Memory). regions_of m.areas) memory ∙ regions-cut setup.regions _) cs sequences dwells given;
+}
+
+-- a bench that started anew has what the run comes to behind a processor reset
+pub has_anew : (b : Bench) (setup : Setup) (s : State) (began resets limit : ℕ) → began ≡ time_at setup s → resets ≡ resets_made (hs_setup (active_in s)) s.hs → limit ≡ resets_maximum (hs_setup (active_in s)) s.hs
+    → Has b (record (beginning setup) { number = s.number; began = began; resets = resets; limit = limit; made = s.made; memory = s.memory }) → Has b (behind_reset setup s)
+unfolding behind_reset
+has_anew b setup s began resets limit at made most has =
+    subst (λ (n : ℕ). Has b (record (beginning setup) { number = s.number; began = time_at setup s; resets = resets_made (hs_setup (active_in s)) s.hs; limit = n; made = s.made; memory = s.memory })) most
+    (subst (λ (n : ℕ). Has b (record (beginning setup) { number = s.number; began = time_at setup s; resets = n; limit = limit; made = s.made; memory = s.memory })) made
+    (subst (λ (n : ℕ). Has b (record (beginning setup) { number = s.number; began = n; resets = resets; limit = limit; made = s.made; memory = s.memory })) at has))
+
+-- and where one was asked for
+pub has_behind : (b : Bench) (setup : Setup) (s : State) (resets : Bool) → resets ≡ true → Has b (behind_reset setup s) → Has b (behind resets setup s)
+has_behind b setup s resets is has = subst (λ (r : Bool). Has b (behind r setup s)) (sym is) has
 
 -- the upsets of a frame that can be run lie in the bench's regions
 pub upsets_mapped : (b : Bench) (setup : Setup) (frames : List Frame) (frame : Frame) → Has b (run_of setup frames) → CanRun setup frames frame → All (λ (u : Upset). is_mapped (regions_of b.ram.areas) u.at ≡ true) frame.upsets
@@ -235,8 +280,8 @@ upsets_mapped b setup frames frame has can =
     let same = ap (λ (m : Memory). regions_of m.areas) has.memory ∙ run_regions setup frames in
     subst (λ (regions : List Region). All (λ (u : Upset). is_mapped regions u.at ≡ true) frame.upsets) (sym same) can.upsets
 
--- the frame's time is a number of four bytes
-pub time_fits : (b : Bench) (setup : Setup) (frames : List Frame) (frame : Frame) → b.epoch ≡ setup.epoch → Has b (run_of setup frames) → CanRun setup frames frame → b.epoch + b.number < 4294967296
+-- the frame's time and that of the frame behind it are numbers of four bytes
+pub time_fits : (b : Bench) (setup : Setup) (frames : List Frame) (frame : Frame) → b.epoch ≡ setup.epoch → Has b (run_of setup frames) → CanRun setup frames frame → b.epoch + b.number + 1 < 4294967296
 time_fits b setup frames frame epoch has can =
     let number = has.number ∙ run_number setup frames in
     omega (arith, number, epoch, can.time)

@@ -24,7 +24,7 @@ use Rattle.cs_slices.proofs.Refusing.{none_refused as no_segment_refused}
 use Rattle.table_files.specs.declared.kinds.TableKind.{TableKind}
 use Rattle.table_files.specs.declared.kinds.TableKind.TheVariants.{AppMon, EventMon, ExeCount, MsgActs, Ats, Rts, Dwell, Eeprom, Memory}
 use Rattle.table_files.specs.Headers.{kind_of_file, payload_of_file}
-use Rattle.frame_exec.specs.Tables.{TableSet, Loaded, AreLoaded, AreGiven, SetGiven, blank_tables, by_kind, by_file, where_well, with_table, with_file, tables_of, said_or, first_said, refused_entry, refused_in, region_fault}
+use Rattle.frame_exec.specs.Tables.{TableSet, Loaded, AreLoaded, AreGiven, SetGiven, blank_tables, by_kind, by_file, where_well, with_table, with_file, tables_of, said_or, first_said, refused_entry, refused_in, tables_fault, region_fault}
 
 -- one table more
 module _ (regions : List Region) (tables : TableSet) (given : SetGiven regions tables) where
@@ -112,6 +112,7 @@ given_tables regions files none = files_given regions files 1 none
 -- tables that were loaded
 pub given_loaded : (regions : List Region) (files : List (List ℕ)) (tables : Loaded) → AreLoaded files tables → region_fault regions files ≡ None → AreGiven regions tables
 given_loaded regions files tables loaded none = record {
+  well = ap tables_fault loaded.kept ∙ loaded.well;
   set = subst (SetGiven regions) (sym loaded.named) (given_tables regions files none);
   named = ap (region_fault regions) loaded.kept ∙ none;
 }
@@ -125,3 +126,7 @@ file_given regions tables given file none = kind_given regions tables given (kin
 pub given_at : (regions : List Region) (dwells : List DwellTable) (i : ℕ) (table : DwellTable) → TablesGiven regions dwells → i < length dwells → table ≡ get_or dwells i table → AllPass (is_given regions) table.entries
 unfolding TablesGiven
 given_at regions dwells i table all within is = subst (λ (t : DwellTable). AllPass (is_given regions) t.entries) (sym is) (all i table within)
+
+-- the first file of each kind again
+pub given_again : (regions : List Region) (old new : Loaded) → new ≡ record { files = old.files; set = tables_of old.files } → AreGiven regions old → AreGiven regions new
+given_again regions old new is given = subst (AreGiven regions) (sym is) (record { well = given.well; set = given_tables regions old.files given.named; named = given.named })

@@ -97,7 +97,7 @@ module _ (old new : Bench) (kind : TableKind) (payload : List ℕ) (can : can_ac
 -- memory gives what the tables read, once one of a named file is active
 pub given_next : (regions : List Region) (old new : Loaded) (n : ℕ) → new ≡ record old { set = with_file old.set (file_at old.files n) } → AreGiven regions old → AreGiven regions new
 given_next regions old new n is given =
-    subst (AreGiven regions) (sym is) (record { set = file_given regions old.set given.set (file_at old.files n) (given_file regions old.files n given.named); named = given.named })
+    subst (AreGiven regions) (sym is) (record { well = given.well; set = file_given regions old.set given.set (file_at old.files n) (given_file regions old.files n given.named); named = given.named })
 
 -- a line named a file whose table can't be made active
 pub named_other : (b : Bench) (n : ℕ) (kind : Option TableKind) → kind_at b.tables.files n ≡ kind → accepts kind ≡ false → NamesFile n b b

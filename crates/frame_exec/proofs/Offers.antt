@@ -1,9 +1,10 @@
 -- The packets of items that were sent, offered one item after another.
-use Rattle.std.proofs.Common.{◌≡◌, ◌==◌, true, ℕ, ◌+◌, ◌<◌, ◌≤◌, List, [], ◌∷◌, ◌++◌, length, take, drop, get_or, refl, sym, ◌∙◌, ap, arith}
+use Rattle.std.proofs.Common.{◌≡◌, ◌==◌, Bool, true, false, ◌||◌, ℕ, ◌+◌, ◌<◌, ◌≤◌, List, [], ◌∷◌, ◌++◌, length, take, drop, get_or, refl, sym, ◌∙◌, ap, arith, append-nil}
 use Rattle.std.proofs.lemmas.Bool.Decides.{nat_tests}
 use Rattle.std.specs.Borrow.{Bor}
 use Rattle.std.proofs.lemmas.List.{length-append, take-append-drop}
-use Rattle.std.specs.List.{flat_map}
+use Rattle.std.specs.List.{flat_map, list_any}
+use Rattle.std.proofs.lemmas.List.Folds.{list_any-append}
 use Rattle.std.proofs.lemmas.Grind.{flat_map-append}
 use Rattle.histories.proofs.Fronts.{flat_map_front}
 use Rattle.bus_pipes.specs.Held.{Held, adding}
@@ -12,7 +13,8 @@ use Rattle.bus_pipes.specs.Delivery.{after_offer, drop_of, after_offers, drops_f
 use Rattle.bus_pipes.specs.declared.names.Out.{Out}
 use Rattle.bus_pipes.specs.declared.names.Dropped.{Dropped}
 use Rattle.bus_pipes.proofs.Deliveries.{after_offers_none, after_offers_more, after_offers_both, drops_none, drops_both, drops_one, adding_none, adding_more, items-adding}
-use Rattle.frame_exec.specs.Sending.{packet_in, packets_of, shown}
+use Rattle.frame_exec.specs.Sending.{packet_in, is_reset, packets_of, shown}
+use Rattle.frame_exec.specs.Wakes.{joined}
 
 -- one packet was offered
 pub offers_one : (before now : Pipes) (p : List ℕ) → now ≡ after_offer before p → now ≡ after_offers before (p ∷ [])
@@ -83,3 +85,32 @@ shown_within lists i list within is =
 pub offers_nothing : (packets : List (List ℕ)) (items : List Out) → true ≡ (length packets == 0) → items ≡ [] → packets ++ flat_map packet_in items ≡ []
 offers_nothing [] items none empty = ap (flat_map packet_in) empty
 offers_nothing (p ∷ packets) items none empty = absurd (grind (arith, nat_tests))
+
+-- whether an item of six lists asks for a processor reset
+pub reset_in_six : (a b c d e f : List Out)
+    → (((((list_any is_reset a || list_any is_reset b) || list_any is_reset c) || list_any is_reset d) || list_any is_reset e) || list_any is_reset f) ≡ list_any is_reset (a ++ (b ++ (c ++ (d ++ (e ++ (f ++ []))))))
+reset_in_six a b c d e f =
+    let A = list_any is_reset a in
+    let B = list_any is_reset b in
+    let C = list_any is_reset c in
+    let D = list_any is_reset d in
+    let E = list_any is_reset e in
+    let F = list_any is_reset f in
+    either (((A || B) || C) || D) E F ∙ either ((A || B) || C) D (E || F) ∙ either (A || B) C (D || (E || F)) ∙ either A B (C || (D || (E || F)))
+    ∙ sym (list_any-append is_reset a (b ++ (c ++ (d ++ (e ++ (f ++ []))))) ∙ ap (λ (r : Bool). A || r)
+    (list_any-append is_reset b (c ++ (d ++ (e ++ (f ++ [])))) ∙ ap (λ (r : Bool). B || r)
+    (list_any-append is_reset c (d ++ (e ++ (f ++ []))) ∙ ap (λ (r : Bool). C || r)
+    (list_any-append is_reset d (e ++ (f ++ [])) ∙ ap (λ (r : Bool). D || r)
+    (list_any-append is_reset e (f ++ []) ∙ ap (λ (r : Bool). E || r) (ap (list_any is_reset) (append-nil f)))))))
+  where
+    either : (x y z : Bool) → ((x || y) || z) ≡ (x || (y || z))
+    either true y z = refl
+    either false y z = refl
+
+-- six lists, one after another, that are each as long as another
+pub six_as_long : (a b c d e f u v w x y z : List Out) → length u ≡ length a → length v ≡ length b → length w ≡ length c → length x ≡ length d → length y ≡ length e → length z ≡ length f
+    → length (u ++ (v ++ (w ++ (x ++ (y ++ (z ++ [])))))) ≡ length (a ++ (b ++ (c ++ (d ++ (e ++ (f ++ []))))))
+six_as_long a b c d e f u v w x y z one two three four five six = as_long u a _ _ one (as_long v b _ _ two (as_long w c _ _ three (as_long x d _ _ four (as_long y e _ _ five (as_long z f [] [] six refl)))))
+  where
+    as_long : (xs ys more others : List Out) → length xs ≡ length ys → length more ≡ length others → length (xs ++ more) ≡ length (ys ++ others)
+    as_long xs ys more others one rest = length-append xs more ∙ ap (λ (n : ℕ). n + length more) one ∙ ap (λ (n : ℕ). length ys + n) rest ∙ sym (length-append ys others)

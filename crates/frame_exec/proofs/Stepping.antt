@@ -1,13 +1,13 @@
 -- The applications of the bench, woken in a frame.
-use Rattle.std.proofs.Common.{◌≡◌, ℕ, ◌+◌, List, ◌++◌, ◌∙◌, ap, subst, sym, refl}
-use Rattle.std.specs.List.{flat_map}
+use Rattle.std.proofs.Common.{◌≡◌, Bool, ℕ, ◌+◌, List, ◌++◌, ◌∙◌, ap, subst, sym, refl}
+use Rattle.std.specs.List.{flat_map, list_any}
 use Rattle.bus_pipes.specs.Delivery.{after_offers, drops_from}
 use Rattle.bus_pipes.specs.Held.{Held}
 use Rattle.bus_pipes.specs.declared.names.Out.{Out}
 use Rattle.frame_exec.specs.Activations.{table_events}
 use Rattle.packet_log.specs.Sent.{makes}
 use Rattle.packet_log.specs.Standing.{Stands as LogStands}
-use Rattle.frame_exec.specs.Sending.{packet_in, sent_of}
+use Rattle.frame_exec.specs.Sending.{is_reset, offered, sent_of}
 use Rattle.bus_pipes.specs.Pipes.{Pipes}
 use Rattle.table_files.specs.Files.{loads_of}
 use Rattle.memory_window.specs.Memory.{Memory}
@@ -18,7 +18,7 @@ use Rattle.frame_exec.specs.declared.bench.Bench.{Bench}
 use Rattle.frame_exec.specs.Tables.{TableSet, Loaded}
 use Rattle.frame_exec.specs.Applications.{hs_stands, cs_stands, sc_stands, mm_stands, md_stands, hs_gives, cs_gives, sc_gives, mm_gives, md_gives, hs_reads, cs_reads, sc_reads, mm_reads, md_reads}
 use Rattle.frame_exec.specs.Wakes.{HasTaken, IsWoken, unless, joined}
-use Rattle.frame_exec.specs.Runs.{Setup, State, is_held, active_in, sc_begun, time_at, image_at, hs_input_at, cs_input_at, sc_input_at, mm_input_at, md_input_at, items_at, operations_at, left_by, sent_at, offers_at, after_wakeups}
+use Rattle.frame_exec.specs.Runs.{Setup, State, is_held, active_in, sc_begun, time_at, image_at, hs_input_at, cs_input_at, sc_input_at, mm_input_at, md_input_at, items_at, operations_at, left_by, sent_at, resets_at, offers_at, after_wakeups}
 use Rattle.frame_exec.specs.Standing.{AppsStand}
 use Rattle.frame_exec.specs.Stages.{Takes, Steps, Sends, RunsIn, loads_in, time_of, items_in}
 use Rattle.frame_exec.proofs.Frames.{apps_kept}
@@ -130,17 +130,20 @@ module _ (setup : Setup) (s : State) (frame : Frame) (start took stepped : Bench
 
   -- and once the items were sent, what of the frame remains to be written and to land
   pub ran : (end : Bench) → LogStands s.made start.log → Sends frame.sends stepped end → RunsIn setup s frame end
-  unfolding sent_at offers_at
+  unfolding sent_at resets_at offers_at
   ran end stood sends =
       let log : LogStands s.made stepped.log = subst (LogStands s.made) (sym (steps.log ∙ takes.log)) stood in
       let sent : joined (items_in end) ≡ sent_of s.made (joined (items_at setup s frame)) = sends.sent s.made log ∙ ap (λ (lists : List (List Out)). sent_of s.made (joined lists)) items_after in
-      let offers : frame.sends ++ flat_map packet_in (joined (items_in end)) ≡ offers_at setup s frame = ap (λ (items : List Out). frame.sends ++ flat_map packet_in items) sent in
+      let resets : end.resets ≡ resets_at setup s frame = sends.resets ∙ ap (λ (lists : List (List Out)). list_any is_reset (joined lists)) items_after in
+      let offers : offered end.resets frame.sends (joined (items_in end)) ≡ offers_at setup s frame =
+      ap (λ (b : Bool). offered b frame.sends (joined (items_in end))) resets ∙ ap (offered (resets_at setup s frame) frame.sends) sent in
       record {
         tables = ap (λ (t : Loaded). t.set) (sends.run.tables ∙ steps.run.tables) ∙ same_tables;
         apps = apps_kept stepped end (after_wakeups setup s frame) sends.apps apps_after;
         sent = sent;
-        drops = sends.drops ∙ ap (λ (p : Pipes). drops_from p (frame.sends ++ flat_map packet_in (joined (items_in end)))) left ∙ ap (drops_from (left_by frame.held s.pipes)) offers;
-        pipes = sends.pipes ∙ ap (λ (p : Pipes). after_offers p (frame.sends ++ flat_map packet_in (joined (items_in end)))) left ∙ ap (after_offers (left_by frame.held s.pipes)) offers;
+        resets = resets;
+        drops = sends.drops ∙ ap (λ (p : Pipes). drops_from p (offered end.resets frame.sends (joined (items_in end)))) left ∙ ap (drops_from (left_by frame.held s.pipes)) offers;
+        pipes = sends.pipes ∙ ap (λ (p : Pipes). after_offers p (offered end.resets frame.sends (joined (items_in end)))) left ∙ ap (after_offers (left_by frame.held s.pipes)) offers;
         made = subst (λ (lists : List (List Out)). LogStands (s.made ++ flat_map makes (joined lists)) end.log) items_after (sends.made s.made log);
         operations = sends.operations ∙ operations_after;
         memory = sends.memory ∙ steps.memory ∙ same_image;

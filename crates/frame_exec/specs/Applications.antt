@@ -25,14 +25,16 @@ use Rattle.md_dwell.specs.State.{Stands as MdStands}
 use Rattle.md_dwell.specs.declared.state.Md.{Md}
 use Rattle.frame_exec.specs.Tables.{TableSet}
 
--- the tables with which the histories began, and those that are active at their end
+-- the tables with which the histories began, those that are active at their end, and the resets made and their maximum with which HS's began
 pub record Active : Type 0 where
   pub first : TableSet
   pub now : TableSet
+  pub resets : ℕ
+  pub limit : ℕ
 
--- what a history of HS begins with: the tables, no reset made, and at most three
+-- what a history of HS begins with: its tables, the resets made, and how many may be made
 abbrev pub hs_setup : Active → HsSetup
-hs_setup tables = setup_of tables.first.hs 0 3
+hs_setup tables = setup_of tables.first.hs tables.resets tables.limit
 
 -- the entries of a history of SC: all are wakeups
 abbrev pub sc_entries : List ScInput → List ScEntry

@@ -14,6 +14,7 @@ use Rattle.memory_window.specs.declared.operations.MemOp.{MemOp}
 use Rattle.sc_sequences.specs.Histories.{Input as ScInput, Beginning, begun_at}
 use Rattle.mm_core.specs.Step.{Input as MmInput, mm_operations}
 use Rattle.hs_monitors.specs.Histories.{HsEntry}
+use Rattle.hs_monitors.specs.Step.{resets_made, resets_maximum}
 use Rattle.cs_slices.specs.Wakeups.{Input as CsInput}
 use Rattle.md_dwell.specs.Histories.{MdEntry}
 use Rattle.packet_log.specs.Lines.{drop_line}
@@ -23,10 +24,10 @@ use Rattle.scenario.specs.declared.frame.App.TheVariants as apps
 use Rattle.scenario.specs.FrameLists.{Frame}
 use Rattle.frame_exec.specs.Tables.{TableSet, with_file, tables_of}
 use Rattle.frame_exec.specs.Activations.{can_activate, hs_activated, md_activated, table_events}
-use Rattle.frame_exec.specs.Sending.{is_same, upset_by, left_in_pipe, sent_of, packet_in}
+use Rattle.frame_exec.specs.Sending.{is_same, upset_by, left_in_pipe, sent_of, is_reset, offered}
 use Rattle.packet_log.specs.Sent.{makes}
 use Rattle.frame_exec.specs.Wakes.{history_after, unless, joined}
-use Rattle.frame_exec.specs.Applications.{Active, hs_gives, cs_gives, sc_gives, mm_gives, md_gives, hs_reads, cs_reads, sc_reads, mm_reads, md_reads}
+use Rattle.frame_exec.specs.Applications.{Active, hs_setup, hs_gives, cs_gives, sc_gives, mm_gives, md_gives, hs_reads, cs_reads, sc_reads, mm_reads, md_reads}
 
 -- what a run begins with: the time of frame 0, the regions of memory, and the named files
 pub record Setup : Type 0 where
@@ -34,11 +35,14 @@ pub record Setup : Type 0 where
   pub regions : List Region
   pub files : List (List ℕ)
 
--- what a run has come to: how many frames there were, the time at which SC began, the tables with which the histories began and those
--- that are active, the history of each application, what the pipes hold, the packets made so far, and memory
+-- what a run has come to: how many frames there were; the time at which SC began, the resets made and their maximum with which HS began,
+-- the tables with which the histories began and those that are active; the history of each application, what the pipes hold, the packets
+-- made so far, and memory
 pub record State : Type 0 where
   pub number : ℕ
   pub began : ℕ
+  pub resets : ℕ
+  pub limit : ℕ
   pub first : TableSet
   pub tables : TableSet
   pub hs : List HsEntry
@@ -50,9 +54,9 @@ pub record State : Type 0 where
   pub made : List (List ℕ)
   pub memory : Memory
 
--- before the first frame: SC begins at its time
+-- before the first frame: SC begins at its time, and HS with no reset made, of at most three
 unfoldable pub beginning : Setup → State
-beginning setup = record { number = 0; began = setup.epoch; first = tables_of setup.files; tables = tables_of setup.files; hs = []; cs = []; sc = []; mm = []; md = []; pipes = empty_pipes; made = []; memory = start_memory setup.regions }
+beginning setup = record { number = 0; began = setup.epoch; resets = 0; limit = 3; first = tables_of setup.files; tables = tables_of setup.files; hs = []; cs = []; sc = []; mm = []; md = []; pipes = empty_pipes; made = []; memory = start_memory setup.regions }
 
 -- the state once a table of this kind became active, which the tables have now: its application's history has the activation
 abbrev pub with_active : State → TableKind → TableSet → State
@@ -85,9 +89,9 @@ image_at s frame = fold upset_by s.memory frame.upsets
 abbrev pub time_at : Setup → State → ℕ
 time_at setup s = setup.epoch + s.number
 
--- the tables with which the histories of a run began, and those that are active
+-- the tables with which the histories of a run began and those that are active, and what HS's began with besides
 abbrev pub active_in : State → Active
-active_in s = record { first = s.first; now = s.tables }
+active_in s = record { first = s.first; now = s.tables; resets = s.resets; limit = s.limit }
 
 -- what a history of SC begins with in a run
 abbrev pub sc_begun : State → Beginning
@@ -139,9 +143,13 @@ left_by held pipes = record {
 unfoldable pub sent_at : Setup → State → Frame → List Out
 sent_at setup s frame = sent_of s.made (joined (items_at setup s frame))
 
--- what is offered to the pipes: the frame's packets, and then the applications'
+-- whether a processor reset is asked for in a frame
+unfoldable pub resets_at : Setup → State → Frame → Bool
+resets_at setup s frame = list_any is_reset (joined (items_at setup s frame))
+
+-- what is offered to the pipes: the frame's packets, and then the applications'; nothing where a processor reset is asked for
 unfoldable pub offers_at : Setup → State → Frame → List (List ℕ)
-offers_at setup s frame = frame.sends ++ flat_map packet_in (sent_at setup s frame)
+offers_at setup s frame = offered (resets_at setup s frame) frame.sends (sent_at setup s frame)
 
 -- the lines of a frame: of its items, and then of its drops
 unfoldable pub lines_at : Setup → State → Frame → List ℕ
@@ -154,6 +162,8 @@ unfoldable pub after_wakeups : Setup → State → Frame → State
 after_wakeups setup s frame = record {
   number = s.number + 1;
   began = s.began;
+  resets = s.resets;
+  limit = s.limit;
   first = s.first;
   tables = s.tables;
   hs = history_after (is_held apps.Hs frame) s.hs (hs_input_at setup s frame);
@@ -166,9 +176,25 @@ after_wakeups setup s frame = record {
   memory = land (loads_of setup.files) (operations_at setup s frame) (image_at s frame);
 }
 
+-- what the run has come to once a processor reset took effect behind a frame: the pipes and the histories are empty, and the first named
+-- file of each kind is active; HS keeps the resets made and their maximum, and SC begins with the next frame's time
+unfoldable pub behind_reset : Setup → State → State
+behind_reset setup s = record (beginning setup) {
+  number = s.number;
+  began = time_at setup s;
+  resets = resets_made (hs_setup (active_in s)) s.hs;
+  limit = resets_maximum (hs_setup (active_in s)) s.hs;
+  made = s.made;
+  memory = s.memory;
+}
+
+-- the same, where one was asked for
+abbrev pub behind : Bool → Setup → State → State
+behind resets setup s = if resets then behind_reset setup s else s
+
 -- what the run has come to after one more frame
 unfoldable pub after_frame : Setup → State → Frame → State
-after_frame setup s frame = after_wakeups setup (activated_at setup s frame) frame
+after_frame setup s frame = let t = activated_at setup s frame in behind (resets_at setup t frame) setup (after_wakeups setup t frame)
 
 -- what a run has come to after these frames
 unfoldable pub run_of : Setup → List Frame → State

@@ -1,5 +1,5 @@
 -- The small steps of a frame: held applications, upsets, pipes that are emptied, and items as they are sent.
-use Rattle.std.specs.Prelude.{ℕ, ◌==◌, Bool, if◌then◌else◌, List, [], ◌∷◌, ◌++◌}
+use Rattle.std.specs.Prelude.{ℕ, ◌==◌, Bool, true, false, if◌then◌else◌, List, [], ◌∷◌, ◌++◌}
 use Rattle.std.specs.Borrow.{Bor}
 use Rattle.std.specs.List.{flat_map}
 use Rattle.histories.specs.Words.{along}
@@ -48,6 +48,18 @@ packet_in (Stored p) = p ∷ []
 packet_in Reset = []
 packet_in (Restart name) = []
 packet_in (Delete name) = []
+
+-- an item that asks for a processor reset
+abbrev pub is_reset : Out → Bool
+is_reset Reset = true
+is_reset (Made p) = false
+is_reset (Stored p) = false
+is_reset (Restart name) = false
+is_reset (Delete name) = false
+
+-- what is offered to the pipes, by whether a processor reset is asked for: then nothing; else the frame's packets, and then those of the items
+abbrev pub offered : Bool → List (List ℕ) → List Out → List (List ℕ)
+offered resets sends sent = if resets then [] else (sends ++ flat_map packet_in sent)
 
 -- what lists of items show, one after another
 abbrev pub shown : List (Bor (List Out)) → List Out

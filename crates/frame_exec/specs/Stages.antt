@@ -26,12 +26,12 @@ use Rattle.mm_core.specs.declared.step.TheConstants.{MOST_ITEMS as mm_most}
 use Rattle.hs_monitors.specs.declared.step.TheConstants.{MOST_ITEMS as hs_most}
 use Rattle.frame_exec.specs.declared.bench.Bench.{Bench}
 use Rattle.frame_exec.specs.Tables.{TableSet}
-use Rattle.frame_exec.specs.Sending.{is_same, upset_by, sent_of, packet_in}
+use Rattle.frame_exec.specs.Sending.{is_same, upset_by, sent_of, is_reset, offered}
 use Rattle.packet_log.specs.Sent.{makes}
 use Rattle.frame_exec.specs.Wakes.{joined, unless, AreSendable, HasTaken, IsWoken, next_of}
 use Rattle.frame_exec.specs.Applications.{Active, hs_stands, cs_stands, sc_stands, mm_stands, md_stands, hs_gives, cs_gives, sc_gives, mm_gives, md_gives, hs_reads, cs_reads, sc_reads, mm_reads, md_reads}
 use Rattle.frame_exec.specs.Activations.{table_events}
-use Rattle.frame_exec.specs.Runs.{Setup, State, after_activation, image_at, items_at, operations_at, left_by, sent_at, offers_at, after_wakeups}
+use Rattle.frame_exec.specs.Runs.{Setup, State, after_activation, image_at, items_at, operations_at, left_by, sent_at, resets_at, offers_at, after_wakeups, behind}
 use Rattle.frame_exec.specs.Landable.{CanLand}
 use Rattle.frame_exec.specs.Ready.{CsIsReady}
 use Rattle.frame_exec.specs.declared.left.Left.{Left}
@@ -195,6 +195,19 @@ pub record CanSend (b : Bench) : Type 0 where
   pub md : AreSendable md_most b.md.out.items
   pub operations : CanLand (loads_in b) b.ram b.ops.value
 
+-- the items got their sequence counts: they are as they are sent
+pub record IsStamped (old new : Bench) : Type 0 where
+  pub run : IsSameRun old new
+  pub apps : KeepsApps old new
+  pub operations : new.ops.value ≡ old.ops.value
+  pub sent : (made : List (List ℕ)) → LogStands made old.log → joined (items_in new) ≡ sent_of made (joined (items_in old))
+  pub made : (made : List (List ℕ)) → LogStands made old.log → LogStands (made ++ flat_map makes (joined (items_in old))) new.log
+  pub few : length (joined (items_in new)) ≡ length (joined (items_in old))
+  pub resets : new.resets ≡ old.resets
+  pub pipes : new.bus ≡ old.bus
+  pub drops : new.drops ≡ old.drops
+  pub memory : new.ram ≡ old.ram
+
 -- the items were sent behind these packets
 pub record Sends (sends : List (List ℕ)) (old new : Bench) : Type 0 where
   pub run : IsSameRun old new
@@ -202,8 +215,9 @@ pub record Sends (sends : List (List ℕ)) (old new : Bench) : Type 0 where
   pub operations : new.ops.value ≡ old.ops.value
   pub sent : (made : List (List ℕ)) → LogStands made old.log → joined (items_in new) ≡ sent_of made (joined (items_in old))
   pub made : (made : List (List ℕ)) → LogStands made old.log → LogStands (made ++ flat_map makes (joined (items_in old))) new.log
-  pub pipes : new.bus ≡ after_offers old.bus (sends ++ flat_map packet_in (joined (items_in new)))
-  pub drops : new.drops.items ≡ drops_from old.bus (sends ++ flat_map packet_in (joined (items_in new)))
+  pub resets : new.resets ≡ list_any is_reset (joined (items_in old))
+  pub pipes : new.bus ≡ after_offers old.bus (offered new.resets sends (joined (items_in new)))
+  pub drops : new.drops.items ≡ drops_from old.bus (offered new.resets sends (joined (items_in new)))
   pub memory : new.ram ≡ old.ram
 
 -- The frame was run on s, which is the state behind its activations, up to its lines: memory is its image, and its operations haven't
@@ -212,6 +226,7 @@ pub record RunsIn (setup : Setup) (s : State) (frame : Frame) (b : Bench) : Type
   pub tables : b.tables.set ≡ s.tables
   pub apps : AppsStand b (after_wakeups setup s frame)
   pub sent : joined (items_in b) ≡ sent_at setup s frame
+  pub resets : b.resets ≡ resets_at setup s frame
   pub drops : b.drops.items ≡ drops_from (left_by frame.held s.pipes) (offers_at setup s frame)
   pub pipes : b.bus ≡ after_offers (left_by frame.held s.pipes) (offers_at setup s frame)
   pub made : LogStands (s.made ++ flat_map makes (joined (items_at setup s frame))) b.log
@@ -228,6 +243,7 @@ pub record IsSameFrame (old new : Bench) : Type 0 where
   pub pipes : new.bus ≡ old.bus
   pub log : new.log ≡ old.log
   pub operations : new.ops.value ≡ old.ops.value
+  pub resets : new.resets ≡ old.resets
   pub memory : new.ram ≡ old.ram
 
 -- the frame's operations have landed, and the next frame comes
@@ -240,7 +256,14 @@ pub record Lands (old new : Bench) : Type 0 where
   pub pipes : new.bus ≡ old.bus
   pub log : new.log ≡ old.log
   pub waits : new.block ≡ old.block
+  pub resets : new.resets ≡ old.resets
   pub memory : new.ram ≡ land (loads_in old) old.ops.value old.ram
+
+-- a processor reset took effect where one was asked for
+pub record StartsAnew (old new : Bench) : Type 0 where
+  pub goes : GoesOn old new
+  pub memory : new.ram ≡ old.ram
+  pub has : (setup : Setup) (s : State) → old.epoch ≡ setup.epoch → old.tables.files ≡ setup.files → Has old s → Has new (behind old.resets setup s)
 
 -- the lines of what was sent and dropped
 abbrev pub lines_in : Bench → List ℕ

@@ -60,9 +60,9 @@ pub record Stands (b : Bench) (setup : Setup) (frames : List Frame) : Type 0 whe
 pub record IsInterrupted (b : Bench) (setup : Setup) (frames : List Frame) (frame : Frame) : Type 0 where
   pub memory : b.ram ≡ image_at (run_of setup frames) frame
 
--- a further frame can be run: its time is a number of four bytes, and its upsets lie in the map
+-- a further frame can be run: its time and that of the frame behind it are numbers of four bytes, and its upsets lie in the map
 pub record CanRun (setup : Setup) (frames : List Frame) (frame : Frame) : Type 0 where
-  pub time : setup.epoch + length frames < 4294967296
+  pub time : setup.epoch + length frames + 1 < 4294967296
   pub upsets : All (λ (u : Upset). is_mapped setup.regions u.at ≡ true) frame.upsets
 
 -- what a header and the named files say

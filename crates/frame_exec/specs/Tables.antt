@@ -164,7 +164,9 @@ pub record SetGiven (regions : List Region) (tables : TableSet) : Type 0 where
   pub eeprom : SegmentsGiven regions tables.eeprom
   pub memory : SegmentsGiven regions tables.memory
 
--- memory of these regions gives what the entries of the tables that are active read, and of all others that files name
+-- the files can be loaded, and memory of these regions gives what the entries of the tables that are active read, and of all others that
+-- files name
 pub record AreGiven (regions : List Region) (tables : Loaded) : Type 0 where
+  pub well : tables_fault tables.files ≡ None
   pub set : SetGiven regions tables.set
   pub named : region_fault regions tables.files ≡ None

@@ -14,7 +14,7 @@ use crate::mm_slot::MmSlot;
 use crate::reads::Reads;
 use crate::sc_slot::ScSlot;
 use crate::slot::Slot;
-use crate::stages::{deliver_all, in_order, is_held, put_frame, stamp_all, take_unless, upset_all};
+use crate::stages::{deliver_all, has_reset, in_order, is_held, put_frame, stamp_all, take_unless, upset_all};
 use crate::tables::Tables;
 use crate::wakeups::{Scene, Wakeup};
 use bus_pipes::{Batch, Bus, Drops, Outbox, PipeName};
@@ -49,6 +49,8 @@ pub struct Bench<'f> {
     // one more than the last frame's number, which may be the largest of four bytes
     number: u64,
     failed: bool,
+    // whether a processor reset was asked for in the frame that was run
+    resets: bool,
     // how many threads may land operations at once
     workers: u32,
     tables: Tables<'f>,
@@ -93,11 +95,12 @@ impl<'f> Bench<'f> {
     ghost use Rattle.frame_exec.specs.Following.{Follows, IsCutAt, Adds};
     ghost use Rattle.frame_exec.specs.Tables.{AreGiven, AreLoaded, Opens, region_fault};
     ghost use Rattle.frame_exec.specs.Landable.{CanLand};
-    ghost use Rattle.std.specs.List.{AllPass};
+    ghost use Rattle.std.specs.List.{AllPass, list_any};
     ghost use Rattle.bus_pipes.specs.Counted.{is_item_counted};
     ghost use Rattle.frame_exec.specs.Activations.{accepts};
     ghost use Rattle.table_files.specs.Files.{kind_at};
-    ghost use Rattle.frame_exec.specs.Stages.{IsSameRun, GoesOn, NamesFile, Activates, IsUpset, Takes, IsClear, Steps, CanSend, AreWoken, TakesOver, Sends, RunsIn, IsSameFrame, Lands, items_in, loads_in, lines_in};
+    ghost use Rattle.frame_exec.specs.Stages.{IsSameRun, GoesOn, NamesFile, Activates, IsUpset, Takes, IsClear, Steps, CanSend, AreWoken, TakesOver, Sends, RunsIn, IsSameFrame, Lands, StartsAnew, IsStamped, items_in, loads_in, lines_in};
+    ghost use Rattle.frame_exec.specs.Sending.{is_reset};
     ghost use Rattle.frame_exec.specs.Wakes.{joined};
 
     /// A bench with the tables that were loaded from these files and the memory of the header's map, which stands for no
@@ -144,6 +147,7 @@ impl<'f> Bench<'f> {
             epoch: header.epoch,
             number: 0,
             failed: false,
+            resets: false,
             workers,
             hs: Slot::open(alloc, Hs::start(tables.hs(), 0, 3))?,
             events: Batch::new(),
@@ -171,7 +175,8 @@ impl<'f> Bench<'f> {
         self.failed
     }
 
-    /// Runs a frame, writes its lines, and lands its operations once all of them were written.
+    /// Runs a frame, writes its lines, lands its operations once all of them were written, and then lets a processor reset take effect that was
+    /// asked for in it.
     pub fn frame<R: Threads + Sync, G: Gate, O: Sink>(
         &mut self,
         rt: &R,
@@ -191,6 +196,7 @@ impl<'f> Bench<'f> {
         match self.write(sink, silent) {
             Ok(()) => {
                 self.land(rt, gate);
+                self.go_on();
                 Ok(())
             }
             Err(failed) => {
@@ -224,6 +230,7 @@ impl<'f> Bench<'f> {
         match self.add_lines(sink, silent) {
             Ok(()) => {
                 self.land(rt, gate);
+                self.go_on();
                 Ok(())
             }
             Err(_) => Err(self.cut()),
@@ -269,6 +276,41 @@ impl<'f> Bench<'f> {
         self.ram
             .land_banks_on(rt, workers, self.ops.items(), self.tables.files(), gate);
         self.number += 1;
+    }
+
+    /// Lets a processor reset take effect, where one was asked for in the frame.
+    #[inline(always)]
+    fn go_on(&mut self)
+        requires time { self.old.epoch + self.old.number < 4294967296 }
+        requires ready { IsReady self.old }
+        ensures anew { StartsAnew self.old self.new }
+        ensures ready { IsReady self.new }
+    {
+        if !self.resets {
+            return;
+        }
+        self.start_anew();
+    }
+
+    /// Starts the applications anew on the first file of each kind, with empty pipes. HS keeps the resets made and their maximum.
+    #[inline(never)]
+    fn start_anew(&mut self)
+        requires time { self.old.epoch + self.old.number < 4294967296 }
+        requires ready { IsReady self.old }
+        requires resets { self.old.resets ≡ true }
+        ensures anew { StartsAnew self.old self.new }
+        ensures ready { IsReady self.new }
+    {
+        let (made, max) = self.hs.state.resets();
+        let time = self.epoch + self.number as u32;
+        self.tables.load_again();
+        self.hs.begin(Hs::start(self.tables.hs(), made, max));
+        self.cs
+            .begin(Cs::start(self.tables.eeprom(), self.tables.memory()));
+        self.sc.begin(Sc::start(self.tables.sc(), time));
+        self.mm.begin(Mm::start());
+        self.md.begin(Md::start(self.tables.dwells()));
+        self.bus.clear();
     }
 
     /// Makes the tables of these files active, in order, and tells of each whether it is. Most frames name none.
@@ -444,7 +486,8 @@ impl<'f> Bench<'f> {
         told & hs & cs & sc & mm & md
     }
 
-    /// Gives the items their counts, offers the frame's packets and theirs to the pipes, and tells whether nothing was sent nor dropped.
+    /// Gives the items their counts, offers the frame's packets and theirs to the pipes unless a processor reset is asked for, and tells
+    /// whether nothing was sent nor dropped.
     #[inline(always)]
     fn send(&mut self, input: &FrameInput, none: bool) -> bool
         requires can { CanSend self.old }
@@ -454,6 +497,7 @@ impl<'f> Bench<'f> {
         ensures silent { result ≡ true → lines_in self.new ≡ [] }
     {
         self.drops.clear();
+        self.resets = false;
         if none && input.sends().is_empty() {
             return true;
         }
@@ -461,7 +505,8 @@ impl<'f> Bench<'f> {
         self.is_silent()
     }
 
-    /// Gives the items their counts, and offers the frame's packets and theirs to the pipes. Nothing was dropped yet.
+    /// Gives the items their counts, and offers the frame's packets and theirs to the pipes, unless a processor reset is asked for. Nothing
+    /// was dropped yet.
     #[inline(never)]
     fn send_all(&mut self, input: &FrameInput)
         requires can { CanSend self.old }
@@ -469,12 +514,11 @@ impl<'f> Bench<'f> {
         requires none { self.old.drops.items ≡ [] }
         ensures { Sends input.now.sends self.old self.new }
     {
-        stamp_all(&mut self.log, &mut self.activations);
-        stamp_all(&mut self.log, &mut self.hs.out);
-        stamp_all(&mut self.log, &mut self.cs.out);
-        stamp_all(&mut self.log, &mut self.sc.out);
-        stamp_all(&mut self.log, &mut self.mm.out);
-        stamp_all(&mut self.log, &mut self.md.out);
+        self.resets = self.asks_for_reset();
+        self.stamp();
+        if self.resets {
+            return;
+        }
         self.bus.deliver(input.sends(), &mut self.drops);
         deliver_all(
             &mut self.bus,
@@ -486,6 +530,19 @@ impl<'f> Bench<'f> {
             &self.md,
             &mut self.drops,
         );
+    }
+
+    /// Gives the items their sequence counts.
+    fn stamp(&mut self)
+        requires can { CanSend self.old }
+        ensures { IsStamped self.old self.new }
+    {
+        stamp_all(&mut self.log, &mut self.activations);
+        stamp_all(&mut self.log, &mut self.hs.out);
+        stamp_all(&mut self.log, &mut self.cs.out);
+        stamp_all(&mut self.log, &mut self.sc.out);
+        stamp_all(&mut self.log, &mut self.mm.out);
+        stamp_all(&mut self.log, &mut self.md.out);
     }
 
     /// Runs a frame up to its lines: makes its tables active, writes its upsets, wakes the applications on its image, sends what they gave,
@@ -566,6 +623,18 @@ impl<'f> Bench<'f> {
             &lists,
             self.drops.items(),
         )
+    }
+
+    /// Whether an item asks for a processor reset.
+    fn asks_for_reset(&self) -> bool
+        ensures { result ≡ list_any is_reset (joined (items_in self.now)) }
+    {
+        has_reset(self.activations.items())
+            | has_reset(self.hs.out.items())
+            | has_reset(self.cs.out.items())
+            | has_reset(self.sc.out.items())
+            | has_reset(self.mm.out.items())
+            | has_reset(self.md.out.items())
     }
 
     /// Whether nothing was sent nor dropped in the frame that was run.

@@ -45,6 +45,15 @@ impl<S> Slot<S> {
         })
     }
 
+    /// Goes on from this state.
+    pub(crate) fn begin(&mut self, state: S)
+    where
+        S: Drop,
+        ensures state { self.new.state.value ≡ state }
+    {
+        *self.state = state;
+    }
+
     /// Takes what its pipe holds, unless the application is held. What it gave in the frame before is gone.
     pub(crate) fn take(&mut self, bus: &mut Bus, pipe: PipeName, held: bool)
         requires { depth_of pipe ≤ 16 }

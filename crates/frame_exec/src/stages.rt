@@ -15,7 +15,7 @@ ghost use Rattle.packet_log.specs.Lines.{drop_line};
 ghost use Rattle.packet_log.specs.Sent.{makes};
 ghost use Rattle.packet_log.specs.Standing.{Stands as LogStands};
 ghost use Rattle.frame_exec.specs.Wakes.{joined};
-ghost use Rattle.frame_exec.specs.Sending.{place_of, is_same, taken, upset_by, sent_of, packet_in, shown};
+ghost use Rattle.frame_exec.specs.Sending.{place_of, is_same, taken, upset_by, sent_of, is_reset, packet_in, shown};
 
 use crate::cs_slot::CsSlot;
 use crate::hs_slot::HsSlot;
@@ -80,6 +80,26 @@ pub(crate) fn stamp_all(log: &mut Log, out: &mut Outbox)
     'items: for i in 0..out.len() {
         log.stamp_item(out.item_mut(i));
     }
+}
+
+/// Whether an item asks for a processor reset.
+fn is_reset(item: &Out) -> bool
+    ensures { result ≡ is_reset item.now }
+{
+    match item {
+        Out::Reset => true,
+        Out::Made(_) => false,
+        Out::Stored(_) => false,
+        Out::Restart(_) => false,
+        Out::Delete(_) => false,
+    }
+}
+
+/// Whether an item of a list asks for a processor reset.
+pub(crate) fn has_reset(items: &[Out]) -> bool
+    ensures { result ≡ list_any is_reset items.now }
+{
+    items.iter().any(|item| is_reset(item))
 }
 
 /// Offers the packet of an item to its pipe, if it is one.

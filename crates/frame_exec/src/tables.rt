@@ -5,7 +5,7 @@ ghost use Rattle.table_files.specs.Headers.{Shows};
 ghost use Rattle.table_files.specs.Files.{file_at, kind_at};
 ghost use Rattle.table_files.specs.Kinds.{IsTable};
 ghost use Rattle.table_files.specs.declared.kinds.TableKind.{TableKind};
-ghost use Rattle.frame_exec.specs.Tables.{with_table, with_file, entry_fault, entry_fault_in, tables_fault};
+ghost use Rattle.frame_exec.specs.Tables.{with_table, with_file, entry_fault, entry_fault_in, tables_fault, tables_of};
 
 use crate::loading::{
     TablesFault, earlier_fault, put_acts, put_apps, put_counts, put_events, put_segments,
@@ -54,6 +54,17 @@ impl<'f> Tables<'f> {
             memory: Segments::blank(),
             hs: HsTables::blank(),
             sc: ScTables::new([None; 2], RtsSet::empty()),
+        }
+    }
+
+    /// Makes the first file of each kind active again.
+    pub(crate) fn load_again(&mut self)
+        requires { tables_fault self.old.files ≡ None }
+        ensures { self.new ≡ record { files = self.old.files; set = tables_of self.old.files } }
+    {
+        match Tables::load(self.files) {
+            Ok(tables) => *self = tables,
+            Err(_) => unreachable!(),
         }
     }
 

@@ -182,7 +182,7 @@ const WATCHES: [Watch; 22] = [
         counts: &[],
         actions: &[],
         rehearsal: Rehearsal {
-            frames: 2,
+            frames: 1,
             parts: &[&[]],
             lines: &[
                 Line::Event("HS", 0, 0, 101, 3),
@@ -245,7 +245,7 @@ const WATCHES: [Watch; 22] = [
             ],
         },
     },
-    // Resets made are set to 0.
+    // Resets made are set to 0, once they were kept over a reset.
     Watch {
         apps: &[
             (1, "A", 1, 1),
@@ -257,8 +257,8 @@ const WATCHES: [Watch; 22] = [
         counts: &[],
         actions: &[],
         rehearsal: Rehearsal {
-            frames: 2,
-            parts: &[&[(0, "send 18AEC00000010880\n")]],
+            frames: 3,
+            parts: &[&[(1, "send 18AEC00000010880\n")]],
             lines: &[
                 Line::Event("HS", 0, 0, 101, 3),
                 Line::Text("0 reset"),
@@ -266,9 +266,12 @@ const WATCHES: [Watch; 22] = [
                 Line::Text("0 reset"),
                 Line::Event("HS", 0, 2, 101, 3),
                 Line::Text("0 reset"),
-                Line::Event("HS", 1, 3, 24, 2),
-                Line::Event("HS", 1, 4, 101, 3),
-                Line::Text("1 reset"),
+                Line::Event("HS", 1, 3, 105, 3),
+                Line::Event("HS", 1, 4, 105, 3),
+                Line::Event("HS", 1, 5, 105, 3),
+                Line::Event("HS", 2, 6, 24, 2),
+                Line::Event("HS", 2, 7, 101, 3),
+                Line::Text("2 reset"),
             ],
         },
     },

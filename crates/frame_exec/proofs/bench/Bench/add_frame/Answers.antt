@@ -1,4 +1,4 @@
-use Rattle.std.proofs.Common.{◌++◌, length, sym, ap, ◌∙◌, subst, arith}
+use Rattle.std.proofs.Common.{ℕ, ◌+◌, ◌++◌, length, sym, ap, ◌∙◌, subst, arith}
 use Rattle.std.specs.Prelude.{Err}
 use Rattle.fsw_outside.specs.declared.traits.Failed.{Failed}
 use Rattle.frame_exec.specs.Stages.{lines_in}
@@ -11,7 +11,10 @@ use Rattle.frame_exec.proofs.Behind.{follows_next, cut_added, told_added}
 use Rattle.frame_exec.proofs.bench.Bench.add_frame.Goals as goal
 
 pub run-silent-requires-clause-time : goal.run-silent-requires-clause-time
-run-silent-requires-clause-time g c = λ _ _. let s = c.requires.started in time_fits c.args.self.now s.0 (s.1 ++ s.2) c.args.input.now s.3.epoch s.3.has s.4
+run-silent-requires-clause-time g c = λ _ _.
+    let s = c.requires.started in
+    let fits = time_fits c.args.self.now s.0 (s.1 ++ s.2) c.args.input.now s.3.epoch s.3.has s.4 in
+    omega (arith, fits)
 
 pub run-silent-requires-clause-upsets : goal.run-silent-requires-clause-upsets
 run-silent-requires-clause-upsets g c = λ _ _. let s = c.requires.started in upsets_mapped c.args.self.now s.0 (s.1 ++ s.2) c.args.input.now s.3.has s.4
@@ -33,24 +36,39 @@ land-requires-clause-number g c =
 pub land-requires-clause-can_land : goal.land-requires-clause-can_land
 land-requires-clause-can_land g c = λ _ _. can_land_still c.run-silent.new.self c.add_lines.new.self c.in-Ok.ensures.same c.run-silent.ensures.can_land
 
+pub go_on-requires-clause-time : goal.go_on-requires-clause-time
+go_on-requires-clause-time g c =
+    let s = c.requires.started in
+    let fits = time_fits c.args.self.now s.0 (s.1 ++ s.2) c.args.input.now s.3.epoch s.3.has s.4 in
+    let same = c.in-Ok.ensures.same in
+    let epoch = c.land.ensures.epoch ∙ same.epoch ∙ c.run-silent.ensures.run.epoch in
+    let number = c.land.ensures.number ∙ ap (λ (n : ℕ). n + 1) (same.number ∙ c.run-silent.ensures.run.number) in
+    omega (arith, fits, epoch, number)
+
+pub go_on-requires-clause-ready : goal.go_on-requires-clause-ready
+go_on-requires-clause-ready g c =
+    let s = c.requires.started in
+    ready_next c.run-silent.new.self c.add_lines.new.self c.land.new.self s.0 (s.1 ++ s.2) c.args.input.now c.in-Ok.ensures.same c.land.ensures c.run-silent.ensures.ready
+
 pub returns-in-Ok-clause-follows : goal.returns-in-Ok-clause-follows
 returns-in-Ok-clause-follows g c = λ setup earlier later follows.
     let run = c.run-silent.ensures.run in
     let same = c.in-Ok.ensures.same in
     let r = c.run-silent.ensures.runs setup (run_of setup (earlier ++ later)) follows.epoch follows.files follows.has in
     let lines = lines_are setup (earlier ++ later) c.args.input.now c.run-silent.new.self.number _ c.run-silent.new.self.drops.items (run.number ∙ follows.has.number) r.sent r.drops in
-    follows_next c.land.new.self setup earlier later c.args.input.now _ c.run-silent.new.self.block c.add_lines.new.self.block _ _
-    (c.land.ensures.epoch ∙ same.epoch ∙ run.epoch ∙ follows.epoch) (ap (λ (t : Loaded). t.files) (c.land.ensures.tables ∙ same.tables) ∙ run.files ∙ follows.files) (c.land.ensures.failed ∙ same.failed ∙ run.failed ∙ follows.well)
-    (has_next c.run-silent.new.self c.add_lines.new.self c.land.new.self setup (earlier ++ later) c.args.input.now same c.land.ensures (run.files ∙ follows.files) (run.number ∙ follows.has.number) r)
-    (ready_next c.run-silent.new.self c.add_lines.new.self c.land.new.self setup (earlier ++ later) c.args.input.now same c.land.ensures c.run-silent.ensures.ready)
-    c.land.ensures.waits lines
+    let goes = c.go_on.ensures.anew.goes in
+    follows_next c.go_on.new.self setup earlier later c.args.input.now _ c.run-silent.new.self.block c.add_lines.new.self.block _ _
+    (goes.epoch ∙ c.land.ensures.epoch ∙ same.epoch ∙ run.epoch ∙ follows.epoch) (goes.files ∙ ap (λ (t : Loaded). t.files) (c.land.ensures.tables ∙ same.tables) ∙ run.files ∙ follows.files) (goes.failed ∙ c.land.ensures.failed ∙ same.failed ∙ run.failed ∙ follows.well)
+    (has_next c.run-silent.new.self c.add_lines.new.self c.land.new.self setup (earlier ++ later) c.args.input.now same c.land.ensures c.go_on.new.self c.go_on.ensures.anew (run.epoch ∙ follows.epoch) (run.files ∙ follows.files) (run.number ∙ follows.has.number) r)
+    c.go_on.ensures.ready
+    (goes.waits ∙ c.land.ensures.waits) lines
     (subst (Notes (ends_from 0 (lines_behind setup earlier later)) (length (joined (lines_behind setup earlier later)))) (sym run.waits) follows.notes) c.in-Ok.ensures.adds
 
 pub returns-in-Ok-clause-told : goal.returns-in-Ok-clause-told
 returns-in-Ok-clause-told g c = λ setup earlier later follows.
     let r = c.run-silent.ensures.runs setup (run_of setup (earlier ++ later)) follows.epoch follows.files follows.has in
     let lines = lines_are setup (earlier ++ later) c.args.input.now c.run-silent.new.self.number _ c.run-silent.new.self.drops.items (c.run-silent.ensures.run.number ∙ follows.has.number) r.sent r.drops in
-    told_added _ _ c.args.self.now.block c.run-silent.new.self.block c.add_lines.new.self.block c.land.new.self.block _ _ lines c.run-silent.ensures.run.waits c.land.ensures.waits c.in-Ok.ensures.adds
+    told_added _ _ c.args.self.now.block c.run-silent.new.self.block c.add_lines.new.self.block c.go_on.new.self.block _ _ lines c.run-silent.ensures.run.waits (c.go_on.ensures.anew.goes.waits ∙ c.land.ensures.waits) c.in-Ok.ensures.adds
 
 pub returns-in-Err-clause-cut : goal.returns-in-Err-clause-cut
 returns-in-Err-clause-cut g c = λ setup earlier later follows.

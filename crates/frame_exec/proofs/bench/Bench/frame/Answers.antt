@@ -1,4 +1,4 @@
-use Rattle.std.proofs.Common.{ℕ, List, ◌++◌, ◌∙◌, ap, subst, arith}
+use Rattle.std.proofs.Common.{ℕ, ◌+◌, List, ◌++◌, ◌∙◌, ap, subst, arith}
 use Rattle.frame_exec.specs.Tables.{Loaded}
 use Rattle.frame_exec.specs.Runs.{run_of}
 use Rattle.fsw_outside.specs.Written.{AppendsPart}
@@ -7,7 +7,10 @@ use Rattle.frame_exec.proofs.Frames.{activated_image, lines_are, has_next, ready
 use Rattle.frame_exec.proofs.bench.Bench.frame.Goals as goal
 
 pub run-silent-requires-clause-time : goal.run-silent-requires-clause-time
-run-silent-requires-clause-time g c = λ _ _. let s = c.requires.started in time_fits c.args.self.now s.0 s.1 c.args.input.now s.2.epoch s.2.has s.3
+run-silent-requires-clause-time g c = λ _ _.
+    let s = c.requires.started in
+    let fits = time_fits c.args.self.now s.0 s.1 c.args.input.now s.2.epoch s.2.has s.3 in
+    omega (arith, fits)
 
 pub run-silent-requires-clause-upsets : goal.run-silent-requires-clause-upsets
 run-silent-requires-clause-upsets g c = λ _ _. let s = c.requires.started in upsets_mapped c.args.self.now s.0 s.1 c.args.input.now s.2.has s.3
@@ -29,6 +32,20 @@ land-requires-clause-number g c =
 pub land-requires-clause-can_land : goal.land-requires-clause-can_land
 land-requires-clause-can_land g c = λ _ _. can_land_still c.run-silent.new.self c.write.new.self c.in-Ok.ensures.same c.run-silent.ensures.can_land
 
+pub go_on-requires-clause-time : goal.go_on-requires-clause-time
+go_on-requires-clause-time g c =
+    let s = c.requires.started in
+    let fits = time_fits c.args.self.now s.0 s.1 c.args.input.now s.2.epoch s.2.has s.3 in
+    let same = c.in-Ok.ensures.same in
+    let epoch = c.land.ensures.epoch ∙ same.epoch ∙ c.run-silent.ensures.run.epoch in
+    let number = c.land.ensures.number ∙ ap (λ (n : ℕ). n + 1) (same.number ∙ c.run-silent.ensures.run.number) in
+    omega (arith, fits, epoch, number)
+
+pub go_on-requires-clause-ready : goal.go_on-requires-clause-ready
+go_on-requires-clause-ready g c =
+    let s = c.requires.started in
+    ready_next c.run-silent.new.self c.write.new.self c.land.new.self s.0 s.1 c.args.input.now c.in-Ok.ensures.same c.land.ensures c.run-silent.ensures.ready
+
 pub returns-in-Ok-clause-lines : goal.returns-in-Ok-clause-lines
 returns-in-Ok-clause-lines g c = λ setup frames stands.
     let r = c.run-silent.ensures.runs setup (run_of setup frames) stands.epoch stands.files stands.has in
@@ -39,14 +56,15 @@ pub returns-in-Ok-clause-stands : goal.returns-in-Ok-clause-stands
 returns-in-Ok-clause-stands g c = λ setup frames stands.
     let run = c.run-silent.ensures.run in
     let same = c.in-Ok.ensures.same in
+    let goes = c.go_on.ensures.anew.goes in
     record {
-      epoch = c.land.ensures.epoch ∙ same.epoch ∙ run.epoch ∙ stands.epoch;
-      files = ap (λ (t : Loaded). t.files) (c.land.ensures.tables ∙ same.tables) ∙ run.files ∙ stands.files;
-      well = c.land.ensures.failed ∙ same.failed ∙ run.failed ∙ stands.well;
-      waits = c.land.ensures.waits ∙ c.in-Ok.ensures.handed;
-      has = has_next c.run-silent.new.self c.write.new.self c.land.new.self setup frames c.args.input.now same c.land.ensures (run.files ∙ stands.files) (run.number ∙ stands.has.number)
+      epoch = goes.epoch ∙ c.land.ensures.epoch ∙ same.epoch ∙ run.epoch ∙ stands.epoch;
+      files = goes.files ∙ ap (λ (t : Loaded). t.files) (c.land.ensures.tables ∙ same.tables) ∙ run.files ∙ stands.files;
+      well = goes.failed ∙ c.land.ensures.failed ∙ same.failed ∙ run.failed ∙ stands.well;
+      waits = goes.waits ∙ c.land.ensures.waits ∙ c.in-Ok.ensures.handed;
+      has = has_next c.run-silent.new.self c.write.new.self c.land.new.self setup frames c.args.input.now same c.land.ensures c.go_on.new.self c.go_on.ensures.anew (run.epoch ∙ stands.epoch) (run.files ∙ stands.files) (run.number ∙ stands.has.number)
           (c.run-silent.ensures.runs setup (run_of setup frames) stands.epoch stands.files stands.has);
-      ready = ready_next c.run-silent.new.self c.write.new.self c.land.new.self setup frames c.args.input.now same c.land.ensures c.run-silent.ensures.ready;
+      ready = c.go_on.ensures.ready;
     }
 
 pub returns-in-Err-clause-interrupted : goal.returns-in-Err-clause-interrupted

@@ -1,11 +1,11 @@
 use Rattle.std.proofs.Common.{◌≡◌, ◌==◌, ℕ, List, [], ◌++◌, length, refl, sym, ◌∙◌, ap, subst, append-nil}
-use Rattle.std.specs.List.{flat_map}
+use Rattle.std.specs.List.{flat_map, list_any}
 use Rattle.bus_pipes.specs.Delivery.{after_offers, drops_from}
 use Rattle.bus_pipes.specs.declared.names.Out.{Out}
 use Rattle.bus_pipes.proofs.Deliveries.{after_offers_none, drops_none}
 use Rattle.packet_log.specs.Sent.{makes}
 use Rattle.packet_log.specs.Standing.{Stands as LogStands}
-use Rattle.frame_exec.specs.Sending.{packet_in, sent_of}
+use Rattle.frame_exec.specs.Sending.{packet_in, is_reset, sent_of}
 use Rattle.frame_exec.specs.Stages.{items_in}
 use Rattle.frame_exec.specs.Wakes.{joined}
 use Rattle.frame_exec.proofs.Offers.{offers_nothing}
@@ -26,6 +26,7 @@ returns-then-is_empty-clause-sends c =
       sent = λ made stands. none ∙ sym (ap (sent_of made) none ∙ sent_none made);
       made = λ made stands.
           subst (λ (items : List Out). LogStands (made ++ flat_map makes items) old.log) (sym none) (subst (λ (packets : List (List ℕ)). LogStands packets old.log) (sym (append-nil made)) stands);
+      resets = sym (ap (list_any is_reset) none);
       pipes = sym (ap (after_offers old.bus) offered ∙ after_offers_none old.bus);
       drops = c.clear.ensures.none ∙ sym (ap (drops_from old.bus) offered ∙ drops_none old.bus);
       memory = refl;

@@ -1,55 +1,56 @@
-use Rattle.std.proofs.Common.{ℕ, List, [], ◌++◌, refl, sym, ◌∙◌, ap, subst, append-nil}
+use Rattle.std.proofs.Common.{◌≡◌, Bool, true, false, ℕ, List, [], ◌++◌, sym, ◌∙◌, ap}
 use Rattle.std.specs.List.{flat_map}
-use Rattle.bus_pipes.specs.Held.{adding}
+use Rattle.bus_pipes.specs.Held.{Held, adding}
 use Rattle.bus_pipes.specs.Delivery.{after_offers, drops_from}
-use Rattle.packet_log.specs.Sent.{makes}
-use Rattle.packet_log.specs.Standing.{Stands as LogStands}
+use Rattle.bus_pipes.specs.declared.names.Dropped.{Dropped}
+use Rattle.bus_pipes.specs.Pipes.{Pipes}
+use Rattle.bus_pipes.proofs.Deliveries.{after_offers_none, drops_none}
+use Rattle.frame_exec.specs.Sending.{packet_in, offered}
+use Rattle.frame_exec.specs.Stages.{items_in}
+use Rattle.frame_exec.specs.Wakes.{joined}
 use Rattle.frame_exec.proofs.Offers.{offers_two, drops_two}
-use Rattle.frame_exec.proofs.Stamping.{sent_none, sent_then, made_two}
 use Rattle.frame_exec.proofs.bench.Bench.send_all.Goals as goal
+
+-- a processor reset is asked for
+pub returns-then-self : goal.returns-then-self
+returns-then-self c =
+    let old = c.args.self.now in
+    let stamped = c.stamp.ensures in
+    let run = stamped.run in
+    let apps = stamped.apps in
+    let none : offered c.stamp.new.self.resets c.args.input.now.sends (joined (items_in c.stamp.new.self)) ≡ [] = ap (λ (b : Bool). offered b c.args.input.now.sends (joined (items_in c.stamp.new.self))) c.if-self.true in
+    record {
+      run = record { waits = run.waits; epoch = run.epoch; number = run.number; failed = run.failed; tables = run.tables };
+      apps = record { hs = apps.hs; cs = apps.cs; sc = apps.sc; mm = apps.mm; md = apps.md };
+      operations = stamped.operations;
+      sent = stamped.sent;
+      made = stamped.made;
+      resets = stamped.resets ∙ c.asks_for_reset-self.ensures;
+      pipes = stamped.pipes ∙ sym (ap (after_offers old.bus) none ∙ after_offers_none old.bus);
+      drops = ap (λ (held : Held Dropped). held.items) stamped.drops ∙ c.requires.none ∙ sym (ap (drops_from old.bus) none ∙ drops_none old.bus);
+      memory = stamped.memory;
+    }
 
 pub returns : goal.returns
 returns c =
     let old = c.args.self.now in
-    let told = old.activations.items in
-    let hs = old.hs.out.items in
-    let cs = old.cs.out.items in
-    let sc = old.sc.out.items in
-    let mm = old.mm.out.items in
-    let md = old.md.out.items in
+    let stamped = c.stamp.ensures in
+    let run = stamped.run in
+    let apps = stamped.apps in
     let sends = c.sends.ensures.value in
-    let offered = c.deliver.ensures.after ∙ ap (after_offers old.bus) sends in
+    let packets = flat_map packet_in (joined (items_in c.stamp.new.self)) in
+    let none : offered c.stamp.new.self.resets c.args.input.now.sends (joined (items_in c.stamp.new.self)) ≡ c.args.input.now.sends ++ packets = ap (λ (b : Bool). offered b c.args.input.now.sends (joined (items_in c.stamp.new.self))) c.if-self.false in
+    let offered_first = c.deliver.ensures.after ∙ ap (λ (p : Pipes). after_offers p c.sends.result.now) stamped.pipes ∙ ap (after_offers old.bus) sends in
     record {
-      run = record { waits = refl; epoch = refl; number = refl; failed = refl; tables = refl };
-      apps = record { hs = refl; cs = refl; sc = refl; mm = refl; md = refl };
-      operations = refl;
-      sent = λ made stands.
-          let one = c.stamp_all.ensures.stands made stands in
-          let two = c.stamp_all-2.ensures.stands _ one in
-          let three = c.stamp_all-3.ensures.stands _ two in
-          let four = c.stamp_all-4.ensures.stands _ three in
-          let five = c.stamp_all-5.ensures.stands _ four in
-          sent_then made told _ (hs ++ (cs ++ (sc ++ (mm ++ (md ++ []))))) _ (c.stamp_all.ensures.sent made stands)
-          (sent_then (made ++ flat_map makes told) hs _ (cs ++ (sc ++ (mm ++ (md ++ [])))) _ (c.stamp_all-2.ensures.sent _ one)
-          (sent_then ((made ++ flat_map makes told) ++ flat_map makes hs) cs _ (sc ++ (mm ++ (md ++ []))) _ (c.stamp_all-3.ensures.sent _ two)
-          (sent_then (((made ++ flat_map makes told) ++ flat_map makes hs) ++ flat_map makes cs) sc _ (mm ++ (md ++ [])) _ (c.stamp_all-4.ensures.sent _ three)
-          (sent_then ((((made ++ flat_map makes told) ++ flat_map makes hs) ++ flat_map makes cs) ++ flat_map makes sc) mm _ (md ++ []) _ (c.stamp_all-5.ensures.sent _ four)
-          (sent_then (((((made ++ flat_map makes told) ++ flat_map makes hs) ++ flat_map makes cs) ++ flat_map makes sc) ++ flat_map makes mm) md _ [] [] (c.stamp_all-6.ensures.sent _ five) (sym (sent_none _)))))));
-      made = λ made stands.
-          let one = c.stamp_all.ensures.stands made stands in
-          let two = c.stamp_all-2.ensures.stands _ one in
-          let three = c.stamp_all-3.ensures.stands _ two in
-          let four = c.stamp_all-4.ensures.stands _ three in
-          let five = c.stamp_all-5.ensures.stands _ four in
-          let six = c.stamp_all-6.ensures.stands _ five in
-          made_two made told (hs ++ (cs ++ (sc ++ (mm ++ (md ++ []))))) _
-          (made_two (made ++ flat_map makes told) hs (cs ++ (sc ++ (mm ++ (md ++ [])))) _
-          (made_two ((made ++ flat_map makes told) ++ flat_map makes hs) cs (sc ++ (mm ++ (md ++ []))) _
-          (made_two (((made ++ flat_map makes told) ++ flat_map makes hs) ++ flat_map makes cs) sc (mm ++ (md ++ [])) _
-          (made_two ((((made ++ flat_map makes told) ++ flat_map makes hs) ++ flat_map makes cs) ++ flat_map makes sc) mm (md ++ []) _
-          (made_two (((((made ++ flat_map makes told) ++ flat_map makes hs) ++ flat_map makes cs) ++ flat_map makes sc) ++ flat_map makes mm) md [] _ (subst (λ (packets : List (List ℕ)). LogStands packets c.stamp_all-6.new.log) (sym (append-nil _)) six))))));
-      pipes = offers_two old.bus c.deliver.new.self _ c.args.input.now.sends _ offered c.deliver_all.ensures.after;
-      drops = drops_two old.bus c.deliver.new.self c.args.self.now.drops c.deliver.new.drops _ c.args.input.now.sends _ c.requires.none offered
-          (c.deliver.ensures.drops ∙ ap (λ (packets : List (List ℕ)). adding c.args.self.now.drops (drops_from old.bus packets)) sends) c.deliver_all.ensures.drops;
-      memory = refl;
+      run = record { waits = run.waits; epoch = run.epoch; number = run.number; failed = run.failed; tables = run.tables };
+      apps = record { hs = apps.hs; cs = apps.cs; sc = apps.sc; mm = apps.mm; md = apps.md };
+      operations = stamped.operations;
+      sent = stamped.sent;
+      made = stamped.made;
+      resets = stamped.resets ∙ c.asks_for_reset-self.ensures;
+      pipes = offers_two old.bus c.deliver.new.self _ c.args.input.now.sends packets offered_first c.deliver_all.ensures.after ∙ sym (ap (after_offers old.bus) none);
+      drops = drops_two old.bus c.deliver.new.self c.args.self.now.drops c.deliver.new.drops _ c.args.input.now.sends packets c.requires.none offered_first
+          (c.deliver.ensures.drops ∙ ap (λ (held : Held Dropped). adding held (drops_from c.stamp.new.self.bus c.sends.result.now)) stamped.drops
+          ∙ ap (λ (p : Pipes). adding old.drops (drops_from p c.sends.result.now)) stamped.pipes ∙ ap (λ (packets : List (List ℕ)). adding old.drops (drops_from old.bus packets)) sends) c.deliver_all.ensures.drops ∙ sym (ap (drops_from old.bus) none);
+      memory = stamped.memory;
     }
