@@ -5,21 +5,21 @@ use Rattle.std.specs.List.{list_any, range_with_len}
 use Rattle.std.proofs.lemmas.Bool.{eqb-true}
 use Rattle.histories.proofs.Lasts.{last_cases}
 use Rattle.memory_window.specs.Memory.{Memory}
-use Rattle.cs_slices.specs.declared.instructions.Instruction.{Instruction}
-use Rattle.cs_slices.specs.Tables.{entry_in}
-use Rattle.cs_slices.specs.Orders.{takes_part, turns_off}
-use Rattle.cs_slices.specs.Slices.{Slice, current_place, goes_on, offset_at, entry_bytes, slice_size, slice_from, ring_from, next_slice}
+use Rattle.cs_slices.specs.Tables.{TablePair, entry_in}
+use Rattle.cs_slices.specs.Happenings.{Slice, Happening, slices_among, since_slice}
+use Rattle.cs_slices.specs.Orders.{takes_part, breaks_off}
+use Rattle.cs_slices.specs.Slices.{current_place, goes_on, offset_at, entry_bytes, slice_size, slice_from, ring_from, next_slice}
 use Rattle.cs_slices.specs.declared.segments.Segment.{Segment}
 use Rattle.cs_slices.proofs.Passes.{offset_more, offset_none}
 
 -- the place of the next slice
-pub next_is : (entries : List Segment) (orders : List Instruction) (slices : List Slice) (since : List Instruction) (image : Memory) (s : Slice) → next_slice entries orders slices since image ≡ Some s
-    → (place : ℕ) × (find (takes_part entries orders) (ring_from (current_place slices)) ≡ Some place) × (slice_from image (entry_in entries place) place (offset_at place slices since) ≡ s)
+pub next_is : (tables : TablePair) (happened : List Happening) (image : Memory) (s : Slice) → next_slice tables happened image ≡ Some s
+    → (place : ℕ) × (find (takes_part tables happened) (ring_from (current_place (slices_among happened))) ≡ Some place) × (slice_from image (entry_in tables place) place (offset_at place (slices_among happened) (since_slice happened)) ≡ s)
 unfolding next_slice
-next_is entries orders slices since image s is = by_found (find (takes_part entries orders) (ring_from (current_place slices))) is
+next_is tables happened image s is = by_found (find (takes_part tables happened) (ring_from (current_place (slices_among happened)))) is
   where
-    by_found : (o : Option ℕ) → option_map (λ (place : ℕ). slice_from image (entry_in entries place) place (offset_at place slices since)) o ≡ Some s
-        → (place : ℕ) × (o ≡ Some place) × (slice_from image (entry_in entries place) place (offset_at place slices since) ≡ s)
+    by_found : (o : Option ℕ) → option_map (λ (place : ℕ). slice_from image (entry_in tables place) place (offset_at place (slices_among happened) (since_slice happened))) o ≡ Some s
+        → (place : ℕ) × (o ≡ Some place) × (slice_from image (entry_in tables place) place (offset_at place (slices_among happened) (since_slice happened)) ≡ s)
     by_found None is = cc
     by_found (Some place) is = (place, refl, cc)
 
@@ -47,7 +47,7 @@ unfolding slice_from
 short_slice image e place from = let few = length-take (slice_size e from) (drop from (entry_bytes image e)) in let small = short_min (e.len - from) in omega arith
 
 -- the slice that one follows which doesn't begin at its entry's first byte
-pub offset_follows : (place : ℕ) (slices : List Slice) (since : List Instruction) → offset_at place slices since ≢ 0
+pub offset_follows : (place : ℕ) (slices : List Slice) (since : List Happening) → offset_at place slices since ≢ 0
     → (earlier : List Slice) × (last : Slice) × (slices ≡ earlier ++ last ∷ []) × (last.place ≡ place) × (last.till ≡ offset_at place slices since) × (last.ends ≡ false)
 offset_follows place slices since some = elim (last_cases slices) [
   | inl none ↦ absurd (some (ap (λ (xs : List Slice). offset_at place xs since) none ∙ offset_none place since))
@@ -70,5 +70,5 @@ offset_follows place slices since some = elim (last_cases slices) [
         → (earlier : List Slice) × (last : Slice) × (slices ≡ earlier ++ last ∷ []) × (last.place ≡ place) × (last.till ≡ offset_at place slices since) × (last.ends ≡ false)
     by_going earlier last is false going = absurd (some (at earlier last false is going))
     by_going earlier last is true going =
-        let rest = not (list_any (turns_off place) since) in
+        let rest = not (list_any (breaks_off place) since) in
         (earlier, last, is, eqb-true last.place place (first_of_three (last.place == place) (not last.ends) rest going), sym (at earlier last true is going), second_of_three (last.place == place) last.ends rest going)

@@ -1,9 +1,10 @@
+pub mod Happened
 pub mod Places
 pub mod Switching
 pub mod Passes
 pub mod Rings
 pub mod Tallying
-pub mod Wakeups
+pub mod Histories
 pub mod Slicing
 pub mod Handling
 pub mod Refusing

@@ -1,6 +1,6 @@
 -- The next slice, as it is read.
 use Rattle.std.proofs.Common.{◌≡◌, ℕ, ◌+◌, ◌-◌, Bool, true, false, cond, ◌&&◌, List, [], ◌∷◌, ◌++◌, take, drop, refl, sym, ap, ◌∙◌, append-nil}
-use Rattle.std.specs.Prelude.{Option, Some, None, min, option_to_list, find, ◌==◌}
+use Rattle.std.specs.Prelude.{Option, Some, None, min, find, ◌==◌}
 use Rattle.bus_pipes.specs.Held.{Held, adding}
 use Rattle.bus_pipes.specs.declared.names.Out.{Out}
 use Rattle.bus_pipes.specs.declared.names.Out.TheVariants.{Made}
@@ -8,11 +8,12 @@ use Rattle.bus_pipes.proofs.Deliveries.{adding_none}
 use Rattle.packet_forms.specs.Built.{event_of}
 use Rattle.packet_forms.specs.Crc.{crc_of}
 use Rattle.memory_window.specs.Memory.{Memory}
-use Rattle.cs_slices.specs.declared.instructions.Instruction.{Instruction}
-use Rattle.cs_slices.specs.Tables.{entry_in}
-use Rattle.cs_slices.specs.Orders.{takes_part}
-use Rattle.cs_slices.specs.Slices.{Slice, current_place, offset_at, entry_bytes, slice_from, ring_from, next_slice, since_behind}
-use Rattle.cs_slices.specs.Passes.{pass_bytes, baseline, differs, miscompares}
+use Rattle.cs_slices.specs.Tables.{TablePair, entry_in}
+use Rattle.cs_slices.specs.Happenings.{Slice, Happening, slices_among, since_slice, slices_since, reading}
+use Rattle.cs_slices.specs.Happenings.Happening.{Read}
+use Rattle.cs_slices.specs.Orders.{table_of, takes_part}
+use Rattle.cs_slices.specs.Slices.{current_place, offset_at, entry_bytes, slice_from, ring_from, next_slice}
+use Rattle.cs_slices.specs.Passes.{pass_bytes, differs, miscompares, baseline_at, differs_behind}
 use Rattle.cs_slices.specs.Step.{slice_items}
 use Rattle.cs_slices.specs.Messages.{cs_name}
 use Rattle.cs_slices.specs.State.{StandsAt}
@@ -45,31 +46,32 @@ slice_read image e place offset from size len whole bytes begins long sized read
     }
 
 -- the items of a slice
-pub items_quiet : (time : ℕ) (held : Held Out) (slices : List Slice) (s : Slice) → miscompares slices s ≡ false → held ≡ adding held (slice_items time slices (Some s))
-items_quiet time held slices s quiet =
+pub items_quiet : (time : ℕ) (held : Held Out) (happened : List Happening) (s : Slice) → differs_behind happened s ≡ false → held ≡ adding held (slice_items time happened (Some s))
+items_quiet time held happened s quiet =
     sym (ap (λ (b : Bool). adding held (cond b (Made (event_of cs_name 101 3 time) ∷ []) [])) quiet ∙ adding_none held)
 
-pub items_found : (time : ℕ) (held : Held Out) (slices : List Slice) (s : Slice) → miscompares slices s ≡ true → adding held (Made (event_of cs_name 101 3 time) ∷ []) ≡ adding held (slice_items time slices (Some s))
-items_found time held slices s found =
+pub items_found : (time : ℕ) (held : Held Out) (happened : List Happening) (s : Slice) → differs_behind happened s ≡ true → adding held (Made (event_of cs_name 101 3 time) ∷ []) ≡ adding held (slice_items time happened (Some s))
+items_found time held happened s found =
     sym (ap (λ (b : Bool). adding held (cond b (Made (event_of cs_name 101 3 time) ∷ []) [])) found)
 
-pub quiet_before_end : (slices : List Slice) (s : Slice) → s.ends ≡ false → miscompares slices s ≡ false
+pub quiet_before_end : (happened : List Happening) (s : Slice) → s.ends ≡ false → differs_behind happened s ≡ false
 unfolding miscompares
-quiet_before_end slices s goes = ap (λ (b : Bool). b && differs (baseline s.place slices) (crc_of 0 (pass_bytes s.place (slices ++ s ∷ [])))) goes
+quiet_before_end happened s goes = ap (λ (b : Bool). b && differs (baseline_at s.place happened) (crc_of 0 (pass_bytes s.place (slices_since (table_of s.place) happened ++ s ∷ [])))) goes
 
 -- the next slice by the place that was found
-pub next_none : (entries : List Segment) (orders : List Instruction) (slices : List Slice) (since : List Instruction) (image : Memory) → None ≡ find (takes_part entries orders) (ring_from (current_place slices)) → next_slice entries orders slices since image ≡ None
-unfolding next_slice
-next_none entries orders slices since image none = rw (← none) refl
+module _ (tables : TablePair) (happened : List Happening) (image : Memory) where
+  pub next_none : None ≡ find (takes_part tables happened) (ring_from (current_place (slices_among happened))) → next_slice tables happened image ≡ None
+  unfolding next_slice
+  next_none none = rw (← none) refl
 
-pub next_some : (entries : List Segment) (orders : List Instruction) (slices : List Slice) (since : List Instruction) (image : Memory) (place : ℕ) → Some place ≡ find (takes_part entries orders) (ring_from (current_place slices))
-    → next_slice entries orders slices since image ≡ Some (slice_from image (entry_in entries place) place (offset_at place slices since))
-unfolding next_slice
-next_some entries orders slices since image place found = rw (← found) refl
+  pub next_some : (place : ℕ) → Some place ≡ find (takes_part tables happened) (ring_from (current_place (slices_among happened)))
+      → next_slice tables happened image ≡ Some (slice_from image (entry_in tables place) place (offset_at place (slices_among happened) (since_slice happened)))
+  unfolding next_slice
+  next_some place found = rw (← found) refl
 
 -- the state after the next slice
-pub stands_unread : (entries : List Segment) (orders : List Instruction) (slices : List Slice) (since : List Instruction) (next : Option Slice) (course : Course) → StandsAt entries orders slices since course → next ≡ None → StandsAt entries orders (slices ++ option_to_list next) (since_behind next since) course
-stands_unread entries orders slices since next course stood none = rw (none, append-nil slices) stood
+pub stands_unread : (tables : TablePair) (happened : List Happening) (next : Option Slice) (course : Course) → StandsAt tables happened course → next ≡ None → StandsAt tables (happened ++ reading next) course
+stands_unread tables happened next course stood none = rw (none, append-nil happened) stood
 
-pub stands_read : (entries : List Segment) (orders : List Instruction) (slices : List Slice) (since : List Instruction) (next : Option Slice) (s : Slice) (course : Course) → StandsAt entries orders (slices ++ s ∷ []) [] course → next ≡ Some s → StandsAt entries orders (slices ++ option_to_list next) (since_behind next since) course
-stands_read entries orders slices since next s course stood found = rw found stood
+pub stands_read : (tables : TablePair) (happened : List Happening) (next : Option Slice) (s : Slice) (course : Course) → StandsAt tables (happened ++ Read s ∷ []) course → next ≡ Some s → StandsAt tables (happened ++ reading next) course
+stands_read tables happened next s course stood found = rw found stood

@@ -6,8 +6,8 @@ use Rattle.packet_forms.specs.Built.{telemetry_of}
 use Rattle.bus_pipes.specs.declared.names.Out.{Out}
 use Rattle.bus_pipes.specs.declared.names.Out.TheVariants.{Made}
 use Rattle.cs_slices.specs.Instructions.{place_of}
-use Rattle.cs_slices.specs.Slices.{Slice}
-use Rattle.cs_slices.specs.Passes.{baseline}
+use Rattle.cs_slices.specs.Happenings.{Happening}
+use Rattle.cs_slices.specs.Passes.{baseline_at}
 use Rattle.cs_slices.specs.declared.instructions.Instruction.{Instruction}
 use Rattle.cs_slices.specs.declared.instructions.Instruction.TheVariants.{Plain, Whole, Table, Entry, Report}
 
@@ -20,10 +20,10 @@ baseline_bytes (Some check) = be16_bytes 1 ++ be16_bytes check
 unfoldable pub baseline_packet : ℕ → ℕ → ℕ → Option ℕ → List ℕ
 baseline_packet time table number base = telemetry_of cs_baseline time (be16_bytes table ++ be16_bytes number ++ baseline_bytes base)
 
--- What an order is answered with before its event, by the slices so far.
-abbrev pub replies_to : ℕ → List Slice → Instruction → List Out
-replies_to time slices Plain = []
-replies_to time slices (Whole on) = []
-replies_to time slices (Table table on) = []
-replies_to time slices (Entry table number on) = []
-replies_to time slices (Report table number) = Made (baseline_packet time table number (baseline (place_of table number) slices)) ∷ []
+-- What an order is answered with before its event, by what happened before.
+abbrev pub replies_to : ℕ → List Happening → Instruction → List Out
+replies_to time happened Plain = []
+replies_to time happened (Whole on) = []
+replies_to time happened (Table table on) = []
+replies_to time happened (Entry table number on) = []
+replies_to time happened (Report table number) = Made (baseline_packet time table number (baseline_at (place_of table number) happened)) ∷ []

@@ -6,9 +6,8 @@ use Rattle.packet_forms.specs.Numbers.{be16_bytes, be32_bytes}
 use Rattle.packet_forms.specs.Built.{telemetry_of}
 use Rattle.bus_pipes.specs.declared.names.Counts.{Counts}
 use Rattle.cs_slices.specs.Orders.{is_cs_on, is_table_on}
-use Rattle.cs_slices.specs.Slices.{Slice}
+use Rattle.cs_slices.specs.Happenings.{Happening, orders_among, slices_among}
 use Rattle.cs_slices.specs.Passes.{miscompare_count, pass_count}
-use Rattle.cs_slices.specs.declared.instructions.Instruction.{Instruction}
 
 -- The flags: 1 CS is on, 2 the EEPROM table is, 4 the memory table is.
 unfoldable pub flags_of : Bool → Bool → Bool → ℕ
@@ -19,7 +18,7 @@ unfoldable pub housekeeping_of : ℕ → Counts → ℕ → ℕ → ℕ → ℕ 
 housekeeping_of time counts flags eeprom memory passes =
     telemetry_of cs_housekeeping time ((counts.accepted ∷ counts.errors ∷ flags ∷ 0 ∷ []) ++ be16_bytes eeprom ++ be16_bytes memory ++ be32_bytes passes)
 
--- The housekeeping packet at a place, by what was ordered before it and the slices so far.
-unfoldable pub housekeeping_at : ℕ → Counts → List Instruction → List Slice → List ℕ
-housekeeping_at time counts orders slices =
-    housekeeping_of time counts (flags_of (is_cs_on orders) (is_table_on 1 orders) (is_table_on 2 orders)) (miscompare_count 1 slices) (miscompare_count 2 slices) (pass_count slices)
+-- The housekeeping packet at a place, by what happened before it.
+unfoldable pub housekeeping_at : ℕ → Counts → List Happening → List ℕ
+housekeeping_at time counts happened =
+    housekeeping_of time counts (flags_of (is_cs_on (orders_among happened)) (is_table_on 1 (orders_among happened)) (is_table_on 2 (orders_among happened))) (miscompare_count 1 happened) (miscompare_count 2 happened) (pass_count (slices_among happened))

@@ -3,10 +3,12 @@ pub mod Tables
 pub mod Given
 pub mod Instructions
 pub mod Verdicts
+pub mod Happenings
 pub mod Orders
 pub mod Slices
 pub mod Passes
 pub mod Wakeups
+pub mod Histories
 pub mod Housekeeping
 pub mod Answers
 pub mod Step

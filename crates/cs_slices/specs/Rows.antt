@@ -1,7 +1,7 @@
 -- A table and images for worked rows.
-use Rattle.std.specs.Prelude.{ℕ, ◌+◌, false, List, [], ◌∷◌, ◌++◌, replicate}
+use Rattle.std.specs.Prelude.{ℕ, ◌+◌, false, List, [], ◌∷◌, replicate}
 use Rattle.memory_window.specs.declared.regions.Kind.TheVariants.{Ram}
-use Rattle.cs_slices.specs.Tables.{blank_segment}
+use Rattle.cs_slices.specs.Tables.{TablePair, pair_of, blank_segment}
 use Rattle.cs_slices.specs.Wakeups.{Input}
 use Rattle.cs_slices.specs.declared.segments.Segment.{Segment}
 
@@ -10,8 +10,8 @@ abbrev pub three_bytes : List Segment
 three_bytes = (record { state = 1; start = 0x1000; len = 3 }) ∷ replicate 15 blank_segment
 
 -- Two tables, of which the second is that one.
-abbrev pub second_table : List Segment
-second_table = replicate 16 blank_segment ++ three_bytes
+abbrev pub second_table : TablePair
+second_table = pair_of (replicate 16 blank_segment) three_bytes
 
 -- A wakeup at second n with these packets, with three bytes of RAM, the second of which is this one.
 abbrev pub wakeup : ℕ → List (List ℕ) → ℕ → Input

@@ -5,18 +5,10 @@ use Rattle.histories.specs.Words.{last_or}
 use Rattle.memory_window.specs.Memory.{Memory}
 use Rattle.memory_window.specs.Access.{bytes_of}
 use Rattle.memory_window.specs.declared.access.AccessFault.{AccessFault}
-use Rattle.cs_slices.specs.Tables.{entry_in}
-use Rattle.cs_slices.specs.Orders.{takes_part, turns_off}
+use Rattle.cs_slices.specs.Tables.{TablePair, entry_in}
+use Rattle.cs_slices.specs.Happenings.{Slice, Happening, slices_among, since_slice}
+use Rattle.cs_slices.specs.Orders.{takes_part, breaks_off}
 use Rattle.cs_slices.specs.declared.segments.Segment.{Segment}
-use Rattle.cs_slices.specs.declared.instructions.Instruction.{Instruction}
-
--- A slice: the place of its entry, the offsets in the entry of its first byte and behind its last one, whether it ends at the entry's end, and its bytes.
-pub record Slice : Type 0 where
-  pub place : ℕ
-  pub from : ℕ
-  pub till : ℕ
-  pub ends : Bool
-  pub bytes : List ℕ
 
 -- The place at which the search begins after a slice: its own, or the next in the ring where it ended at the entry's end.
 abbrev pub place_behind : Slice → ℕ
@@ -26,17 +18,17 @@ place_behind s = if s.ends then (s.place + 1) % 32 else s.place
 unfoldable pub current_place : List Slice → ℕ
 current_place slices = last_or 0 (map place_behind slices)
 
--- Whether a pass that has come to this slice goes on at a place, by what was ordered since: the slice is of the place, doesn't end at the
--- entry's end, and no command since switched CS, the table or the entry off.
-abbrev pub goes_on : ℕ → List Instruction → Slice → Bool
-goes_on place since s = (s.place == place) && not s.ends && not (list_any (turns_off place) since)
+-- Whether a pass that has come to this slice goes on at a place, by what happened since: the slice is of the place, doesn't end at the
+-- entry's end, no command since switched CS, the table or the entry off, and the table didn't become active since.
+abbrev pub goes_on : ℕ → List Happening → Slice → Bool
+goes_on place since s = (s.place == place) && not s.ends && not (list_any (breaks_off place) since)
 
 -- Whether a pass at a place has begun and goes on.
-unfoldable pub has_begun : ℕ → List Slice → List Instruction → Bool
+unfoldable pub has_begun : ℕ → List Slice → List Happening → Bool
 has_begun place slices since = last_or false (map (goes_on place since) slices)
 
 -- Where the next slice of a place begins: behind the last slice, where its pass goes on, or else at the entry's first byte.
-unfoldable pub offset_at : ℕ → List Slice → List Instruction → ℕ
+unfoldable pub offset_at : ℕ → List Slice → List Happening → ℕ
 offset_at place slices since = last_or 0 (map (λ s. if goes_on place since s then s.till else 0) slices)
 
 -- The bytes of an entry, none where the image doesn't give them.
@@ -67,11 +59,6 @@ unfoldable pub ring_from : ℕ → List ℕ
 ring_from place = map (λ k. (place + k) % 32) (range_with_len 0 32)
 
 -- The next slice: of the first place that takes part, from the current place on; none where no place does.
-unfoldable pub next_slice : List Segment → List Instruction → List Slice → List Instruction → Memory → Option Slice
-next_slice entries orders slices since image =
-    option_map (λ place. slice_from image (entry_in entries place) place (offset_at place slices since)) (find (takes_part entries orders) (ring_from (current_place slices)))
-
--- What was ordered since the last slice, after one more slice or none.
-abbrev pub since_behind : Option Slice → List Instruction → List Instruction
-since_behind None since = since
-since_behind (Some s) since = []
+unfoldable pub next_slice : TablePair → List Happening → Memory → Option Slice
+next_slice tables happened image =
+    option_map (λ place. slice_from image (entry_in tables place) place (offset_at place (slices_among happened) (since_slice happened))) (find (takes_part tables happened) (ring_from (current_place (slices_among happened))))

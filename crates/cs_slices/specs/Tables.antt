@@ -1,5 +1,5 @@
 -- Checksum tables, and the payloads that spell them.
-use Rattle.std.specs.Prelude.{ℕ, ◌+◌, ◌*◌, ◌==◌, not, ◌&&◌, nat_lt, if◌then◌else◌, List, map, replicate, slice_index_or, Option, Some, None}
+use Rattle.std.specs.Prelude.{ℕ, ◌+◌, ◌-◌, ◌*◌, ◌==◌, not, ◌&&◌, nat_lt, if◌then◌else◌, List, map, replicate, slice_index_or, Option, Some, None}
 use Rattle.std.specs.List.{range_with_len}
 use Rattle.packet_forms.specs.Numbers.{be16_at, be32_at}
 use Rattle.table_files.specs.Entries.{first_fault}
@@ -33,6 +33,22 @@ blank_segment = record { state = 0; start = 0; len = 0 }
 unfoldable pub blank_segments : List Segment
 blank_segments = replicate 16 blank_segment
 
+-- Both tables of CS: EEPROM's, which is table 1, and memory's, which is table 2.
+pub record TablePair : Type 0 where
+  pub eeprom : List Segment
+  pub memory : List Segment
+
+abbrev pub pair_of : List Segment → List Segment → TablePair
+pair_of eeprom memory = record { eeprom = eeprom; memory = memory }
+
+-- The table of a number.
+abbrev pub table_named : ℕ → TablePair → List Segment
+table_named n tables = if n == 1 then tables.eeprom else tables.memory
+
+-- Both tables, with this one as table n.
+abbrev pub with_table : ℕ → List Segment → TablePair → TablePair
+with_table n table tables = pair_of (if n == 1 then table else tables.eeprom) (if n == 2 then table else tables.memory)
+
 -- The entry in a place of both tables, from 0: the EEPROM table's 16 and then the memory table's 16.
-unfoldable pub entry_in : List Segment → ℕ → Segment
-entry_in entries place = slice_index_or entries place blank_segment
+unfoldable pub entry_in : TablePair → ℕ → Segment
+entry_in tables place = if nat_lt place 16 then slice_index_or tables.eeprom place blank_segment else slice_index_or tables.memory (place - 16) blank_segment

@@ -1,9 +1,8 @@
 -- Which of CS's commands are refused, by its tables.
 use Rattle.std.specs.Prelude.{ℕ, ◌==◌, not, ◌||◌, nat_lt, Bool, if◌then◌else◌, List, Option, Some, None}
 use Rattle.commands.specs.Verdicts.{Protocol, protocol_of}
-use Rattle.cs_slices.specs.Tables.{entry_in}
+use Rattle.cs_slices.specs.Tables.{TablePair, entry_in}
 use Rattle.cs_slices.specs.Instructions.{cs_language, place_of}
-use Rattle.cs_slices.specs.declared.segments.Segment.{Segment}
 use Rattle.cs_slices.specs.declared.verdicts.Refusal.{Refusal}
 use Rattle.cs_slices.specs.declared.verdicts.Refusal.TheVariants as refusals
 use Rattle.cs_slices.specs.declared.instructions.Instruction.{Instruction}
@@ -24,21 +23,21 @@ abbrev pub table_refusal : ℕ → Option Refusal
 table_refusal table = if is_table table then None else Some refusals.Table
 
 -- The refusal of an entry.
-abbrev pub entry_refusal : List Segment → ℕ → ℕ → Option Refusal
-entry_refusal entries table number =
+abbrev pub entry_refusal : TablePair → ℕ → ℕ → Option Refusal
+entry_refusal tables table number =
     if not (is_table table) then Some refusals.Table
     else if (number == 0) || nat_lt 16 number then Some refusals.Entry
-    else if (entry_in entries (place_of table number)).state == 0 then Some refusals.Empty
+    else if (entry_in tables (place_of table number)).state == 0 then Some refusals.Empty
     else None
 
 -- A command's own refusal.
-abbrev pub own_refusal : List Segment → Instruction → Option Refusal
-own_refusal entries Plain = None
-own_refusal entries (Whole on) = None
-own_refusal entries (Table table on) = table_refusal table
-own_refusal entries (Entry table number on) = entry_refusal entries table number
-own_refusal entries (Report table number) = entry_refusal entries table number
+abbrev pub own_refusal : TablePair → Instruction → Option Refusal
+own_refusal tables Plain = None
+own_refusal tables (Whole on) = None
+own_refusal tables (Table table on) = table_refusal table
+own_refusal tables (Entry table number on) = entry_refusal tables table number
+own_refusal tables (Report table number) = entry_refusal tables table number
 
 -- What CS makes of its packets.
-abbrev pub cs_protocol : Protocol (List Segment) Instruction Refusal
-cs_protocol = protocol_of cs_language number_of (λ entries orders instruction. own_refusal entries instruction)
+abbrev pub cs_protocol : Protocol TablePair Instruction Refusal
+cs_protocol = protocol_of cs_language number_of (λ tables orders instruction. own_refusal tables instruction)

@@ -1,5 +1,6 @@
 //! What the definitions give in small cases, and sentences that they make. The functions do nothing: their contracts are the laws.
 ghost use Rattle.std.specs.Prelude.{◌≡◌, ◌==◌, not, ◌≢◌, ◌≤◌, ◌<◌, ◌++◌, ℕ, List, [], ◌∷◌, length, replicate, None, Some, true, false, codes};
+ghost use Rattle.histories.specs.Entries.Entry.{Woken};
 ghost use Rattle.std.specs.List.{list_any};
 ghost use Rattle.packet_forms.specs.Built.{event_of};
 ghost use Rattle.packet_forms.specs.Crc.{crc_of};
@@ -8,15 +9,15 @@ ghost use Rattle.bus_pipes.specs.declared.names.Out.TheVariants as outs;
 ghost use Rattle.commands.specs.Verdicts.{verdict_at};
 ghost use Rattle.commands.specs.declared.verdicts.Verdict.TheVariants.{Other, Request, Refused, Accepted};
 ghost use Rattle.memory_window.specs.Memory.{Memory};
-ghost use Rattle.cs_slices.specs.declared.segments.Segment.{Segment};
-ghost use Rattle.cs_slices.specs.declared.instructions.Instruction.{Instruction};
 ghost use Rattle.cs_slices.specs.declared.instructions.Instruction.TheVariants.{Plain, Whole, Table, Entry, Report};
-ghost use Rattle.cs_slices.specs.Tables.{segments_of, segments_fault_of, blank_segment, blank_segments};
+ghost use Rattle.cs_slices.specs.Tables.{TablePair, pair_of, segments_of, segments_fault_of, blank_segment, blank_segments};
 ghost use Rattle.cs_slices.specs.Verdicts.{cs_protocol};
-ghost use Rattle.cs_slices.specs.Orders.{takes_part};
-ghost use Rattle.cs_slices.specs.Slices.{Slice, next_slice};
-ghost use Rattle.cs_slices.specs.Passes.{pass_bytes, baseline};
-ghost use Rattle.cs_slices.specs.Wakeups.{Input, slice_at, wakeups_of, slices_of};
+ghost use Rattle.cs_slices.specs.Happenings.{Slice, Happening, slices_among, slices_since};
+ghost use Rattle.cs_slices.specs.Orders.{table_of, takes_part};
+ghost use Rattle.cs_slices.specs.Slices.{next_slice};
+ghost use Rattle.cs_slices.specs.Passes.{pass_bytes, baseline_at};
+ghost use Rattle.cs_slices.specs.Wakeups.{Input};
+ghost use Rattle.cs_slices.specs.Histories.{CsEntry, tables_after, before_slice, happened_of, slice_at};
 ghost use Rattle.cs_slices.specs.Telling.{tells_miscompare};
 ghost use Rattle.cs_slices.specs.Housekeeping.{flags_of, housekeeping_of};
 ghost use Rattle.cs_slices.specs.Answers.{baseline_packet};
@@ -41,22 +42,22 @@ pub fn table_rows()
 /// The next slice is of a place that takes part, and has 1,024 bytes at most. Where it doesn't begin at its entry's first byte it follows
 /// the last slice, which is of the same place and didn't end at the entry's end.
 pub fn slices_follow()
-    ensures part { (entries : List Segment) (orders : List Instruction) (slices : List Slice) (since : List Instruction) (image : Memory) (s : Slice) → next_slice entries orders slices since image ≡ Some s
-        → (takes_part entries orders s.place ≡ true) × (s.place < 32) }
-    ensures short { (entries : List Segment) (orders : List Instruction) (slices : List Slice) (since : List Instruction) (image : Memory) (s : Slice) → next_slice entries orders slices since image ≡ Some s
+    ensures part { (tables : TablePair) (happened : List Happening) (image : Memory) (s : Slice) → next_slice tables happened image ≡ Some s
+        → (takes_part tables happened s.place ≡ true) × (s.place < 32) }
+    ensures short { (tables : TablePair) (happened : List Happening) (image : Memory) (s : Slice) → next_slice tables happened image ≡ Some s
         → length s.bytes ≤ 1024 }
-    ensures follow { (entries : List Segment) (orders : List Instruction) (slices : List Slice) (since : List Instruction) (image : Memory) (s : Slice) → next_slice entries orders slices since image ≡ Some s → s.from ≢ 0
-        → (earlier : List Slice) × (last : Slice) × (slices ≡ earlier ++ last ∷ []) × (last.place ≡ s.place) × (last.till ≡ s.from) × (last.ends ≡ false) }
+    ensures follow { (tables : TablePair) (happened : List Happening) (image : Memory) (s : Slice) → next_slice tables happened image ≡ Some s → s.from ≢ 0
+        → (earlier : List Slice) × (last : Slice) × (slices_among happened ≡ earlier ++ last ∷ []) × (last.place ≡ s.place) × (last.till ≡ s.from) × (last.ends ≡ false) }
 {}
 
 /// A pass of three bytes a wakeup: the first is the baseline, and a byte that has changed is a miscompare in each later
 /// pass: the baseline stays.
 pub fn miscompare_rows()
-    ensures first { cs_items blank_segments three_bytes [] (wakeup 0 [] 2) ≡ [] }
-    ensures second { cs_items blank_segments three_bytes (wakeup 0 [] 2 ∷ []) (wakeup 1 [] 2) ≡ [] }
-    ensures third { cs_items blank_segments three_bytes (wakeup 0 [] 2 ∷ wakeup 1 [] 2 ∷ []) (wakeup 2 [] 7) ≡ outs.Made (event_of (name_of (codes "CS")) 101 3 1002) ∷ [] }
-    ensures fourth { cs_items blank_segments three_bytes (wakeup 0 [] 2 ∷ wakeup 1 [] 2 ∷ wakeup 2 [] 7 ∷ []) (wakeup 3 [] 7) ≡ outs.Made (event_of (name_of (codes "CS")) 101 3 1003) ∷ [] }
-    ensures back { cs_items blank_segments three_bytes (wakeup 0 [] 2 ∷ wakeup 1 [] 7 ∷ []) (wakeup 2 [] 2) ≡ [] }
+    ensures first { cs_items (pair_of blank_segments three_bytes) [] (wakeup 0 [] 2) ≡ [] }
+    ensures second { cs_items (pair_of blank_segments three_bytes) (Woken (wakeup 0 [] 2) ∷ []) (wakeup 1 [] 2) ≡ [] }
+    ensures third { cs_items (pair_of blank_segments three_bytes) (Woken (wakeup 0 [] 2) ∷ Woken (wakeup 1 [] 2) ∷ []) (wakeup 2 [] 7) ≡ outs.Made (event_of (name_of (codes "CS")) 101 3 1002) ∷ [] }
+    ensures fourth { cs_items (pair_of blank_segments three_bytes) (Woken (wakeup 0 [] 2) ∷ Woken (wakeup 1 [] 2) ∷ Woken (wakeup 2 [] 7) ∷ []) (wakeup 3 [] 7) ≡ outs.Made (event_of (name_of (codes "CS")) 101 3 1003) ∷ [] }
+    ensures back { cs_items (pair_of blank_segments three_bytes) (Woken (wakeup 0 [] 2) ∷ Woken (wakeup 1 [] 7) ∷ []) (wakeup 2 [] 2) ≡ [] }
 {}
 
 /// A command of each code, a request, and a packet of another id.
@@ -102,20 +103,20 @@ pub fn packet_rows()
 
 /// A wakeup that switches the EEPROM table off, a command that is refused, a report and a request; and the event of a miscompare.
 pub fn wakeup_rows()
-    ensures items { cs_items three_bytes blank_segments [] (wakeup 0 ((0x18 ∷ 0x9F ∷ 0xC0 ∷ 0 ∷ 0 ∷ 3 ∷ 5 ∷ 0xBF ∷ 0 ∷ 1 ∷ []) ∷ (0x18 ∷ 0x9F ∷ 0xC0 ∷ 0 ∷ 0 ∷ 5 ∷ 6 ∷ 0xA8 ∷ 0 ∷ 2 ∷ 0 ∷ 0x11 ∷ []) ∷ (0x18 ∷ 0x9F ∷ 0xC0 ∷ 0 ∷ 0 ∷ 5 ∷ 8 ∷ 0xB5 ∷ 0 ∷ 1 ∷ 0 ∷ 1 ∷ []) ∷ (0x18 ∷ 0xA0 ∷ 0xC0 ∷ 0 ∷ 0 ∷ 1 ∷ 0 ∷ 0x86 ∷ []) ∷ []) 2) ≡ outs.Made (8 ∷ 8 ∷ 0xC0 ∷ 0 ∷ 0 ∷ 0x25 ∷ 0 ∷ 0 ∷ 3 ∷ 0xE8 ∷ 0 ∷ 0 ∷ 0x43 ∷ 0x53 ∷ 0 ∷ 0 ∷ 0 ∷ 0 ∷ 0 ∷ 0 ∷ 0 ∷ 0 ∷ 0 ∷ 0 ∷ 0 ∷ 0 ∷ 0 ∷ 0 ∷ 0 ∷ 0 ∷ 0 ∷ 0 ∷ 0 ∷ 0x15 ∷ 0 ∷ 2 ∷ 0 ∷ 0 ∷ 0 ∷ 0x42 ∷ 0 ∷ 0 ∷ 0 ∷ 1 ∷ []) ∷ outs.Made (8 ∷ 8 ∷ 0xC0 ∷ 0 ∷ 0 ∷ 0x25 ∷ 0 ∷ 0 ∷ 3 ∷ 0xE8 ∷ 0 ∷ 0 ∷ 0x43 ∷ 0x53 ∷ 0 ∷ 0 ∷ 0 ∷ 0 ∷ 0 ∷ 0 ∷ 0 ∷ 0 ∷ 0 ∷ 0 ∷ 0 ∷ 0 ∷ 0 ∷ 0 ∷ 0 ∷ 0 ∷ 0 ∷ 0 ∷ 0 ∷ 5 ∷ 0 ∷ 3 ∷ 0 ∷ 0 ∷ 0 ∷ 0x42 ∷ 0 ∷ 0 ∷ 0 ∷ 1 ∷ []) ∷ outs.Made (8 ∷ 0xA5 ∷ 0xC0 ∷ 0 ∷ 0 ∷ 0x0D ∷ 0 ∷ 0 ∷ 3 ∷ 0xE8 ∷ 0 ∷ 0 ∷ 0 ∷ 1 ∷ 0 ∷ 1 ∷ 0 ∷ 0 ∷ 0 ∷ 0 ∷ []) ∷ outs.Made (8 ∷ 8 ∷ 0xC0 ∷ 0 ∷ 0 ∷ 0x25 ∷ 0 ∷ 0 ∷ 3 ∷ 0xE8 ∷ 0 ∷ 0 ∷ 0x43 ∷ 0x53 ∷ 0 ∷ 0 ∷ 0 ∷ 0 ∷ 0 ∷ 0 ∷ 0 ∷ 0 ∷ 0 ∷ 0 ∷ 0 ∷ 0 ∷ 0 ∷ 0 ∷ 0 ∷ 0 ∷ 0 ∷ 0 ∷ 0 ∷ 0x18 ∷ 0 ∷ 2 ∷ 0 ∷ 0 ∷ 0 ∷ 0x42 ∷ 0 ∷ 0 ∷ 0 ∷ 1 ∷ []) ∷ outs.Made (8 ∷ 0xA4 ∷ 0xC0 ∷ 0 ∷ 0 ∷ 0x11 ∷ 0 ∷ 0 ∷ 3 ∷ 0xE8 ∷ 0 ∷ 0 ∷ 2 ∷ 1 ∷ 5 ∷ 0 ∷ 0 ∷ 0 ∷ 0 ∷ 0 ∷ 0 ∷ 0 ∷ 0 ∷ 0 ∷ []) ∷ [] }
-    ensures miscompare { cs_items blank_segments three_bytes (wakeup 0 [] 2 ∷ []) (wakeup 1 [] 7) ≡ outs.Made (8 ∷ 8 ∷ 0xC0 ∷ 0 ∷ 0 ∷ 0x25 ∷ 0 ∷ 0 ∷ 3 ∷ 0xE9 ∷ 0 ∷ 0 ∷ 0x43 ∷ 0x53 ∷ 0 ∷ 0 ∷ 0 ∷ 0 ∷ 0 ∷ 0 ∷ 0 ∷ 0 ∷ 0 ∷ 0 ∷ 0 ∷ 0 ∷ 0 ∷ 0 ∷ 0 ∷ 0 ∷ 0 ∷ 0 ∷ 0 ∷ 0x65 ∷ 0 ∷ 3 ∷ 0 ∷ 0 ∷ 0 ∷ 0x42 ∷ 0 ∷ 0 ∷ 0 ∷ 1 ∷ []) ∷ [] }
+    ensures items { cs_items (pair_of three_bytes blank_segments) [] (wakeup 0 ((0x18 ∷ 0x9F ∷ 0xC0 ∷ 0 ∷ 0 ∷ 3 ∷ 5 ∷ 0xBF ∷ 0 ∷ 1 ∷ []) ∷ (0x18 ∷ 0x9F ∷ 0xC0 ∷ 0 ∷ 0 ∷ 5 ∷ 6 ∷ 0xA8 ∷ 0 ∷ 2 ∷ 0 ∷ 0x11 ∷ []) ∷ (0x18 ∷ 0x9F ∷ 0xC0 ∷ 0 ∷ 0 ∷ 5 ∷ 8 ∷ 0xB5 ∷ 0 ∷ 1 ∷ 0 ∷ 1 ∷ []) ∷ (0x18 ∷ 0xA0 ∷ 0xC0 ∷ 0 ∷ 0 ∷ 1 ∷ 0 ∷ 0x86 ∷ []) ∷ []) 2) ≡ outs.Made (8 ∷ 8 ∷ 0xC0 ∷ 0 ∷ 0 ∷ 0x25 ∷ 0 ∷ 0 ∷ 3 ∷ 0xE8 ∷ 0 ∷ 0 ∷ 0x43 ∷ 0x53 ∷ 0 ∷ 0 ∷ 0 ∷ 0 ∷ 0 ∷ 0 ∷ 0 ∷ 0 ∷ 0 ∷ 0 ∷ 0 ∷ 0 ∷ 0 ∷ 0 ∷ 0 ∷ 0 ∷ 0 ∷ 0 ∷ 0 ∷ 0x15 ∷ 0 ∷ 2 ∷ 0 ∷ 0 ∷ 0 ∷ 0x42 ∷ 0 ∷ 0 ∷ 0 ∷ 1 ∷ []) ∷ outs.Made (8 ∷ 8 ∷ 0xC0 ∷ 0 ∷ 0 ∷ 0x25 ∷ 0 ∷ 0 ∷ 3 ∷ 0xE8 ∷ 0 ∷ 0 ∷ 0x43 ∷ 0x53 ∷ 0 ∷ 0 ∷ 0 ∷ 0 ∷ 0 ∷ 0 ∷ 0 ∷ 0 ∷ 0 ∷ 0 ∷ 0 ∷ 0 ∷ 0 ∷ 0 ∷ 0 ∷ 0 ∷ 0 ∷ 0 ∷ 0 ∷ 5 ∷ 0 ∷ 3 ∷ 0 ∷ 0 ∷ 0 ∷ 0x42 ∷ 0 ∷ 0 ∷ 0 ∷ 1 ∷ []) ∷ outs.Made (8 ∷ 0xA5 ∷ 0xC0 ∷ 0 ∷ 0 ∷ 0x0D ∷ 0 ∷ 0 ∷ 3 ∷ 0xE8 ∷ 0 ∷ 0 ∷ 0 ∷ 1 ∷ 0 ∷ 1 ∷ 0 ∷ 0 ∷ 0 ∷ 0 ∷ []) ∷ outs.Made (8 ∷ 8 ∷ 0xC0 ∷ 0 ∷ 0 ∷ 0x25 ∷ 0 ∷ 0 ∷ 3 ∷ 0xE8 ∷ 0 ∷ 0 ∷ 0x43 ∷ 0x53 ∷ 0 ∷ 0 ∷ 0 ∷ 0 ∷ 0 ∷ 0 ∷ 0 ∷ 0 ∷ 0 ∷ 0 ∷ 0 ∷ 0 ∷ 0 ∷ 0 ∷ 0 ∷ 0 ∷ 0 ∷ 0 ∷ 0 ∷ 0x18 ∷ 0 ∷ 2 ∷ 0 ∷ 0 ∷ 0 ∷ 0x42 ∷ 0 ∷ 0 ∷ 0 ∷ 1 ∷ []) ∷ outs.Made (8 ∷ 0xA4 ∷ 0xC0 ∷ 0 ∷ 0 ∷ 0x11 ∷ 0 ∷ 0 ∷ 3 ∷ 0xE8 ∷ 0 ∷ 0 ∷ 2 ∷ 1 ∷ 5 ∷ 0 ∷ 0 ∷ 0 ∷ 0 ∷ 0 ∷ 0 ∷ 0 ∷ 0 ∷ 0 ∷ []) ∷ [] }
+    ensures miscompare { cs_items (pair_of blank_segments three_bytes) (Woken (wakeup 0 [] 2) ∷ []) (wakeup 1 [] 7) ≡ outs.Made (8 ∷ 8 ∷ 0xC0 ∷ 0 ∷ 0 ∷ 0x25 ∷ 0 ∷ 0 ∷ 3 ∷ 0xE9 ∷ 0 ∷ 0 ∷ 0x43 ∷ 0x53 ∷ 0 ∷ 0 ∷ 0 ∷ 0 ∷ 0 ∷ 0 ∷ 0 ∷ 0 ∷ 0 ∷ 0 ∷ 0 ∷ 0 ∷ 0 ∷ 0 ∷ 0 ∷ 0 ∷ 0 ∷ 0 ∷ 0 ∷ 0x65 ∷ 0 ∷ 3 ∷ 0 ∷ 0 ∷ 0 ∷ 0x42 ∷ 0 ∷ 0 ∷ 0 ∷ 1 ∷ []) ∷ [] }
 {}
 
 /// The event of a miscompare stands among the items of a wakeup exactly where the wakeup's slice ends at its entry's end, the entry has a
 /// baseline, and the bytes that were read in the slice's pass have another CRC.
 pub fn miscompares_are_told()
-    ensures none { (eeprom : List Segment) (memory : List Segment) (history : List Input) (input : Input) → slice_at (eeprom ++ memory) (wakeups_of (eeprom ++ memory) history) input ≡ None
-        → list_any tells_miscompare (cs_items eeprom memory history input) ≡ false }
-    ensures unfinished { (eeprom : List Segment) (memory : List Segment) (history : List Input) (input : Input) (s : Slice) → slice_at (eeprom ++ memory) (wakeups_of (eeprom ++ memory) history) input ≡ Some s → s.ends ≡ false
-        → list_any tells_miscompare (cs_items eeprom memory history input) ≡ false }
-    ensures first { (eeprom : List Segment) (memory : List Segment) (history : List Input) (input : Input) (s : Slice) → slice_at (eeprom ++ memory) (wakeups_of (eeprom ++ memory) history) input ≡ Some s
-        → baseline s.place (slices_of (eeprom ++ memory) history) ≡ None → list_any tells_miscompare (cs_items eeprom memory history input) ≡ false }
-    ensures later { (eeprom : List Segment) (memory : List Segment) (history : List Input) (input : Input) (s : Slice) (base : ℕ) → slice_at (eeprom ++ memory) (wakeups_of (eeprom ++ memory) history) input ≡ Some s → s.ends ≡ true
-        → baseline s.place (slices_of (eeprom ++ memory) history) ≡ Some base
-        → list_any tells_miscompare (cs_items eeprom memory history input) ≡ not (base == crc_of 0 (pass_bytes s.place (slices_of (eeprom ++ memory) history ++ s ∷ []))) }
+    ensures none { (tables : TablePair) (history : List CsEntry) (input : Input) → slice_at tables history input ≡ None
+        → list_any tells_miscompare (cs_items tables history input) ≡ false }
+    ensures unfinished { (tables : TablePair) (history : List CsEntry) (input : Input) (s : Slice) → slice_at tables history input ≡ Some s → s.ends ≡ false
+        → list_any tells_miscompare (cs_items tables history input) ≡ false }
+    ensures first { (tables : TablePair) (history : List CsEntry) (input : Input) (s : Slice) → slice_at tables history input ≡ Some s
+        → baseline_at s.place (before_slice (tables_after tables history) (happened_of tables history) input) ≡ None → list_any tells_miscompare (cs_items tables history input) ≡ false }
+    ensures later { (tables : TablePair) (history : List CsEntry) (input : Input) (s : Slice) (base : ℕ) → slice_at tables history input ≡ Some s → s.ends ≡ true
+        → baseline_at s.place (before_slice (tables_after tables history) (happened_of tables history) input) ≡ Some base
+        → list_any tells_miscompare (cs_items tables history input) ≡ not (base == crc_of 0 (pass_bytes s.place (slices_since (table_of s.place) (before_slice (tables_after tables history) (happened_of tables history) input) ++ s ∷ []))) }
 {}

@@ -1,11 +1,12 @@
 //! The pass that has begun.
 ghost use Rattle.std.specs.Prelude.{◌≡◌, ◌<◌, ◌++◌, ◌+◌, List, [], ◌∷◌, find, IfSome, true, false};
 ghost use Rattle.packet_forms.specs.Crc.{crc_of};
-ghost use Rattle.cs_slices.specs.declared.segments.Segment.{Segment};
 ghost use Rattle.cs_slices.specs.Instructions.{IsNamed};
-ghost use Rattle.cs_slices.specs.Orders.{takes_part};
-ghost use Rattle.cs_slices.specs.declared.instructions.Instruction.{Instruction};
-ghost use Rattle.cs_slices.specs.Slices.{Slice, current_place, offset_at, ring_from};
+ghost use Rattle.cs_slices.specs.Tables.{TablePair};
+ghost use Rattle.cs_slices.specs.Happenings.{Slice, Happening, slices_among, since_slice, slices_since};
+ghost use Rattle.cs_slices.specs.Happenings.Happening.{Ordered, Read, Renewed};
+ghost use Rattle.cs_slices.specs.Orders.{table_of, takes_part};
+ghost use Rattle.cs_slices.specs.Slices.{current_place, offset_at, ring_from};
 ghost use Rattle.cs_slices.specs.Passes.{pass_bytes};
 ghost use Rattle.cs_slices.specs.State.{SwitchesStand, PassingStands};
 
@@ -24,7 +25,7 @@ pub(crate) struct Passing {
 impl Passing {
     /// No pass, and the first place.
     pub(crate) fn start() -> Passing
-        ensures { PassingStands [] [] result }
+        ensures { PassingStands [] result }
     {
         Passing {
             place: 0,
@@ -36,18 +37,36 @@ impl Passing {
     /// Abandons the pass where an order switches its place off.
     pub(crate) fn obey(&mut self, order: &Instruction)
         requires { IsNamed order.now }
-        ensures { (slices : List Slice) (since : List Instruction) → PassingStands slices since self.old → PassingStands slices (since ++ order.now ∷ []) self.new }
+        ensures { (happened : List Happening) → PassingStands happened self.old → PassingStands (happened ++ Ordered order.now ∷ []) self.new }
     {
         if turns_off(self.place, order) {
-            self.offset = 0;
-            self.check = 0;
+            self.abandon();
         }
+    }
+
+    /// Abandons the pass where the table of its place becomes active.
+    pub(crate) fn renew(&mut self, table: u16)
+        ensures { (happened : List Happening) → PassingStands happened self.old → PassingStands (happened ++ Renewed table ∷ []) self.new }
+    {
+        if table == u16::from(self.place / 16 + 1) {
+            self.abandon();
+        }
+    }
+
+    /// Forgets the pass that has begun.
+    fn abandon(&mut self)
+        ensures place { self.new.place ≡ self.old.place }
+        ensures offset { self.new.offset ≡ 0 }
+        ensures check { self.new.check ≡ 0 }
+    {
+        self.offset = 0;
+        self.check = 0;
     }
 
     /// The first place that takes part, from the current place on and round again.
     pub(crate) fn next_place(&self, switches: &Switches) -> Option<u8>
-        ensures place { (entries : List Segment) (orders : List Instruction) (slices : List Slice) (since : List Instruction) → SwitchesStand entries orders switches.now → PassingStands slices since self.now
-            → result ≡ find (takes_part entries orders) (ring_from (current_place slices)) }
+        ensures place { (tables : TablePair) (happened : List Happening) → SwitchesStand tables happened switches.now → PassingStands happened self.now
+            → result ≡ find (takes_part tables happened) (ring_from (current_place (slices_among happened))) }
         ensures within { IfSome result (λ place. place < 32) }
     {
         for k in 0..32u32 {
@@ -61,15 +80,15 @@ impl Passing {
 
     /// The offset at which the next slice of a place begins.
     pub(crate) fn offset_at(&self, place: u8) -> u32
-        ensures { (slices : List Slice) (since : List Instruction) → PassingStands slices since self.now → result ≡ offset_at place slices since }
+        ensures { (happened : List Happening) → PassingStands happened self.now → result ≡ offset_at place (slices_among happened) (since_slice happened) }
     {
         if place == self.place { self.offset } else { 0 }
     }
 
     /// The check of the bytes of a place's pass after a slice that begins at this offset.
     pub(crate) fn check_after(&self, place: u8, from: u32, bytes: &[u8]) -> u16
-        ensures { (slices : List Slice) (since : List Instruction) (s : Slice) → PassingStands slices since self.now → s.place ≡ place → s.from ≡ from → from ≡ offset_at place slices since → s.bytes ≡ bytes.now
-            → result ≡ crc_of 0 (pass_bytes place (slices ++ s ∷ [])) }
+        ensures { (happened : List Happening) (s : Slice) → PassingStands happened self.now → s.place ≡ place → s.from ≡ from → from ≡ offset_at place (slices_among happened) (since_slice happened) → s.bytes ≡ bytes.now
+            → result ≡ crc_of 0 (pass_bytes place (slices_since (table_of place) happened ++ s ∷ [])) }
     {
         if from == 0 {
             return crc16(0, bytes);
@@ -79,8 +98,8 @@ impl Passing {
 
     /// After a slice that ends before its entry's end: the pass goes on.
     pub(crate) fn begun(place: u8, till: u32, check: u16) -> Passing
-        ensures { (slices : List Slice) (s : Slice) → s.place ≡ place → s.till ≡ till → s.ends ≡ false → check ≡ crc_of 0 (pass_bytes place (slices ++ s ∷ []))
-            → PassingStands (slices ++ s ∷ []) [] result }
+        ensures { (happened : List Happening) (s : Slice) → s.place ≡ place → s.till ≡ till → s.ends ≡ false → check ≡ crc_of 0 (pass_bytes place (slices_since (table_of place) happened ++ s ∷ []))
+            → PassingStands (happened ++ Read s ∷ []) result }
     {
         Passing {
             place,
@@ -92,7 +111,7 @@ impl Passing {
     /// After a slice that ends at its entry's end: the next place, and no pass.
     pub(crate) fn behind(place: u8) -> Passing
         requires { place < 32 }
-        ensures { (slices : List Slice) (s : Slice) → s.place ≡ place → s.ends ≡ true → PassingStands (slices ++ s ∷ []) [] result }
+        ensures { (happened : List Happening) (s : Slice) → s.place ≡ place → s.ends ≡ true → PassingStands (happened ++ Read s ∷ []) result }
     {
         Passing {
             place: (place + 1) % 32,

@@ -1,6 +1,6 @@
 //! Checksum tables.
-ghost use Rattle.std.specs.Prelude.{◌≡◌, ◌≤◌, ◌<◌, ◌-◌, ◌++◌, length, slice_index_or};
-ghost use Rattle.cs_slices.specs.Tables.{entry_in};
+ghost use Rattle.std.specs.Prelude.{◌≡◌, ◌≤◌, ◌<◌, ◌-◌, length, slice_index_or};
+ghost use Rattle.cs_slices.specs.Tables.{pair_of, entry_in};
 
 use std::marker::Model;
 
@@ -84,7 +84,7 @@ impl Segments {
 /// The entry in a place of the two tables, from 0 to 31.
 pub(crate) fn entry_in(eeprom: &Segments, memory: &Segments, place: u8) -> Segment
     requires { place < 32 }
-    ensures { result ≡ entry_in (eeprom.now ++ memory.now) place }
+    ensures { result ≡ entry_in (pair_of eeprom.now memory.now) place }
 {
     let first = eeprom.entries();
     let second = memory.entries();

@@ -1,8 +1,12 @@
 //! CS's state.
 ghost use Rattle.std.specs.Prelude.{◌≡◌, ◌++◌, true, List, [], ◌∷◌};
-ghost use Rattle.cs_slices.specs.declared.segments.Segment.{Segment};
-ghost use Rattle.cs_slices.specs.Orders.{takes_part};
+ghost use Rattle.histories.specs.Entries.Entry.{Woken, Activated};
+ghost use Rattle.cs_slices.specs.Tables.{TablePair, pair_of, table_named, with_table};
+ghost use Rattle.cs_slices.specs.Instructions.{IsTable};
+ghost use Rattle.cs_slices.specs.Happenings.{Happening};
+ghost use Rattle.cs_slices.specs.Happenings.Happening.{Renewed};
 ghost use Rattle.cs_slices.specs.Wakeups.{Input};
+ghost use Rattle.cs_slices.specs.Histories.{CsEntry, activation_of};
 ghost use Rattle.cs_slices.specs.Step.{cs_items};
 ghost use Rattle.cs_slices.specs.State.{StandsAt, Stands, is_idle_on};
 
@@ -32,7 +36,7 @@ pub struct Cs {
 impl Course {
     /// Before the first wakeup.
     fn start(eeprom: &Segments, memory: &Segments) -> Course
-        ensures { StandsAt (eeprom.now ++ memory.now) [] [] [] result }
+        ensures { StandsAt (pair_of eeprom.now memory.now) [] result }
     {
         Course {
             switches: Switches::start(eeprom, memory),
@@ -40,12 +44,21 @@ impl Course {
             tally: Tally::start(),
         }
     }
+
+    /// Takes another table of this number.
+    fn renew(&mut self, table: u16, segments: &Segments)
+        ensures { (tables : TablePair) (happened : List Happening) → StandsAt tables happened self.old → StandsAt (with_table table segments.now tables) (happened ++ Renewed table ∷ []) self.new }
+    {
+        self.switches.renew(table, segments);
+        self.passing.renew(table);
+        self.tally.renew(table);
+    }
 }
 
 impl Cs {
     /// The state before the first wakeup.
     pub fn start(eeprom: &Segments, memory: &Segments) -> Cs
-        ensures { Stands eeprom.now memory.now [] result }
+        ensures { Stands (pair_of eeprom.now memory.now) [] result }
     {
         Cs {
             counts: start_counts(),
@@ -53,15 +66,31 @@ impl Cs {
         }
     }
 
+    /// Takes the table of this number, 1 EEPROM's or 2 memory's, as it is handed in: it becomes active. Its entries are on by their state, its
+    /// baselines are forgotten, and so is a pass of its own that has begun.
+    pub fn activate(&mut self, eeprom: &Segments, memory: &Segments, table: u16)
+        requires table { IsTable table }
+        ensures stands { (tables : TablePair) (history : List CsEntry) → Stands tables history self.old
+            → Stands tables (history ++ Activated (activation_of table (table_named table (pair_of eeprom.now memory.now))) ∷ []) self.new }
+    {
+        self.course
+            .renew(table, table_named(eeprom, memory, table));
+    }
+
     /// Whether a wakeup with these packets does nothing.
     #[inline(always)]
     pub fn is_idle(&self, commands: &[Packet]) -> bool
-        ensures exact { (eeprom : List Segment) (memory : List Segment) (history : List Input) → Stands eeprom memory history self.now → result ≡ is_idle_on eeprom memory history commands.now }
-        ensures stands { (eeprom : List Segment) (memory : List Segment) (history : List Input) (input : Input) → result ≡ true → input.commands ≡ commands.now → Stands eeprom memory history self.now
-            → Stands eeprom memory (history ++ input ∷ []) self.now }
-        ensures items { (eeprom : List Segment) (memory : List Segment) (history : List Input) (input : Input) → result ≡ true → input.commands ≡ commands.now → Stands eeprom memory history self.now
-            → cs_items eeprom memory history input ≡ [] }
+        ensures exact { (tables : TablePair) (history : List CsEntry) → Stands tables history self.now → result ≡ is_idle_on tables history commands.now }
+        ensures stands { (tables : TablePair) (history : List CsEntry) (input : Input) → result ≡ true → input.commands ≡ commands.now → Stands tables history self.now → Stands tables (history ++ Woken input ∷ []) self.now }
+        ensures items { (tables : TablePair) (history : List CsEntry) (input : Input) → result ≡ true → input.commands ≡ commands.now → Stands tables history self.now → cs_items tables history input ≡ [] }
     {
         commands.is_empty() && !self.course.switches.any_takes_part()
     }
+}
+
+/// The table of this number.
+fn table_named<'a>(eeprom: &'a Segments, memory: &'a Segments, table: u16) -> &'a Segments
+    ensures { result.now ≡ table_named table (pair_of eeprom.now memory.now) }
+{
+    if table == 1 { eeprom } else { memory }
 }

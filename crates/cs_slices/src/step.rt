@@ -1,17 +1,19 @@
 //! A wakeup of CS.
-ghost use Rattle.std.specs.Prelude.{◌≡◌, ◌+◌, ◌<◌, ◌≤◌, List, [], ◌∷◌, ◌++◌, length, Some, option_to_list, true};
+ghost use Rattle.std.specs.Prelude.{◌≡◌, ◌+◌, ◌<◌, ◌≤◌, List, [], ◌∷◌, ◌++◌, length, Some, true};
 ghost use Rattle.std.specs.List.{AllPass};
+ghost use Rattle.histories.specs.Entries.Entry.{Woken};
 ghost use Rattle.bus_pipes.specs.Held.{adding};
 ghost use Rattle.bus_pipes.specs.Counted.{is_item_counted};
 ghost use Rattle.memory_window.specs.Memory.{regions_of};
 ghost use Rattle.memory_window.specs.Window.{seen};
-ghost use Rattle.cs_slices.specs.Tables.{entry_in};
+ghost use Rattle.cs_slices.specs.Tables.{TablePair, pair_of, entry_in};
 ghost use Rattle.cs_slices.specs.Given.{SegmentsGiven};
 ghost use Rattle.cs_slices.specs.Instructions.{IsNamed};
-ghost use Rattle.cs_slices.specs.declared.segments.Segment.{Segment};
-ghost use Rattle.cs_slices.specs.declared.instructions.Instruction.{Instruction};
-ghost use Rattle.cs_slices.specs.Slices.{Slice, offset_at, slice_from, next_slice, since_behind};
-ghost use Rattle.cs_slices.specs.Wakeups.{Input, input_of};
+ghost use Rattle.cs_slices.specs.Happenings.{Happening, slices_among, since_slice, reading};
+ghost use Rattle.cs_slices.specs.Happenings.Happening.{Read};
+ghost use Rattle.cs_slices.specs.Slices.{offset_at, slice_from, next_slice};
+ghost use Rattle.cs_slices.specs.Wakeups.{input_of};
+ghost use Rattle.cs_slices.specs.Histories.{CsEntry, tables_after};
 ghost use Rattle.cs_slices.specs.Answers.{replies_to};
 ghost use Rattle.cs_slices.specs.Step.{slice_items, cs_items};
 ghost use Rattle.cs_slices.specs.State.{TallyStands, StandsAt, Stands};
@@ -42,12 +44,12 @@ struct Tables<'a> {
 }
 
 impl<'a> Commanded<Tables<'a>> for Course {
-    ghost use Rattle.std.specs.Prelude.{◌≡◌, ◌++◌, List};
-    ghost use Rattle.cs_slices.specs.declared.segments.Segment.{Segment};
+    ghost use Rattle.std.specs.Prelude.{◌≡◌};
+    ghost use Rattle.cs_slices.specs.Tables.{TablePair, pair_of};
     ghost use Rattle.cs_slices.specs.Instructions.{IsNamed};
     ghost use Rattle.cs_slices.specs.Verdicts.{own_refusal};
-    ghost use Rattle.cs_slices.specs.Wakeups.{orders_of, slices_of, since_of};
-    ghost use Rattle.cs_slices.specs.Step.{Turn, cs_answers};
+    ghost use Rattle.cs_slices.specs.Histories.{tables_after};
+    ghost use Rattle.cs_slices.specs.Step.{Turn, happened_in, cs_answers};
     ghost use Rattle.cs_slices.specs.State.{StandsAt};
 
     type Instruction = Instruction;
@@ -56,19 +58,19 @@ impl<'a> Commanded<Tables<'a>> for Course {
 
     type Left = ();
 
-    ghost Basis = { List Segment };
+    ghost Basis = { TablePair };
 
     ghost Turn = { Turn };
 
-    ghost refuses = { λ entries orders instruction. own_refusal entries instruction };
+    ghost refuses = { λ tables orders instruction. own_refusal tables instruction };
 
     ghost answers = { cs_answers };
 
-    ghost basis = { λ turn. turn.setup };
+    ghost basis = { λ turn. tables_after turn.setup turn.history };
 
-    ghost belongs = { λ turn tables now. (turn.setup ≡ tables.eeprom.now ++ tables.memory.now) × (turn.input.time ≡ now) };
+    ghost belongs = { λ turn tables now. (pair_of tables.eeprom.now tables.memory.now ≡ tables_after turn.setup turn.history) × (turn.input.time ≡ now) };
 
-    ghost stands = { λ turn orders course left. StandsAt turn.setup (orders_of turn.setup turn.history ++ orders) (slices_of turn.setup turn.history) (since_of turn.setup turn.history ++ orders) course };
+    ghost stands = { λ turn orders course left. StandsAt (tables_after turn.setup turn.history) (happened_in turn orders) course };
 
     ghost can_obey = { λ tables course instruction. IsNamed instruction };
 
@@ -102,8 +104,8 @@ impl<'a> Commanded<Tables<'a>> for Course {
 
 impl Cs {
     /// Handles the packets of the pipe, at most 16, and then reads one slice, at most 1,024 bytes, of the next entry that takes part.
-    /// What is sent goes to `out`, which is empty, and the state after the wakeup to `next`. The tables are those on which `self` was
-    /// started, and the window gives the bytes of every entry that isn't empty.
+    /// What is sent goes to `out`, which is empty, and the state after the wakeup to `next`. The tables are those in force, and the window
+    /// gives the bytes of every entry that isn't empty.
     pub fn step(
         &self,
         eeprom: &Segments,
@@ -117,12 +119,11 @@ impl Cs {
         requires commands { length commands.now ≤ 16 }
         requires empty { out.old.items ≡ [] }
         requires room { MOST_ITEMS ≤ out.old.room }
-        requires started { (history : List Input) × Stands eeprom.now memory.now history self.now }
         requires gives { SegmentsGiven (regions_of (seen window).areas) eeprom.now × SegmentsGiven (regions_of (seen window).areas) memory.now }
-        ensures stands { (history : List Input) → Stands eeprom.now memory.now history self.now
-            → Stands eeprom.now memory.now (history ++ input_of now commands.now window.entry ∷ []) next.new }
-        ensures items { (history : List Input) → Stands eeprom.now memory.now history self.now
-            → out.new.items ≡ cs_items eeprom.now memory.now history (input_of now commands.now window.entry) }
+        ensures stands { (tables : TablePair) (history : List CsEntry) → pair_of eeprom.now memory.now ≡ tables_after tables history → Stands tables history self.now
+            → Stands tables (history ++ Woken (input_of now commands.now window.entry) ∷ []) next.new }
+        ensures items { (tables : TablePair) (history : List CsEntry) → pair_of eeprom.now memory.now ≡ tables_after tables history → Stands tables history self.now
+            → out.new.items ≡ cs_items tables history (input_of now commands.now window.entry) }
         ensures counted { AllPass is_item_counted out.new.items }
         ensures few { length out.new.items ≤ MOST_ITEMS }
         ensures room { out.new.room ≡ out.old.room }
@@ -144,12 +145,11 @@ impl Cs {
         requires commands { length commands.now ≤ 16 }
         requires empty { out.old.items ≡ [] }
         requires room { MOST_ITEMS ≤ out.old.room }
-        requires started { (history : List Input) × Stands eeprom.now memory.now history self.old }
         requires gives { SegmentsGiven (regions_of (seen window).areas) eeprom.now × SegmentsGiven (regions_of (seen window).areas) memory.now }
-        ensures stands { (history : List Input) → Stands eeprom.now memory.now history self.old
-            → Stands eeprom.now memory.now (history ++ input_of now commands.now window.entry ∷ []) self.new }
-        ensures items { (history : List Input) → Stands eeprom.now memory.now history self.old
-            → out.new.items ≡ cs_items eeprom.now memory.now history (input_of now commands.now window.entry) }
+        ensures stands { (tables : TablePair) (history : List CsEntry) → pair_of eeprom.now memory.now ≡ tables_after tables history → Stands tables history self.old
+            → Stands tables (history ++ Woken (input_of now commands.now window.entry) ∷ []) self.new }
+        ensures items { (tables : TablePair) (history : List CsEntry) → pair_of eeprom.now memory.now ≡ tables_after tables history → Stands tables history self.old
+            → out.new.items ≡ cs_items tables history (input_of now commands.now window.entry) }
         ensures counted { AllPass is_item_counted out.new.items }
         ensures few { length out.new.items ≤ MOST_ITEMS }
         ensures room { out.new.room ≡ out.old.room }
@@ -173,7 +173,7 @@ impl Cs {
 fn reply(tally: &Tally, order: &Instruction, now: u32, out: &mut Outbox)
     requires named { IsNamed order.now }
     requires room { length out.old.items < out.old.room }
-    ensures items { (slices : List Slice) → TallyStands slices tally.now → out.new ≡ adding out.old (replies_to now slices order.now) }
+    ensures items { (happened : List Happening) → TallyStands happened tally.now → out.new ≡ adding out.old (replies_to now happened order.now) }
     ensures counted { AllPass is_item_counted out.old.items → AllPass is_item_counted out.new.items }
     ensures few { length out.new.items ≤ length out.old.items + 1 }
     ensures room { out.new.room ≡ out.old.room }
@@ -196,11 +196,10 @@ fn read_next(
     out: &mut Outbox,
 )
     requires room { length out.old.items < out.old.room }
-    ensures stands { (orders : List Instruction) (slices : List Slice) (since : List Instruction) → StandsAt (eeprom.now ++ memory.now) orders slices since course.old
-        → StandsAt (eeprom.now ++ memory.now) orders (slices ++ option_to_list (next_slice (eeprom.now ++ memory.now) orders slices since (seen window.entry)))
-        (since_behind (next_slice (eeprom.now ++ memory.now) orders slices since (seen window.entry)) since) course.new }
-    ensures items { (orders : List Instruction) (slices : List Slice) (since : List Instruction) → StandsAt (eeprom.now ++ memory.now) orders slices since course.old
-        → out.new ≡ adding out.old (slice_items now slices (next_slice (eeprom.now ++ memory.now) orders slices since (seen window.entry))) }
+    ensures stands { (happened : List Happening) → StandsAt (pair_of eeprom.now memory.now) happened course.old
+        → StandsAt (pair_of eeprom.now memory.now) (happened ++ reading (next_slice (pair_of eeprom.now memory.now) happened (seen window.entry))) course.new }
+    ensures items { (happened : List Happening) → StandsAt (pair_of eeprom.now memory.now) happened course.old
+        → out.new ≡ adding out.old (slice_items now happened (next_slice (pair_of eeprom.now memory.now) happened (seen window.entry))) }
     ensures counted { AllPass is_item_counted out.old.items → AllPass is_item_counted out.new.items }
     ensures few { length out.new.items ≤ length out.old.items + 1 }
     ensures room { out.new.room ≡ out.old.room }
@@ -224,10 +223,10 @@ fn read_slice(
 )
     requires within { place < 32 }
     requires room { length out.old.items < out.old.room }
-    ensures stands { (orders : List Instruction) (slices : List Slice) (since : List Instruction) → StandsAt (eeprom.now ++ memory.now) orders slices since course.old
-        → StandsAt (eeprom.now ++ memory.now) orders (slices ++ slice_from (seen window.entry) (entry_in (eeprom.now ++ memory.now) place) place (offset_at place slices since) ∷ []) [] course.new }
-    ensures items { (orders : List Instruction) (slices : List Slice) (since : List Instruction) → StandsAt (eeprom.now ++ memory.now) orders slices since course.old
-        → out.new ≡ adding out.old (slice_items now slices (Some (slice_from (seen window.entry) (entry_in (eeprom.now ++ memory.now) place) place (offset_at place slices since)))) }
+    ensures stands { (happened : List Happening) → StandsAt (pair_of eeprom.now memory.now) happened course.old
+        → StandsAt (pair_of eeprom.now memory.now) (happened ++ Read (slice_from (seen window.entry) (entry_in (pair_of eeprom.now memory.now) place) place (offset_at place (slices_among happened) (since_slice happened))) ∷ []) course.new }
+    ensures items { (happened : List Happening) → StandsAt (pair_of eeprom.now memory.now) happened course.old
+        → out.new ≡ adding out.old (slice_items now happened (Some (slice_from (seen window.entry) (entry_in (pair_of eeprom.now memory.now) place) place (offset_at place (slices_among happened) (since_slice happened))))) }
     ensures counted { AllPass is_item_counted out.old.items → AllPass is_item_counted out.new.items }
     ensures few { length out.new.items ≤ length out.old.items + 1 }
     ensures room { out.new.room ≡ out.old.room }

@@ -1,11 +1,12 @@
 //! What is on: CS, its two tables, and their entries.
-ghost use Rattle.std.specs.Prelude.{◌≡◌, ◌<◌, ◌++◌, List, [], ◌∷◌};
-ghost use Rattle.cs_slices.specs.declared.segments.Segment.{Segment};
+ghost use Rattle.std.specs.Prelude.{◌≡◌, ◌==◌, ◌<◌, ◌++◌, List, [], ◌∷◌, if◌then◌else◌};
+ghost use Rattle.cs_slices.specs.Tables.{TablePair, pair_of, with_table, entry_in};
 ghost use Rattle.cs_slices.specs.Instructions.{IsNamed};
+ghost use Rattle.cs_slices.specs.Happenings.{Happening, orders_among};
+ghost use Rattle.cs_slices.specs.Happenings.Happening.{Ordered, Renewed};
 ghost use Rattle.cs_slices.specs.Orders.{table_of, is_table_on, takes_part, some_take_part, turns_off};
 ghost use Rattle.cs_slices.specs.Housekeeping.{flags_of};
 ghost use Rattle.cs_slices.specs.State.{SwitchesStand};
-ghost use Rattle.cs_slices.specs.declared.instructions.Instruction.{Instruction};
 
 use crate::instructions::{Instruction, place_of};
 use crate::segments::{Segments, entry_in};
@@ -26,7 +27,7 @@ pub(crate) struct Switches {
 impl Switches {
     /// At the start CS and both tables are on, and the entries by their state.
     pub(crate) fn start(eeprom: &Segments, memory: &Segments) -> Switches
-        ensures { SwitchesStand (eeprom.now ++ memory.now) [] result }
+        ensures { SwitchesStand (pair_of eeprom.now memory.now) [] result }
     {
         let mut entries = [false; PLACES];
         for place in 0..PLACES {
@@ -43,7 +44,7 @@ impl Switches {
     /// Switches what an order asks for.
     pub(crate) fn obey(&mut self, order: &Instruction)
         requires { IsNamed order.now }
-        ensures { (entries : List Segment) (orders : List Instruction) → SwitchesStand entries orders self.old → SwitchesStand entries (orders ++ order.now ∷ []) self.new }
+        ensures { (tables : TablePair) (happened : List Happening) → SwitchesStand tables happened self.old → SwitchesStand tables (happened ++ Ordered order.now ∷ []) self.new }
     {
         match order {
             Instruction::Plain => {}
@@ -62,10 +63,21 @@ impl Switches {
         }
     }
 
+    /// Takes another table of this number: its entries are on by their state.
+    pub(crate) fn renew(&mut self, table: u16, segments: &Segments)
+        ensures { (tables : TablePair) (happened : List Happening) → SwitchesStand tables happened self.old → SwitchesStand (with_table table segments.now tables) (happened ++ Renewed table ∷ []) self.new }
+    {
+        let mut entries = [false; PLACES];
+        for place in 0..PLACES {
+            entries[place] = renewed(self.entries[place], table, segments, place as u8);
+        }
+        self.entries = entries;
+    }
+
     /// Whether a place takes part.
     pub(crate) fn takes_part(&self, place: u8) -> bool
         requires { place < 32 }
-        ensures { (entries : List Segment) (orders : List Instruction) → SwitchesStand entries orders self.now → result ≡ takes_part entries orders place }
+        ensures { (tables : TablePair) (happened : List Happening) → SwitchesStand tables happened self.now → result ≡ takes_part tables happened place }
     {
         if !self.cs {
             return false;
@@ -79,7 +91,7 @@ impl Switches {
     /// Whether any place takes part.
     #[inline(always)]
     pub(crate) fn any_takes_part(&self) -> bool
-        ensures { (entries : List Segment) (orders : List Instruction) → SwitchesStand entries orders self.now → result ≡ some_take_part entries orders }
+        ensures { (tables : TablePair) (happened : List Happening) → SwitchesStand tables happened self.now → result ≡ some_take_part tables happened }
     {
         let mut any = false;
         for place in 0..PLACES {
@@ -91,7 +103,7 @@ impl Switches {
     /// Whether the table of a place is on.
     fn is_table_on(&self, place: u8) -> bool
         requires { place < 32 }
-        ensures { (entries : List Segment) (orders : List Instruction) → SwitchesStand entries orders self.now → result ≡ is_table_on (table_of place) orders }
+        ensures { (tables : TablePair) (happened : List Happening) → SwitchesStand tables happened self.now → result ≡ is_table_on (table_of place) (orders_among happened) }
     {
         if place < 16 { self.eeprom } else { self.memory }
     }
@@ -103,6 +115,17 @@ impl Switches {
     {
         bits_of(&[self.cs, self.eeprom, self.memory]) as u8
     }
+}
+
+/// Whether the entry of a place is on once a table of this number became active: one of that table by its state.
+fn renewed(was: bool, table: u16, segments: &Segments, place: u8) -> bool
+    requires { place < 32 }
+    ensures { result ≡ (if table == table_of place then (entry_in (pair_of segments.now segments.now) place).state == 1 else was) }
+{
+    if table != u16::from(place / 16 + 1) {
+        return was;
+    }
+    entry_in(segments, segments, place).state == 1
 }
 
 /// Whether an order switches CS, a place's table or its entry off.

@@ -1,8 +1,10 @@
 //! What is kept of whole passes.
-ghost use Rattle.std.specs.Prelude.{◌≡◌, ◌<◌, ◌++◌, ℕ, List, [], ◌∷◌, true, slice_index_or, None};
+ghost use Rattle.std.specs.Prelude.{◌≡◌, ◌==◌, ◌<◌, ◌++◌, ℕ, List, [], ◌∷◌, true, if◌then◌else◌, slice_index_or, None};
 ghost use Rattle.packet_forms.specs.Crc.{crc_of};
-ghost use Rattle.cs_slices.specs.Slices.{Slice};
-ghost use Rattle.cs_slices.specs.Passes.{pass_bytes, miscompares};
+ghost use Rattle.cs_slices.specs.Happenings.{Slice, Happening, slices_since};
+ghost use Rattle.cs_slices.specs.Happenings.Happening.{Ordered, Read, Renewed};
+ghost use Rattle.cs_slices.specs.Orders.{table_of};
+ghost use Rattle.cs_slices.specs.Passes.{pass_bytes, differs_behind};
 ghost use Rattle.cs_slices.specs.State.{TallyStands};
 
 use crate::switches::PLACES;
@@ -32,10 +34,10 @@ impl Tally {
     /// Notes the check of a whole pass, and tells whether it differs from the baseline: the first one is the baseline.
     pub(crate) fn judge(&mut self, place: u8, check: u16) -> bool
         requires { place < 32 }
-        ensures stands { (slices : List Slice) (s : Slice) → TallyStands slices self.old → s.place ≡ place → s.ends ≡ true → check ≡ crc_of 0 (pass_bytes place (slices ++ s ∷ []))
-            → TallyStands (slices ++ s ∷ []) self.new }
-        ensures found { (slices : List Slice) (s : Slice) → TallyStands slices self.old → s.place ≡ place → s.ends ≡ true → check ≡ crc_of 0 (pass_bytes place (slices ++ s ∷ []))
-            → result ≡ miscompares slices s }
+        ensures stands { (happened : List Happening) (s : Slice) → TallyStands happened self.old → s.place ≡ place → s.ends ≡ true → check ≡ crc_of 0 (pass_bytes place (slices_since (table_of place) happened ++ s ∷ []))
+            → TallyStands (happened ++ Read s ∷ []) self.new }
+        ensures found { (happened : List Happening) (s : Slice) → TallyStands happened self.old → s.place ≡ place → s.ends ≡ true → check ≡ crc_of 0 (pass_bytes place (slices_since (table_of place) happened ++ s ∷ []))
+            → result ≡ differs_behind happened s }
     {
         self.passes = self.passes.wrapping_add(1);
         let Some(base) = self.baselines[place as usize] else {
@@ -51,6 +53,17 @@ impl Tally {
             self.memory = self.memory.wrapping_add(1);
         }
         true
+    }
+
+    /// Forgets the baselines of a table.
+    pub(crate) fn renew(&mut self, table: u16)
+        ensures { (happened : List Happening) → TallyStands happened self.old → TallyStands (happened ++ Renewed table ∷ []) self.new }
+    {
+        let mut baselines = [None; PLACES];
+        for place in 0..PLACES {
+            baselines[place] = kept(self.baselines[place], table, place as u8);
+        }
+        self.baselines = baselines;
     }
 
     /// The baseline of a place.
@@ -81,4 +94,15 @@ impl Tally {
     {
         self.passes
     }
+}
+
+/// The baseline of a place once a table became active: none of that table's stays.
+fn kept(base: Option<u16>, table: u16, place: u8) -> Option<u16>
+    requires { place < 32 }
+    ensures { result ≡ (if table == table_of place then None else base) }
+{
+    if table == u16::from(place / 16 + 1) {
+        return None;
+    }
+    base
 }

@@ -2,8 +2,6 @@
 ghost use Rattle.std.specs.Prelude.{◌≡◌, ◌≤◌, ◌<◌, ◌++◌, List, [], ◌∷◌, length, true, None};
 ghost use Rattle.memory_window.specs.Memory.{regions_of};
 ghost use Rattle.cs_slices.specs.Given.{SegmentsGiven};
-ghost use Rattle.cs_slices.specs.Wakeups.{Input, input_of};
-ghost use Rattle.cs_slices.specs.State.{Stands};
 
 use crate::{Cs, MOST_ITEMS, Segment, Segments, laws, load_segments};
 use bus_pipes::{Out, Outbox};
@@ -56,9 +54,7 @@ fn frame(
 ) -> Cs
     requires commands { length commands.now ≤ 16 }
     requires room { MOST_ITEMS ≤ out.old.room }
-    requires started { (history : List Input) × Stands eeprom.now memory.now history cs }
     requires gives { SegmentsGiven (regions_of ram.now.areas) eeprom.now × SegmentsGiven (regions_of ram.now.areas) memory.now }
-    ensures started { (history : List Input) × Stands eeprom.now memory.now history result }
     ensures room { out.new.room ≡ out.old.room }
 {
     out.clear();
@@ -78,9 +74,7 @@ fn quiet(
     out: &mut Outbox,
 ) -> Cs
     requires room { MOST_ITEMS ≤ out.old.room }
-    requires started { (history : List Input) × Stands eeprom.now memory.now history cs }
     requires gives { SegmentsGiven (regions_of ram.now.areas) eeprom.now × SegmentsGiven (regions_of ram.now.areas) memory.now }
-    ensures started { (history : List Input) × Stands eeprom.now memory.now history result }
     ensures room { out.new.room ≡ out.old.room }
 {
     let mut now = cs;

@@ -1,5 +1,6 @@
 //! Which commands are refused.
-ghost use Rattle.std.specs.Prelude.{◌≡◌, ◌++◌};
+ghost use Rattle.std.specs.Prelude.{◌≡◌};
+ghost use Rattle.cs_slices.specs.Tables.{pair_of};
 ghost use Rattle.cs_slices.specs.Verdicts.{table_refusal, entry_refusal, own_refusal};
 
 use crate::instructions::{Instruction, place_of};
@@ -37,7 +38,7 @@ pub(crate) fn own_refusal(
     memory: &Segments,
     instruction: &Instruction,
 ) -> Option<Refusal>
-    ensures { result ≡ own_refusal (eeprom.now ++ memory.now) instruction.now }
+    ensures { result ≡ own_refusal (pair_of eeprom.now memory.now) instruction.now }
 {
     match instruction {
         Instruction::Plain => None,
@@ -61,7 +62,7 @@ fn table_refusal(table: u16) -> Option<Refusal>
 
 /// The refusal of an entry.
 fn entry_refusal(eeprom: &Segments, memory: &Segments, table: u16, number: u16) -> Option<Refusal>
-    ensures { result ≡ entry_refusal (eeprom.now ++ memory.now) table number }
+    ensures { result ≡ entry_refusal (pair_of eeprom.now memory.now) table number }
 {
     if table != 1 && table != 2 {
         return Some(Refusal::Table);

@@ -1,8 +1,9 @@
 use Rattle.std.proofs.Common.{refl, ◌≡◌, ◌<◌, ◌≤◌, ℕ, true, length, subst, sym, ap, ◌∙◌}
 use Rattle.memory_window.specs.Memory.{Memory}
 use Rattle.cs_slices.specs.Tables.{entry_in}
+use Rattle.cs_slices.specs.Happenings.{Slice, slices_among, since_slice}
 use Rattle.cs_slices.specs.Orders.{takes_part}
-use Rattle.cs_slices.specs.Slices.{Slice, current_place, offset_at, slice_from}
+use Rattle.cs_slices.specs.Slices.{current_place, offset_at, slice_from}
 use Rattle.cs_slices.specs.declared.segments.Segment.{Segment}
 use Rattle.cs_slices.proofs.Following.{next_is, found_part, short_slice, offset_follows}
 use Rattle.cs_slices.proofs.laws.slices_follow.Goals as goal
@@ -16,21 +17,21 @@ unfolding slice_from
 from_same image e place from = refl
 
 pub returns-clause-part : goal.returns-clause-part
-returns-clause-part c = λ entries orders slices since image s is.
-    let next = next_is entries orders slices since image s is in
-    let found = found_part (takes_part entries orders) (current_place slices) next.0 next.1 in
-    let same : next.0 ≡ s.place = sym (place_same image (entry_in entries next.0) next.0 (offset_at next.0 slices since)) ∙ ap (λ (x : Slice). x.place) next.2 in
-    (subst (λ (n : ℕ). takes_part entries orders n ≡ true) same found.0, subst (λ (n : ℕ). n < 32) same found.1)
+returns-clause-part c = λ tables happened image s is.
+    let next = next_is tables happened image s is in
+    let found = found_part (takes_part tables happened) (current_place (slices_among happened)) next.0 next.1 in
+    let same : next.0 ≡ s.place = sym (place_same image (entry_in tables next.0) next.0 (offset_at next.0 (slices_among happened) (since_slice happened))) ∙ ap (λ (x : Slice). x.place) next.2 in
+    (subst (λ (n : ℕ). takes_part tables happened n ≡ true) same found.0, subst (λ (n : ℕ). n < 32) same found.1)
 
 pub returns-clause-short : goal.returns-clause-short
-returns-clause-short c = λ entries orders slices since image s is.
-    let next = next_is entries orders slices since image s is in
-    subst (λ (x : Slice). length x.bytes ≤ 1024) next.2 (short_slice image (entry_in entries next.0) next.0 (offset_at next.0 slices since))
+returns-clause-short c = λ tables happened image s is.
+    let next = next_is tables happened image s is in
+    subst (λ (x : Slice). length x.bytes ≤ 1024) next.2 (short_slice image (entry_in tables next.0) next.0 (offset_at next.0 (slices_among happened) (since_slice happened)))
 
 pub returns-clause-follow : goal.returns-clause-follow
-returns-clause-follow c = λ entries orders slices since image s is later.
-    let next = next_is entries orders slices since image s is in
-    let same : next.0 ≡ s.place = sym (place_same image (entry_in entries next.0) next.0 (offset_at next.0 slices since)) ∙ ap (λ (x : Slice). x.place) next.2 in
-    let begins : offset_at next.0 slices since ≡ s.from = sym (from_same image (entry_in entries next.0) next.0 (offset_at next.0 slices since)) ∙ ap (λ (x : Slice). x.from) next.2 in
-    let found = offset_follows next.0 slices since (λ zero. later (sym begins ∙ zero)) in
+returns-clause-follow c = λ tables happened image s is later.
+    let next = next_is tables happened image s is in
+    let same : next.0 ≡ s.place = sym (place_same image (entry_in tables next.0) next.0 (offset_at next.0 (slices_among happened) (since_slice happened))) ∙ ap (λ (x : Slice). x.place) next.2 in
+    let begins : offset_at next.0 (slices_among happened) (since_slice happened) ≡ s.from = sym (from_same image (entry_in tables next.0) next.0 (offset_at next.0 (slices_among happened) (since_slice happened))) ∙ ap (λ (x : Slice). x.from) next.2 in
+    let found = offset_follows next.0 (slices_among happened) (since_slice happened) (λ zero. later (sym begins ∙ zero)) in
     (found.0, found.1, found.2, found.3 ∙ same, found.4 ∙ begins, found.5)

@@ -4,119 +4,121 @@ use Rattle.bus_pipes.specs.declared.names.Out.TheVariants.{Made}
 use Rattle.packet_forms.specs.Built.{event_of}
 use Rattle.packet_forms.specs.Crc.{crc_of}
 use Rattle.memory_window.specs.Window.{seen}
-use Rattle.cs_slices.specs.declared.instructions.Instruction.{Instruction}
-use Rattle.cs_slices.specs.Tables.{entry_in}
-use Rattle.cs_slices.specs.Slices.{Slice, offset_at, slice_from, entry_bytes}
+use Rattle.cs_slices.specs.Tables.{pair_of, entry_in}
+use Rattle.cs_slices.specs.Happenings.{Slice, Happening, slices_among, since_slice, slices_since}
+use Rattle.cs_slices.specs.Orders.{table_of}
+use Rattle.cs_slices.specs.Slices.{offset_at, slice_from, entry_bytes}
 use Rattle.cs_slices.specs.Passes.{pass_bytes}
 use Rattle.cs_slices.specs.State.{StandsAt}
 use Rattle.cs_slices.specs.declared.segments.Segment.{Segment}
+use Rattle.cs_slices.proofs.Switching.{switches_read}
 use Rattle.cs_slices.proofs.Tallying.{tally_rests}
 use Rattle.cs_slices.proofs.Slicing.{IsRead, slice_read, items_quiet, items_found, quiet_before_end}
 use Rattle.cs_slices.proofs.step.read_slice.Goals as goal
 use Rattle.cs_slices.proofs.step.read_slice.Goals.{Then-not-judge, After-push_event}
 
-quiet_slice : Then-not-judge → List Slice → List Instruction → Slice
-quiet_slice c slices since = slice_from (seen c.args.window) (entry_in (c.args.eeprom.now ++ c.args.memory.now) c.args.place) c.args.place (offset_at c.args.place slices since)
+quiet_slice : Then-not-judge → List Happening → Slice
+quiet_slice c happened = slice_from (seen c.args.window) (entry_in (pair_of c.args.eeprom.now c.args.memory.now) c.args.place) c.args.place (offset_at c.args.place (slices_among happened) (since_slice happened))
 
-quiet_read : (c : Then-not-judge) (orders : List Instruction) (slices : List Slice) (since : List Instruction) → StandsAt (c.args.eeprom.now ++ c.args.memory.now) orders slices since c.args.course.now
-    → IsRead (quiet_slice c slices since) c.args.place c.offset_at-from.result c.slice_size-size.result c.entry_in-segment.result.len c.part-bytes.result.now
+quiet_read : (c : Then-not-judge) (happened : List Happening) → StandsAt (pair_of c.args.eeprom.now c.args.memory.now) happened c.args.course.now
+    → IsRead (quiet_slice c happened) c.args.place c.offset_at-from.result c.slice_size-size.result c.entry_in-segment.result.len c.part-bytes.result.now
 unfolding quiet_slice
-quiet_read c orders slices since stood =
-    slice_read (seen c.args.window) (entry_in (c.args.eeprom.now ++ c.args.memory.now) c.args.place) c.args.place (offset_at c.args.place slices since)
+quiet_read c happened stood =
+    slice_read (seen c.args.window) (entry_in (pair_of c.args.eeprom.now c.args.memory.now) c.args.place) c.args.place (offset_at c.args.place (slices_among happened) (since_slice happened))
     c.offset_at-from.result c.slice_size-size.result c.entry_in-segment.result.len c.entry_bytes.result.now c.part-bytes.result.now
-    (c.offset_at-from.ensures slices since stood.passing) (ap (λ (e : Segment). e.len) c.entry_in-segment.ensures) c.slice_size-size.ensures.size
+    (c.offset_at-from.ensures happened stood.passing) (ap (λ (e : Segment). e.len) c.entry_in-segment.ensures) c.slice_size-size.ensures.size
     (c.entry_bytes.ensures ∙ ap (entry_bytes (seen c.args.window)) c.entry_in-segment.ensures) c.part-bytes.ensures
 
-quiet_check : (c : Then-not-judge) (orders : List Instruction) (slices : List Slice) (since : List Instruction) → StandsAt (c.args.eeprom.now ++ c.args.memory.now) orders slices since c.args.course.now
-    → c.check_after-check.result ≡ crc_of 0 (pass_bytes c.args.place (slices ++ quiet_slice c slices since ∷ []))
-quiet_check c orders slices since stood =
-    let read = quiet_read c orders slices since stood in
-    c.check_after-check.ensures slices since (quiet_slice c slices since) stood.passing read.place read.from (c.offset_at-from.ensures slices since stood.passing) read.bytes
+quiet_check : (c : Then-not-judge) (happened : List Happening) → StandsAt (pair_of c.args.eeprom.now c.args.memory.now) happened c.args.course.now
+    → c.check_after-check.result ≡ crc_of 0 (pass_bytes c.args.place (slices_since (table_of c.args.place) happened ++ quiet_slice c happened ∷ []))
+quiet_check c happened stood =
+    let read = quiet_read c happened stood in
+    c.check_after-check.ensures happened (quiet_slice c happened) stood.passing read.place read.from (c.offset_at-from.ensures happened stood.passing) read.bytes
 
-found_slice : After-push_event → List Slice → List Instruction → Slice
-found_slice c slices since = slice_from (seen c.args.window) (entry_in (c.args.eeprom.now ++ c.args.memory.now) c.args.place) c.args.place (offset_at c.args.place slices since)
+found_slice : After-push_event → List Happening → Slice
+found_slice c happened = slice_from (seen c.args.window) (entry_in (pair_of c.args.eeprom.now c.args.memory.now) c.args.place) c.args.place (offset_at c.args.place (slices_among happened) (since_slice happened))
 
-found_read : (c : After-push_event) (orders : List Instruction) (slices : List Slice) (since : List Instruction) → StandsAt (c.args.eeprom.now ++ c.args.memory.now) orders slices since c.args.course.now
-    → IsRead (found_slice c slices since) c.args.place c.offset_at-from.result c.slice_size-size.result c.entry_in-segment.result.len c.part-bytes.result.now
+found_read : (c : After-push_event) (happened : List Happening) → StandsAt (pair_of c.args.eeprom.now c.args.memory.now) happened c.args.course.now
+    → IsRead (found_slice c happened) c.args.place c.offset_at-from.result c.slice_size-size.result c.entry_in-segment.result.len c.part-bytes.result.now
 unfolding found_slice
-found_read c orders slices since stood =
-    slice_read (seen c.args.window) (entry_in (c.args.eeprom.now ++ c.args.memory.now) c.args.place) c.args.place (offset_at c.args.place slices since)
+found_read c happened stood =
+    slice_read (seen c.args.window) (entry_in (pair_of c.args.eeprom.now c.args.memory.now) c.args.place) c.args.place (offset_at c.args.place (slices_among happened) (since_slice happened))
     c.offset_at-from.result c.slice_size-size.result c.entry_in-segment.result.len c.entry_bytes.result.now c.part-bytes.result.now
-    (c.offset_at-from.ensures slices since stood.passing) (ap (λ (e : Segment). e.len) c.entry_in-segment.ensures) c.slice_size-size.ensures.size
+    (c.offset_at-from.ensures happened stood.passing) (ap (λ (e : Segment). e.len) c.entry_in-segment.ensures) c.slice_size-size.ensures.size
     (c.entry_bytes.ensures ∙ ap (entry_bytes (seen c.args.window)) c.entry_in-segment.ensures) c.part-bytes.ensures
 
-found_check : (c : After-push_event) (orders : List Instruction) (slices : List Slice) (since : List Instruction) → StandsAt (c.args.eeprom.now ++ c.args.memory.now) orders slices since c.args.course.now
-    → c.check_after-check.result ≡ crc_of 0 (pass_bytes c.args.place (slices ++ found_slice c slices since ∷ []))
-found_check c orders slices since stood =
-    let read = found_read c orders slices since stood in
-    c.check_after-check.ensures slices since (found_slice c slices since) stood.passing read.place read.from (c.offset_at-from.ensures slices since stood.passing) read.bytes
+found_check : (c : After-push_event) (happened : List Happening) → StandsAt (pair_of c.args.eeprom.now c.args.memory.now) happened c.args.course.now
+    → c.check_after-check.result ≡ crc_of 0 (pass_bytes c.args.place (slices_since (table_of c.args.place) happened ++ found_slice c happened ∷ []))
+found_check c happened stood =
+    let read = found_read c happened stood in
+    c.check_after-check.ensures happened (found_slice c happened) stood.passing read.place read.from (c.offset_at-from.ensures happened stood.passing) read.bytes
 
 pub returns-then-from-size-clause-stands : goal.returns-then-from-size-clause-stands
-returns-then-from-size-clause-stands c = λ orders slices since stood.
-    let entry = entry_in (c.args.eeprom.now ++ c.args.memory.now) c.args.place in
-    let s = slice_from (seen c.args.window) entry c.args.place (offset_at c.args.place slices since) in
-    let begins = c.offset_at-from.ensures slices since stood.passing in
+returns-then-from-size-clause-stands c = λ happened stood.
+    let entry = entry_in (pair_of c.args.eeprom.now c.args.memory.now) c.args.place in
+    let s = slice_from (seen c.args.window) entry c.args.place (offset_at c.args.place (slices_among happened) (since_slice happened)) in
+    let begins = c.offset_at-from.ensures happened stood.passing in
     let read : IsRead s c.args.place c.offset_at-from.result c.slice_size-size.result c.entry_in-segment.result.len c.part-bytes.result.now =
-    slice_read (seen c.args.window) entry c.args.place (offset_at c.args.place slices since)
+    slice_read (seen c.args.window) entry c.args.place (offset_at c.args.place (slices_among happened) (since_slice happened))
     c.offset_at-from.result c.slice_size-size.result c.entry_in-segment.result.len c.entry_bytes.result.now c.part-bytes.result.now
     begins (ap (λ (e : Segment). e.len) c.entry_in-segment.ensures) c.slice_size-size.ensures.size
     (c.entry_bytes.ensures ∙ ap (entry_bytes (seen c.args.window)) c.entry_in-segment.ensures) c.part-bytes.ensures in
     let goes : s.ends ≡ false = read.ends ∙ ne_eqb _ _ c.if-from-size.true in
     record {
-      switches = stood.switches;
-      passing = c.begun-course.ensures slices s read.place read.till goes (c.check_after-check.ensures slices since s stood.passing read.place read.from begins read.bytes);
-      tally = tally_rests slices s c.args.course.now.tally stood.tally goes;
+      switches = switches_read (pair_of c.args.eeprom.now c.args.memory.now) happened _ c.args.course.now.switches stood.switches;
+      passing = c.begun-course.ensures happened s read.place read.till goes (c.check_after-check.ensures happened s stood.passing read.place read.from begins read.bytes);
+      tally = tally_rests happened s c.args.course.now.tally stood.tally goes;
     }
 
 pub returns-then-from-size-clause-items : goal.returns-then-from-size-clause-items
-returns-then-from-size-clause-items c = λ orders slices since stood.
-    let entry = entry_in (c.args.eeprom.now ++ c.args.memory.now) c.args.place in
-    let s = slice_from (seen c.args.window) entry c.args.place (offset_at c.args.place slices since) in
-    let begins = c.offset_at-from.ensures slices since stood.passing in
+returns-then-from-size-clause-items c = λ happened stood.
+    let entry = entry_in (pair_of c.args.eeprom.now c.args.memory.now) c.args.place in
+    let s = slice_from (seen c.args.window) entry c.args.place (offset_at c.args.place (slices_among happened) (since_slice happened)) in
+    let begins = c.offset_at-from.ensures happened stood.passing in
     let read : IsRead s c.args.place c.offset_at-from.result c.slice_size-size.result c.entry_in-segment.result.len c.part-bytes.result.now =
-    slice_read (seen c.args.window) entry c.args.place (offset_at c.args.place slices since)
+    slice_read (seen c.args.window) entry c.args.place (offset_at c.args.place (slices_among happened) (since_slice happened))
     c.offset_at-from.result c.slice_size-size.result c.entry_in-segment.result.len c.entry_bytes.result.now c.part-bytes.result.now
     begins (ap (λ (e : Segment). e.len) c.entry_in-segment.ensures) c.slice_size-size.ensures.size
     (c.entry_bytes.ensures ∙ ap (entry_bytes (seen c.args.window)) c.entry_in-segment.ensures) c.part-bytes.ensures in
     let goes : s.ends ≡ false = read.ends ∙ ne_eqb _ _ c.if-from-size.true in
-    items_quiet c.args.now c.args.out.now slices s (quiet_before_end slices s goes)
+    items_quiet c.args.now c.args.out.now happened s (quiet_before_end happened s goes)
 
 pub returns-then-not-judge-clause-stands : goal.returns-then-not-judge-clause-stands
 unfolding quiet_slice
-returns-then-not-judge-clause-stands c = λ orders slices since stood.
-    let read = quiet_read c orders slices since stood in
-    let ends : (quiet_slice c slices since).ends ≡ true = read.ends ∙ eq-eqb _ _ c.if-from-size.false in
+returns-then-not-judge-clause-stands c = λ happened stood.
+    let read = quiet_read c happened stood in
+    let ends : (quiet_slice c happened).ends ≡ true = read.ends ∙ eq-eqb _ _ c.if-from-size.false in
     record {
-      switches = stood.switches;
-      passing = c.behind-course.ensures slices (quiet_slice c slices since) read.place ends;
-      tally = c.judge.ensures.stands slices (quiet_slice c slices since) stood.tally read.place ends (quiet_check c orders slices since stood);
+      switches = switches_read (pair_of c.args.eeprom.now c.args.memory.now) happened _ c.args.course.now.switches stood.switches;
+      passing = c.behind-course.ensures happened (quiet_slice c happened) read.place ends;
+      tally = c.judge.ensures.stands happened (quiet_slice c happened) stood.tally read.place ends (quiet_check c happened stood);
     }
 
 pub returns-then-not-judge-clause-items : goal.returns-then-not-judge-clause-items
 unfolding quiet_slice
-returns-then-not-judge-clause-items c = λ orders slices since stood.
-    let read = quiet_read c orders slices since stood in
-    let ends : (quiet_slice c slices since).ends ≡ true = read.ends ∙ eq-eqb _ _ c.if-from-size.false in
-    items_quiet c.args.now c.args.out.now slices (quiet_slice c slices since)
-    (sym (c.judge.ensures.found slices (quiet_slice c slices since) stood.tally read.place ends (quiet_check c orders slices since stood)) ∙ c.if-not-judge.true)
+returns-then-not-judge-clause-items c = λ happened stood.
+    let read = quiet_read c happened stood in
+    let ends : (quiet_slice c happened).ends ≡ true = read.ends ∙ eq-eqb _ _ c.if-from-size.false in
+    items_quiet c.args.now c.args.out.now happened (quiet_slice c happened)
+    (sym (c.judge.ensures.found happened (quiet_slice c happened) stood.tally read.place ends (quiet_check c happened stood)) ∙ c.if-not-judge.true)
 
 pub returns-clause-stands : goal.returns-clause-stands
 unfolding found_slice
-returns-clause-stands c = λ orders slices since stood.
-    let read = found_read c orders slices since stood in
-    let ends : (found_slice c slices since).ends ≡ true = read.ends ∙ eq-eqb _ _ c.if-from-size.false in
+returns-clause-stands c = λ happened stood.
+    let read = found_read c happened stood in
+    let ends : (found_slice c happened).ends ≡ true = read.ends ∙ eq-eqb _ _ c.if-from-size.false in
     record {
-      switches = stood.switches;
-      passing = c.behind-course.ensures slices (found_slice c slices since) read.place ends;
-      tally = c.judge.ensures.stands slices (found_slice c slices since) stood.tally read.place ends (found_check c orders slices since stood);
+      switches = switches_read (pair_of c.args.eeprom.now c.args.memory.now) happened _ c.args.course.now.switches stood.switches;
+      passing = c.behind-course.ensures happened (found_slice c happened) read.place ends;
+      tally = c.judge.ensures.stands happened (found_slice c happened) stood.tally read.place ends (found_check c happened stood);
     }
 
 pub returns-clause-items : goal.returns-clause-items
 unfolding found_slice
-returns-clause-items c = λ orders slices since stood.
-    let read = found_read c orders slices since stood in
-    let ends : (found_slice c slices since).ends ≡ true = read.ends ∙ eq-eqb _ _ c.if-from-size.false in
+returns-clause-items c = λ happened stood.
+    let read = found_read c happened stood in
+    let ends : (found_slice c happened).ends ≡ true = read.ends ∙ eq-eqb _ _ c.if-from-size.false in
     c.push_event.ensures.after
     ∙ ap (λ (n : List ℕ). adding c.args.out.now (Made (event_of n 101 3 c.args.now) ∷ [])) c.name.ensures
-    ∙ items_found c.args.now c.args.out.now slices (found_slice c slices since)
-    (sym (c.judge.ensures.found slices (found_slice c slices since) stood.tally read.place ends (found_check c orders slices since stood)) ∙ c.if-not-judge.false)
+    ∙ items_found c.args.now c.args.out.now happened (found_slice c happened)
+    (sym (c.judge.ensures.found happened (found_slice c happened) stood.tally read.place ends (found_check c happened stood)) ∙ c.if-not-judge.false)

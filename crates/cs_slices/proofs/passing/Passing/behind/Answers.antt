@@ -3,4 +3,4 @@ use Rattle.cs_slices.proofs.Passes.{stands_behind}
 use Rattle.cs_slices.proofs.passing.Passing.behind.Goals as goal
 
 pub returns : goal.returns
-returns c = λ slices s same ends. stands_behind slices s c.args.place _ same ends refl refl refl
+returns c = λ happened s same ends. stands_behind happened s c.args.place _ same ends refl refl refl
