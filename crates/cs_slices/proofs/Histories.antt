@@ -1,5 +1,5 @@
 -- A history at one more entry.
-use Rattle.std.proofs.Common.{◌≡◌, ℕ, Bool, true, false, cond, eqb, List, [], ◌∷◌, ◌++◌, map, Some, None, refl, sym, ap, ◌∙◌, append_assoc, append-nil}
+use Rattle.std.proofs.Common.{◌≡◌, Bool, true, false, cond, eqb, List, [], ◌∷◌, ◌++◌, map, Some, None, refl, sym, ap, ◌∙◌, append_assoc, append-nil}
 use Rattle.std.specs.List.{fold, flat_map}
 use Rattle.std.proofs.lemmas.List.{map_push}
 use Rattle.histories.specs.Words.{decided}
@@ -13,7 +13,7 @@ use Rattle.bus_pipes.proofs.Deliveries.{items-adding}
 use Rattle.bus_pipes.specs.declared.names.Out.{Out}
 use Rattle.commands.specs.Counting.{counts_of}
 use Rattle.commands.proofs.Heard.{heard_more, heard_idle, heard_none}
-use Rattle.cs_slices.specs.Tables.{TablePair, pair_of, with_table}
+use Rattle.cs_slices.specs.Tables.{TablePair, with_table}
 use Rattle.cs_slices.specs.Verdicts.{cs_protocol}
 use Rattle.cs_slices.specs.Happenings.{Happening, reading}
 use Rattle.cs_slices.specs.Happenings.Happening.{Ordered, Renewed}

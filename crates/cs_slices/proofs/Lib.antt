@@ -11,3 +11,4 @@ pub mod Refusing
 pub mod Following
 pub mod Taking
 pub mod Telling
+pub mod Forgetting

@@ -87,14 +87,14 @@ kept place since h s on =
     by_case a false = refl
 
 -- a pass breaks off with the last of what happened since
-all_turned : (place : ℕ) (slices : List Slice) (since : List Happening) (h : Happening) → breaks_off place h ≡ true → (has_begun place slices (since ++ h ∷ []) ≡ false) × (offset_at place slices (since ++ h ∷ []) ≡ 0)
+pub all_turned : (place : ℕ) (slices : List Slice) (since : List Happening) (h : Happening) → breaks_off place h ≡ true → (has_begun place slices (since ++ h ∷ []) ≡ false) × (offset_at place slices (since ++ h ∷ []) ≡ 0)
 all_turned place slices since h off = elim (last_cases slices) [
   | inl none ↦ rw none (begun_none place (since ++ h ∷ []), offset_none place (since ++ h ∷ []))
   | inr found ↦ rw found.2 (begun_more place found.0 found.1 (since ++ h ∷ []) ∙ turned place since h found.1 off, offset_more place found.0 found.1 (since ++ h ∷ []) ∙ ap (λ (b : Bool). cond b found.1.till 0) (turned place since h found.1 off))
 ]
 
 -- or it doesn't
-all_kept : (place : ℕ) (slices : List Slice) (since : List Happening) (h : Happening) → breaks_off place h ≡ false
+pub all_kept : (place : ℕ) (slices : List Slice) (since : List Happening) (h : Happening) → breaks_off place h ≡ false
     → (has_begun place slices (since ++ h ∷ []) ≡ has_begun place slices since) × (offset_at place slices (since ++ h ∷ []) ≡ offset_at place slices since)
 all_kept place slices since h on = elim (last_cases slices) [
   | inl none ↦ rw none (begun_none place (since ++ h ∷ []) ∙ sym (begun_none place since), offset_none place (since ++ h ∷ []) ∙ sym (offset_none place since))

@@ -1,11 +1,11 @@
 -- What is on at one more happening.
-use Rattle.std.proofs.Common.{◌≡◌, ◌≢◌, ℕ, ◌+◌, ◌/◌, ◌<◌, ◌≤◌, Bool, true, false, cond, ◌&&◌, List, [], ◌∷◌, ◌++◌, length, get_or, set, refl, sym, ap, ◌∙◌, arith, append-nil, get_or-set_other, get_or-set_same}
+use Rattle.std.proofs.Common.{◌≡◌, ◌≢◌, ℕ, ◌<◌, Bool, true, false, cond, ◌&&◌, List, [], ◌∷◌, ◌++◌, length, get_or, set, refl, sym, ap, ◌∙◌, append-nil, get_or-set_other, get_or-set_same}
 use Rattle.std.specs.Prelude.{Option, Some, None, filter_map, ◌==◌}
 use Rattle.std.specs.List.{cons_option}
 use Rattle.std.proofs.lemmas.Bool.{eqb-true, eqb-false}
 use Rattle.std.proofs.lemmas.List.Elements.{filter_map-append}
 use Rattle.histories.specs.Words.{last_or}
-use Rattle.histories.proofs.Lasts.{last_or_more, last_or_none}
+use Rattle.histories.proofs.Lasts.{last_or_more}
 use Rattle.cs_slices.specs.declared.instructions.Instruction.{Instruction}
 use Rattle.cs_slices.specs.Tables.{TablePair, pair_of, with_table, entry_in}
 use Rattle.cs_slices.specs.Happenings.{Slice, Happening, orders_among, orders_since}
@@ -65,7 +65,7 @@ switches_read tables happened slice s stood = record {
 }
 
 -- an entry by its state in the table
-on_by_state : (tables : TablePair) (k : ℕ) → is_entry_on tables k [] ≡ ((entry_in tables k).state == 1)
+pub on_by_state : (tables : TablePair) (k : ℕ) → is_entry_on tables k [] ≡ ((entry_in tables k).state == 1)
 unfolding is_entry_on last_or
 on_by_state tables k = refl
 

@@ -12,13 +12,13 @@ use Rattle.memory_window.specs.Memory.{Memory}
 use Rattle.cs_slices.specs.Messages.{cs_name}
 use Rattle.cs_slices.specs.Verdicts.{cs_protocol}
 use Rattle.cs_slices.specs.Tables.{TablePair}
-use Rattle.cs_slices.specs.Happenings.{Slice, Happening, slices_among, reading}
+use Rattle.cs_slices.specs.Happenings.{Happening, slices_among}
 use Rattle.cs_slices.specs.Happenings.Happening.{Ordered}
 use Rattle.cs_slices.specs.Orders.{takes_part, some_take_part}
 use Rattle.cs_slices.specs.Slices.{current_place, ring_from, next_slice}
 use Rattle.cs_slices.specs.Wakeups.{Input, heard_at, orders_at}
 use Rattle.cs_slices.specs.Histories.{CsEntry, tables_after, before_slice, happened_of, slice_at}
-use Rattle.cs_slices.specs.Step.{cs_heard, cs_answers, turn_of, slice_items, cs_items}
+use Rattle.cs_slices.specs.Step.{cs_heard, cs_answers, turn_of, cs_items}
 use Rattle.cs_slices.specs.State.{Stands, is_idle_on}
 use Rattle.cs_slices.specs.declared.instructions.Instruction.{Instruction}
 use Rattle.cs_slices.specs.declared.state.Cs.{Cs}

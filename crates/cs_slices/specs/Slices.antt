@@ -1,5 +1,5 @@
 -- The slices that are read, one a wakeup at most.
-use Rattle.std.specs.Prelude.{ℕ, ◌+◌, ◌-◌, ◌%◌, ◌==◌, min, Bool, false, not, ◌&&◌, if◌then◌else◌, List, [], map, take, drop, find, Option, Some, None, option_map, Result, Ok, Err}
+use Rattle.std.specs.Prelude.{ℕ, ◌+◌, ◌-◌, ◌%◌, ◌==◌, min, Bool, false, not, ◌&&◌, if◌then◌else◌, List, [], map, take, drop, find, Option, option_map, Result, Ok, Err}
 use Rattle.std.specs.List.{list_any, range_with_len}
 use Rattle.histories.specs.Words.{last_or}
 use Rattle.memory_window.specs.Memory.{Memory}

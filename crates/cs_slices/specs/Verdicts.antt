@@ -1,5 +1,5 @@
 -- Which of CS's commands are refused, by its tables.
-use Rattle.std.specs.Prelude.{ℕ, ◌==◌, not, ◌||◌, nat_lt, Bool, if◌then◌else◌, List, Option, Some, None}
+use Rattle.std.specs.Prelude.{ℕ, ◌==◌, not, ◌||◌, nat_lt, Bool, if◌then◌else◌, Option, Some, None}
 use Rattle.commands.specs.Verdicts.{Protocol, protocol_of}
 use Rattle.cs_slices.specs.Tables.{TablePair, entry_in}
 use Rattle.cs_slices.specs.Instructions.{cs_language, place_of}

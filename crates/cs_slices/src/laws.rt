@@ -1,6 +1,6 @@
 //! What the definitions give in small cases, and sentences that they make. The functions do nothing: their contracts are the laws.
 ghost use Rattle.std.specs.Prelude.{◌≡◌, ◌==◌, not, ◌≢◌, ◌≤◌, ◌<◌, ◌++◌, ℕ, List, [], ◌∷◌, length, replicate, None, Some, true, false, codes};
-ghost use Rattle.histories.specs.Entries.Entry.{Woken};
+ghost use Rattle.histories.specs.Entries.Entry.{Woken, Activated};
 ghost use Rattle.std.specs.List.{list_any};
 ghost use Rattle.packet_forms.specs.Built.{event_of};
 ghost use Rattle.packet_forms.specs.Crc.{crc_of};
@@ -10,19 +10,19 @@ ghost use Rattle.commands.specs.Verdicts.{verdict_at};
 ghost use Rattle.commands.specs.declared.verdicts.Verdict.TheVariants.{Other, Request, Refused, Accepted};
 ghost use Rattle.memory_window.specs.Memory.{Memory};
 ghost use Rattle.cs_slices.specs.declared.instructions.Instruction.TheVariants.{Plain, Whole, Table, Entry, Report};
-ghost use Rattle.cs_slices.specs.Tables.{TablePair, pair_of, segments_of, segments_fault_of, blank_segment, blank_segments};
+ghost use Rattle.cs_slices.specs.Tables.{TablePair, pair_of, entry_in, segments_of, segments_fault_of, blank_segment, blank_segments};
 ghost use Rattle.cs_slices.specs.Verdicts.{cs_protocol};
-ghost use Rattle.cs_slices.specs.Happenings.{Slice, Happening, slices_among, slices_since};
-ghost use Rattle.cs_slices.specs.Orders.{table_of, takes_part};
-ghost use Rattle.cs_slices.specs.Slices.{next_slice};
-ghost use Rattle.cs_slices.specs.Passes.{pass_bytes, baseline_at};
+ghost use Rattle.cs_slices.specs.Happenings.{Slice, Happening, slices_among, since_slice, orders_since, slices_since};
+ghost use Rattle.cs_slices.specs.Orders.{table_of, is_entry_on, takes_part};
+ghost use Rattle.cs_slices.specs.Slices.{offset_at, next_slice};
+ghost use Rattle.cs_slices.specs.Passes.{pass_bytes, baseline_at, miscompare_count, pass_count};
 ghost use Rattle.cs_slices.specs.Wakeups.{Input};
-ghost use Rattle.cs_slices.specs.Histories.{CsEntry, tables_after, before_slice, happened_of, slice_at};
+ghost use Rattle.cs_slices.specs.Histories.{Activation, CsEntry, tables_after, before_slice, happened_of, slice_at};
 ghost use Rattle.cs_slices.specs.Telling.{tells_miscompare};
 ghost use Rattle.cs_slices.specs.Housekeeping.{flags_of, housekeeping_of};
 ghost use Rattle.cs_slices.specs.Answers.{baseline_packet};
 ghost use Rattle.cs_slices.specs.Step.{cs_items};
-ghost use Rattle.cs_slices.specs.Rows.{three_bytes, second_table, wakeup};
+ghost use Rattle.cs_slices.specs.Rows.{three_bytes, three_with, long_entry, second_table, wakeup, woken, active, at, entry_off, entry_on, table_off, whole_off, request, cs_event, shown, sent_along, begins_of};
 
 /// A payload of zero bytes has no fault, and spells the table of empty entries.
 pub fn blank_table()
@@ -105,6 +105,64 @@ pub fn packet_rows()
 pub fn wakeup_rows()
     ensures items { cs_items (pair_of three_bytes blank_segments) [] (wakeup 0 ((0x18 ∷ 0x9F ∷ 0xC0 ∷ 0 ∷ 0 ∷ 3 ∷ 5 ∷ 0xBF ∷ 0 ∷ 1 ∷ []) ∷ (0x18 ∷ 0x9F ∷ 0xC0 ∷ 0 ∷ 0 ∷ 5 ∷ 6 ∷ 0xA8 ∷ 0 ∷ 2 ∷ 0 ∷ 0x11 ∷ []) ∷ (0x18 ∷ 0x9F ∷ 0xC0 ∷ 0 ∷ 0 ∷ 5 ∷ 8 ∷ 0xB5 ∷ 0 ∷ 1 ∷ 0 ∷ 1 ∷ []) ∷ (0x18 ∷ 0xA0 ∷ 0xC0 ∷ 0 ∷ 0 ∷ 1 ∷ 0 ∷ 0x86 ∷ []) ∷ []) 2) ≡ outs.Made (8 ∷ 8 ∷ 0xC0 ∷ 0 ∷ 0 ∷ 0x25 ∷ 0 ∷ 0 ∷ 3 ∷ 0xE8 ∷ 0 ∷ 0 ∷ 0x43 ∷ 0x53 ∷ 0 ∷ 0 ∷ 0 ∷ 0 ∷ 0 ∷ 0 ∷ 0 ∷ 0 ∷ 0 ∷ 0 ∷ 0 ∷ 0 ∷ 0 ∷ 0 ∷ 0 ∷ 0 ∷ 0 ∷ 0 ∷ 0 ∷ 0x15 ∷ 0 ∷ 2 ∷ 0 ∷ 0 ∷ 0 ∷ 0x42 ∷ 0 ∷ 0 ∷ 0 ∷ 1 ∷ []) ∷ outs.Made (8 ∷ 8 ∷ 0xC0 ∷ 0 ∷ 0 ∷ 0x25 ∷ 0 ∷ 0 ∷ 3 ∷ 0xE8 ∷ 0 ∷ 0 ∷ 0x43 ∷ 0x53 ∷ 0 ∷ 0 ∷ 0 ∷ 0 ∷ 0 ∷ 0 ∷ 0 ∷ 0 ∷ 0 ∷ 0 ∷ 0 ∷ 0 ∷ 0 ∷ 0 ∷ 0 ∷ 0 ∷ 0 ∷ 0 ∷ 0 ∷ 5 ∷ 0 ∷ 3 ∷ 0 ∷ 0 ∷ 0 ∷ 0x42 ∷ 0 ∷ 0 ∷ 0 ∷ 1 ∷ []) ∷ outs.Made (8 ∷ 0xA5 ∷ 0xC0 ∷ 0 ∷ 0 ∷ 0x0D ∷ 0 ∷ 0 ∷ 3 ∷ 0xE8 ∷ 0 ∷ 0 ∷ 0 ∷ 1 ∷ 0 ∷ 1 ∷ 0 ∷ 0 ∷ 0 ∷ 0 ∷ []) ∷ outs.Made (8 ∷ 8 ∷ 0xC0 ∷ 0 ∷ 0 ∷ 0x25 ∷ 0 ∷ 0 ∷ 3 ∷ 0xE8 ∷ 0 ∷ 0 ∷ 0x43 ∷ 0x53 ∷ 0 ∷ 0 ∷ 0 ∷ 0 ∷ 0 ∷ 0 ∷ 0 ∷ 0 ∷ 0 ∷ 0 ∷ 0 ∷ 0 ∷ 0 ∷ 0 ∷ 0 ∷ 0 ∷ 0 ∷ 0 ∷ 0 ∷ 0x18 ∷ 0 ∷ 2 ∷ 0 ∷ 0 ∷ 0 ∷ 0x42 ∷ 0 ∷ 0 ∷ 0 ∷ 1 ∷ []) ∷ outs.Made (8 ∷ 0xA4 ∷ 0xC0 ∷ 0 ∷ 0 ∷ 0x11 ∷ 0 ∷ 0 ∷ 3 ∷ 0xE8 ∷ 0 ∷ 0 ∷ 2 ∷ 1 ∷ 5 ∷ 0 ∷ 0 ∷ 0 ∷ 0 ∷ 0 ∷ 0 ∷ 0 ∷ 0 ∷ 0 ∷ []) ∷ [] }
     ensures miscompare { cs_items (pair_of blank_segments three_bytes) (Woken (wakeup 0 [] 2) ∷ []) (wakeup 1 [] 7) ≡ outs.Made (8 ∷ 8 ∷ 0xC0 ∷ 0 ∷ 0 ∷ 0x25 ∷ 0 ∷ 0 ∷ 3 ∷ 0xE9 ∷ 0 ∷ 0 ∷ 0x43 ∷ 0x53 ∷ 0 ∷ 0 ∷ 0 ∷ 0 ∷ 0 ∷ 0 ∷ 0 ∷ 0 ∷ 0 ∷ 0 ∷ 0 ∷ 0 ∷ 0 ∷ 0 ∷ 0 ∷ 0 ∷ 0 ∷ 0 ∷ 0 ∷ 0x65 ∷ 0 ∷ 3 ∷ 0 ∷ 0 ∷ 0 ∷ 0x42 ∷ 0 ∷ 0 ∷ 0 ∷ 1 ∷ []) ∷ [] }
+{}
+
+/// An activation in the middle of a pass: the entry is read from its first byte on. One of the other table leaves the pass as it is, and so
+/// does one before it began.
+pub fn activations_begin_passes()
+    ensures alone { begins_of (pair_of blank_segments long_entry) (at 0 ∷ at 1 ∷ at 2 ∷ at 3 ∷ []) ≡ 0 ∷ 1024 ∷ 2048 ∷ 0 ∷ [] }
+    ensures middle { begins_of (pair_of blank_segments long_entry) (at 0 ∷ at 1 ∷ active 2 long_entry ∷ at 2 ∷ at 3 ∷ at 4 ∷ at 5 ∷ []) ≡ 0 ∷ 1024 ∷ 0 ∷ 1024 ∷ 2048 ∷ 0 ∷ [] }
+    ensures last { begins_of (pair_of blank_segments long_entry) (at 0 ∷ at 1 ∷ at 2 ∷ active 2 long_entry ∷ at 3 ∷ at 4 ∷ []) ≡ 0 ∷ 1024 ∷ 2048 ∷ 0 ∷ 1024 ∷ [] }
+    ensures other { begins_of (pair_of blank_segments long_entry) (at 0 ∷ at 1 ∷ active 1 blank_segments ∷ at 2 ∷ at 3 ∷ []) ≡ 0 ∷ 1024 ∷ 2048 ∷ 0 ∷ [] }
+    ensures before_all { begins_of (pair_of blank_segments blank_segments) (active 2 long_entry ∷ at 0 ∷ at 1 ∷ []) ≡ 0 ∷ 1024 ∷ [] }
+    ensures first_table { begins_of (pair_of long_entry blank_segments) (at 0 ∷ active 1 long_entry ∷ at 1 ∷ active 2 long_entry ∷ at 2 ∷ []) ≡ 0 ∷ 0 ∷ 1024 ∷ [] }
+    ensures none { begins_of (pair_of blank_segments long_entry) (at 0 ∷ active 2 blank_segments ∷ at 1 ∷ []) ≡ 0 ∷ [] }
+{}
+
+/// An activation behind a baseline: the next whole pass is the baseline, and what differs from it is told. One of the other table forgets
+/// nothing. The counts stay.
+pub fn activations_forget_baselines()
+    ensures kept { sent_along (pair_of blank_segments three_bytes) (at 0 ∷ woken 1 [] 7 ∷ woken 2 [] 7 ∷ []) ≡ [] ∷ (cs_event 101 3 0xE9 ∷ []) ∷ (cs_event 101 3 0xEA ∷ []) ∷ [] }
+    ensures forgotten { sent_along (pair_of blank_segments three_bytes) (at 0 ∷ woken 1 [] 7 ∷ active 2 three_bytes ∷ woken 2 [] 7 ∷ at 3 ∷ woken 4 [] 7 ∷ []) ≡ [] ∷ (cs_event 101 3 0xE9 ∷ []) ∷ [] ∷ [] ∷ (cs_event 101 3 0xEB ∷ []) ∷ [] ∷ [] }
+    ensures other { sent_along (pair_of blank_segments three_bytes) (at 0 ∷ active 1 blank_segments ∷ woken 1 [] 7 ∷ []) ≡ [] ∷ [] ∷ (cs_event 101 3 0xE9 ∷ []) ∷ [] }
+    ensures twice { sent_along (pair_of blank_segments three_bytes) (at 0 ∷ active 2 three_bytes ∷ woken 1 [] 7 ∷ active 2 three_bytes ∷ at 2 ∷ []) ≡ [] ∷ [] ∷ [] ∷ [] ∷ [] ∷ [] }
+    ensures counted { sent_along (pair_of blank_segments three_bytes) (at 0 ∷ woken 1 [] 7 ∷ active 2 three_bytes ∷ woken 2 (request ∷ []) 7 ∷ woken 3 (request ∷ []) 7 ∷ []) ≡ [] ∷ (cs_event 101 3 0xE9 ∷ []) ∷ [] ∷ (shown 0xEA 1 2 ∷ []) ∷ (shown 0xEB 1 3 ∷ []) ∷ [] }
+{}
+
+/// An activation behind commands: the entries are on by their state in the table, whatever was switched before. A later command counts, and
+/// tables and CS stay as they were switched. Refusals go by the table in force.
+pub fn activations_switch_entries()
+    ensures off { begins_of (pair_of blank_segments three_bytes) (at 0 ∷ woken 1 (entry_off ∷ []) 2 ∷ at 2 ∷ []) ≡ 0 ∷ [] }
+    ensures on_again { begins_of (pair_of blank_segments three_bytes) (at 0 ∷ woken 1 (entry_off ∷ []) 2 ∷ active 2 three_bytes ∷ at 2 ∷ []) ≡ 0 ∷ 0 ∷ [] }
+    ensures off_again { begins_of (pair_of blank_segments (three_with 2)) (woken 0 (entry_on ∷ []) 2 ∷ active 2 (three_with 2) ∷ at 1 ∷ []) ≡ 0 ∷ [] }
+    ensures later { begins_of (pair_of blank_segments three_bytes) (at 0 ∷ active 2 (three_with 2) ∷ woken 1 (entry_on ∷ []) 2 ∷ []) ≡ 0 ∷ 0 ∷ [] }
+    ensures other { begins_of (pair_of blank_segments three_bytes) (woken 0 (entry_off ∷ []) 2 ∷ active 1 blank_segments ∷ at 1 ∷ []) ≡ [] }
+    ensures table_stays { begins_of (pair_of blank_segments three_bytes) (woken 0 (table_off ∷ []) 2 ∷ active 2 three_bytes ∷ at 1 ∷ []) ≡ [] }
+    ensures whole_stays { begins_of (pair_of blank_segments three_bytes) (woken 0 (whole_off ∷ []) 2 ∷ active 2 three_bytes ∷ at 1 ∷ []) ≡ [] }
+    ensures refused { sent_along (pair_of blank_segments three_bytes) (woken 0 (entry_off ∷ []) 2 ∷ active 2 blank_segments ∷ woken 1 (entry_off ∷ []) 2 ∷ []) ≡ (cs_event 23 2 0xE8 ∷ []) ∷ [] ∷ (cs_event 6 3 0xE9 ∷ []) ∷ [] }
+{}
+
+/// Once a table became active, no entry of it has a baseline, its next slice begins at its first byte, and it is on by its state in the
+/// table. The next wakeup tells no miscompare of it.
+pub fn tables_are_forgotten()
+    ensures baseline { (tables : TablePair) (history : List CsEntry) (a : Activation) (place : ℕ) → a.number ≡ table_of place → baseline_at place (happened_of tables (history ++ Activated a ∷ [])) ≡ None }
+    ensures pass { (tables : TablePair) (history : List CsEntry) (a : Activation) (place : ℕ) → a.number ≡ table_of place
+        → offset_at place (slices_among (happened_of tables (history ++ Activated a ∷ []))) (since_slice (happened_of tables (history ++ Activated a ∷ []))) ≡ 0 }
+    ensures entry { (tables : TablePair) (history : List CsEntry) (a : Activation) (place : ℕ) → a.number ≡ table_of place
+        → is_entry_on (tables_after tables (history ++ Activated a ∷ [])) place (orders_since (table_of place) (happened_of tables (history ++ Activated a ∷ []))) ≡ (entry_in (tables_after tables (history ++ Activated a ∷ [])) place).state == 1 }
+    ensures untold { (tables : TablePair) (history : List CsEntry) (a : Activation) (input : Input) (s : Slice) → slice_at tables (history ++ Activated a ∷ []) input ≡ Some s → a.number ≡ table_of s.place
+        → list_any tells_miscompare (cs_items tables (history ++ Activated a ∷ []) input) ≡ false }
+{}
+
+/// The other table keeps all this, and the counts of miscompares and of whole passes stay.
+pub fn other_tables_are_kept()
+    ensures baseline { (tables : TablePair) (history : List CsEntry) (a : Activation) (place : ℕ) → a.number ≢ table_of place → baseline_at place (happened_of tables (history ++ Activated a ∷ [])) ≡ baseline_at place (happened_of tables history) }
+    ensures pass { (tables : TablePair) (history : List CsEntry) (a : Activation) (place : ℕ) → a.number ≢ table_of place
+        → offset_at place (slices_among (happened_of tables (history ++ Activated a ∷ []))) (since_slice (happened_of tables (history ++ Activated a ∷ []))) ≡ offset_at place (slices_among (happened_of tables history)) (since_slice (happened_of tables history)) }
+    ensures entry { (tables : TablePair) (history : List CsEntry) (a : Activation) (place : ℕ) → a.number ≢ table_of place → place < 32
+        → is_entry_on (tables_after tables (history ++ Activated a ∷ [])) place (orders_since (table_of place) (happened_of tables (history ++ Activated a ∷ []))) ≡ is_entry_on (tables_after tables history) place (orders_since (table_of place) (happened_of tables history)) }
+    ensures miscompares { (tables : TablePair) (history : List CsEntry) (a : Activation) (table : ℕ) → miscompare_count table (happened_of tables (history ++ Activated a ∷ [])) ≡ miscompare_count table (happened_of tables history) }
+    ensures passes { (tables : TablePair) (history : List CsEntry) (a : Activation) → pass_count (slices_among (happened_of tables (history ++ Activated a ∷ []))) ≡ pass_count (slices_among (happened_of tables history)) }
 {}
 
 /// The event of a miscompare stands among the items of a wakeup exactly where the wakeup's slice ends at its entry's end, the entry has a

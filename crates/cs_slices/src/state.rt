@@ -73,8 +73,7 @@ impl Cs {
         ensures stands { (tables : TablePair) (history : List CsEntry) → Stands tables history self.old
             → Stands tables (history ++ Activated (activation_of table (table_named table (pair_of eeprom.now memory.now))) ∷ []) self.new }
     {
-        self.course
-            .renew(table, table_named(eeprom, memory, table));
+        self.course.renew(table, table_named(eeprom, memory, table));
     }
 
     /// Whether a wakeup with these packets does nothing.

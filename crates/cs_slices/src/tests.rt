@@ -147,6 +147,71 @@ fn byte_changed_behind_its_slice(rt: HostRuntime) -> Result<(), Fail> {
     Ok(())
 }
 
+/// A table that becomes active forgets its baseline, so the byte that had changed belongs to the next one, and a pass that has begun.
+#[test]
+fn activated_table_begins_anew(rt: HostRuntime) -> Result<(), Fail> {
+    let map = Map::new(&REGIONS)?;
+    let eeprom = Segments::blank();
+    let memory = one_entry(1, 1, 0x10000, 2500)?;
+    assert!(rt; is_given(&map, &eeprom));
+    assert!(rt; is_given(&map, &memory));
+    let request = command(0x18A0, 0, &[]);
+    let mut out = Outbox::open(rt.alloc(), 33)?;
+    let mut ram = Ram::new(rt.alloc(), map)?;
+    ram.upset(0x10001, 1);
+    let cs = Cs::start(&eeprom, &memory);
+    let cs = quiet(&rt, cs, &eeprom, &memory, &ram, 5, &mut out);
+    ram.upset(0x10834, 1);
+    let mut cs = frame(cs, &eeprom, &memory, &ram, &[], 1005, &mut out);
+    assert_eq!(rt; out.items(), [made_event(101, 3, 1005)].as_slice());
+    cs.activate(&eeprom, &memory, 2);
+    let mut cs = quiet(&rt, cs, &eeprom, &memory, &ram, 2, &mut out);
+    cs.activate(&eeprom, &memory, 2);
+    cs.activate(&eeprom, &memory, 1);
+    let cs = quiet(&rt, cs, &eeprom, &memory, &ram, 2, &mut out);
+    let cs = frame(cs, &eeprom, &memory, &ram, &[request], 1010, &mut out);
+    assert_eq!(rt;
+        out.items(),
+        [housekeeping(1010, [0, 0], 7, 1, 2)].as_slice()
+    );
+    let cs = frame(cs, &eeprom, &memory, &ram, &[request], 1011, &mut out);
+    assert_eq!(rt;
+        out.items(),
+        [housekeeping(1011, [0, 0], 7, 1, 3)].as_slice()
+    );
+    ram.upset(0x10834, 0);
+    let cs = quiet(&rt, cs, &eeprom, &memory, &ram, 1, &mut out);
+    let _ = frame(cs, &eeprom, &memory, &ram, &[], 1013, &mut out);
+    assert_eq!(rt; out.items(), [made_event(101, 3, 1013)].as_slice());
+    Ok(())
+}
+
+/// An entry that was switched off is on once its table became active again, and one that the new table has disabled is off.
+#[test]
+fn activated_entries_are_on_by_their_state(rt: HostRuntime) -> Result<(), Fail> {
+    let map = Map::new(&REGIONS)?;
+    let eeprom = one_entry(16, 1, 0x10000, 4)?;
+    let disabled = one_entry(16, 2, 0x10000, 4)?;
+    let memory = Segments::blank();
+    assert!(rt; is_given(&map, &eeprom));
+    assert!(rt; is_given(&map, &disabled));
+    assert!(rt; is_given(&map, &memory));
+    let off = command(CS, 7, &[0, 1, 0, 16]);
+    let mut out = Outbox::open(rt.alloc(), 33)?;
+    let ram = Ram::new(rt.alloc(), map)?;
+    let cs = Cs::start(&eeprom, &memory);
+    assert!(rt; !cs.is_idle(&[]));
+    let mut cs = frame(cs, &eeprom, &memory, &ram, &[off], 1001, &mut out);
+    assert!(rt; cs.is_idle(&[]));
+    cs.activate(&eeprom, &memory, 2);
+    assert!(rt; cs.is_idle(&[]));
+    cs.activate(&eeprom, &memory, 1);
+    assert!(rt; !cs.is_idle(&[]));
+    cs.activate(&disabled, &memory, 1);
+    assert!(rt; cs.is_idle(&[]));
+    Ok(())
+}
+
 fn housekeeping(now: u32, counts: [u8; 2], flags: u8, memory: u8, passes: u8) -> Out {
     let [accepted, errors] = counts;
     Out::Made(telemetry(
@@ -376,5 +441,10 @@ fn definitions_give_the_rows() {
     laws::flag_rows();
     laws::packet_rows();
     laws::wakeup_rows();
+    laws::activations_begin_passes();
+    laws::activations_forget_baselines();
+    laws::activations_switch_entries();
+    laws::tables_are_forgotten();
+    laws::other_tables_are_kept();
     laws::miscompares_are_told();
 }
