@@ -72,3 +72,21 @@ offset_follows place slices since some = elim (last_cases slices) [
     by_going earlier last is true going =
         let rest = not (list_any (breaks_off place) since) in
         (earlier, last, is, eqb-true last.place place (first_of_three (last.place == place) (not last.ends) rest going), sym (at earlier last true is going), second_of_three (last.place == place) last.ends rest going)
+
+-- and nothing broke its pass off since
+pub offset_unbroken : (place : ℕ) (slices : List Slice) (since : List Happening) → offset_at place slices since ≢ 0 → list_any (breaks_off place) since ≡ false
+offset_unbroken place slices since some = elim (last_cases slices) [
+  | inl none ↦ absurd (some (ap (λ (xs : List Slice). offset_at place xs since) none ∙ offset_none place since))
+  | inr found ↦ by_going found.0 found.1 found.2 (goes_on place since found.1) refl
+]
+  where
+    third_of_three : (a b c : Bool) → (a && b && not c) ≡ true → c ≡ false
+    third_of_three true true true h = cc
+    third_of_three true true false h = refl
+    third_of_three true false c h = cc
+    third_of_three false b c h = cc
+
+    by_going : (earlier : List Slice) (last : Slice) → slices ≡ earlier ++ last ∷ [] → (b : Bool) → goes_on place since last ≡ b → list_any (breaks_off place) since ≡ false
+    by_going earlier last is false going =
+        absurd (some (ap (λ (xs : List Slice). offset_at place xs since) is ∙ offset_more place earlier last since ∙ ap (λ (c : Bool). cond c last.till 0) going))
+    by_going earlier last is true going = third_of_three (last.place == place) (not last.ends) (list_any (breaks_off place) since) going

@@ -10,10 +10,10 @@ ghost use Rattle.commands.specs.Verdicts.{verdict_at};
 ghost use Rattle.commands.specs.declared.verdicts.Verdict.TheVariants.{Other, Request, Refused, Accepted};
 ghost use Rattle.memory_window.specs.Memory.{Memory};
 ghost use Rattle.cs_slices.specs.declared.instructions.Instruction.TheVariants.{Plain, Whole, Table, Entry, Report};
-ghost use Rattle.cs_slices.specs.Tables.{TablePair, pair_of, entry_in, segments_of, segments_fault_of, blank_segment, blank_segments};
+ghost use Rattle.cs_slices.specs.Tables.{TablePair, pair_of, with_table, entry_in, segments_of, segments_fault_of, blank_segment, blank_segments};
 ghost use Rattle.cs_slices.specs.Verdicts.{cs_protocol};
 ghost use Rattle.cs_slices.specs.Happenings.{Slice, Happening, slices_among, since_slice, orders_since, slices_since};
-ghost use Rattle.cs_slices.specs.Orders.{table_of, is_entry_on, takes_part};
+ghost use Rattle.cs_slices.specs.Orders.{table_of, is_entry_on, takes_part, breaks_off};
 ghost use Rattle.cs_slices.specs.Slices.{offset_at, next_slice};
 ghost use Rattle.cs_slices.specs.Passes.{pass_bytes, baseline_at, miscompare_count, pass_count};
 ghost use Rattle.cs_slices.specs.Wakeups.{Input};
@@ -40,7 +40,8 @@ pub fn table_rows()
 {}
 
 /// The next slice is of a place that takes part, and has 1,024 bytes at most. Where it doesn't begin at its entry's first byte it follows
-/// the last slice, which is of the same place and didn't end at the entry's end.
+/// the last slice, which is of the same place and didn't end at the entry's end, and since which neither was the place switched off nor did
+/// its table become active.
 pub fn slices_follow()
     ensures part { (tables : TablePair) (happened : List Happening) (image : Memory) (s : Slice) → next_slice tables happened image ≡ Some s
         → (takes_part tables happened s.place ≡ true) × (s.place < 32) }
@@ -48,6 +49,16 @@ pub fn slices_follow()
         → length s.bytes ≤ 1024 }
     ensures follow { (tables : TablePair) (happened : List Happening) (image : Memory) (s : Slice) → next_slice tables happened image ≡ Some s → s.from ≢ 0
         → (earlier : List Slice) × (last : Slice) × (slices_among happened ≡ earlier ++ last ∷ []) × (last.place ≡ s.place) × (last.till ≡ s.from) × (last.ends ≡ false) }
+    ensures unbroken { (tables : TablePair) (happened : List Happening) (image : Memory) (s : Slice) → next_slice tables happened image ≡ Some s → s.from ≢ 0
+        → list_any (breaks_off s.place) (since_slice happened) ≡ false }
+{}
+
+/// The tables in force are those of the beginning, with the table of each activation as the one of its number.
+#[tactic(auto, using(crate::proofs::Histories::tables_begun, crate::proofs::Histories::tables_woken, crate::proofs::Histories::tables_activated))]
+pub fn tables_are_those_activated()
+    ensures begun { (tables : TablePair) → tables_after tables [] ≡ tables }
+    ensures woken { (tables : TablePair) (history : List CsEntry) (input : Input) → tables_after tables (history ++ Woken input ∷ []) ≡ tables_after tables history }
+    ensures activated { (tables : TablePair) (history : List CsEntry) (a : Activation) → tables_after tables (history ++ Activated a ∷ []) ≡ with_table a.number a.table (tables_after tables history) }
 {}
 
 /// A pass of three bytes a wakeup: the first is the baseline, and a byte that has changed is a miscompare in each later

@@ -434,6 +434,7 @@ fn refused_ranges(rt: HostRuntime) -> Result<(), Fail> {
 fn definitions_give_the_rows() {
     laws::blank_table();
     laws::slices_follow();
+    laws::tables_are_those_activated();
     laws::miscompare_rows();
     laws::table_rows();
     laws::command_rows();
