@@ -1,21 +1,24 @@
 -- A state behind the activation of a sequence that doesn't run.
-use Rattle.std.proofs.Common.{◌≡◌, ℕ, ◌<◌, false, List, [], ◌∷◌, ◌++◌, length, set, Some, inl, inr, refl, sym, ap, subst, ◌∙◌, arith}
+use Rattle.std.proofs.Common.{◌≡◌, ℕ, ◌+◌, ◌<◌, true, false, List, [], ◌∷◌, ◌++◌, length, drop, set, Option, Some, None, inl, inr, refl, sym, ap, subst, ◌∙◌, arith}
+use Rattle.std.specs.Prelude.{option_map}
 use Rattle.std.proofs.lemmas.Bool.{cases_eq}
 use Rattle.std.proofs.lemmas.List.{length-set, get_or-set_same, get_or-set_other, get_or-map}
 use Rattle.histories.specs.Entries.Entry.{Activated}
 use Rattle.commands.specs.Counting.{counts_of}
 use Rattle.commands.proofs.Heard.{heard_idle}
+use Rattle.table_files.specs.declared.kinds.TableKind.{TableKind}
 use Rattle.sc_tables.specs.Commands.{TimedCommand, commands_in}
 use Rattle.sc_sequences.specs.Sequences.{Sequence, waiting, has_some, is_running, at_place, first_time, tables_of}
 use Rattle.sc_sequences.specs.Verdicts.{sc_protocol}
 use Rattle.sc_sequences.specs.Turns.{Sequences}
-use Rattle.sc_sequences.specs.Histories.{ScEntry, Beginning, Activation, with_loaded, basis_in, packets_in, sequences_of}
+use Rattle.sc_sequences.specs.Histories.{ScEntry, Beginning, Activation, activation_at, with_loaded, basis_in, packets_in, sequences_of, tables_after}
 use Rattle.sc_sequences.specs.Step.{sc_heard}
 use Rattle.sc_sequences.specs.Cursors.{cursor_in}
-use Rattle.sc_sequences.specs.State.{CursorStands, CursorsStand, SequencerStands, Stands}
+use Rattle.sc_sequences.specs.State.{CursorStands, CursorsStand, SequencerStands, Stands, IsReady, place_of, runs_in, activation_of}
 use Rattle.sc_sequences.specs.declared.cursors.Cursor.{Cursor}
 use Rattle.sc_sequences.specs.declared.state.Sc.{Sc}
 use Rattle.sc_sequences.proofs.Waking.{sequences_more}
+use Rattle.sc_sequences.proofs.Loaded.{tables_activated}
 
 -- what is loaded in a place
 loaded_at : (all : List Sequence) (k : ℕ) → k < length all → commands_in (tables_of all) k ≡ (at_place all k).loaded
@@ -72,3 +75,43 @@ activated_stands begin history a sc rests stood =
           subst (λ (m : Sequences). SequencerStands (tables_of m.all) m sc.sequencer) (sym (sequences_more begin history (Activated a)))
           (record { cursors = all_reloaded s.all sc.sequencer.cursors a.place a.commands rests stood.sequencer.cursors; sent = stood.sequencer.sent; wrong = stood.sequencer.wrong });
     }
+
+-- the same by the kind of the sequence
+pub kind_activated : (begin : Beginning) (history : List ScEntry) (kind : TableKind) (tables : List (List TimedCommand)) (a : Activation) (sc : Sc) → activation_of kind tables ≡ Some a
+    → runs_in (sequences_of begin history).all (place_of kind) ≡ false → Stands begin history sc → Stands begin (history ++ Activated a ∷ []) sc
+kind_activated begin history kind tables a sc is rests stood = by_place (place_of kind) is rests
+  where
+    same : (x : Activation) → ◌≡◌ {A = Option Activation} (Some x) (Some a) → x ≡ a
+    same x e = cc
+
+    by_place : (o : Option ℕ) → option_map (λ (place : ℕ). activation_at place (commands_in tables place)) o ≡ Some a → runs_in (sequences_of begin history).all o ≡ false → Stands begin (history ++ Activated a ∷ []) sc
+    by_place None is rests = cc
+    by_place (Some place) is rests =
+        let x = activation_at place (commands_in tables place) in
+        subst (λ (y : Activation). Stands begin (history ++ Activated y ∷ []) sc) (same x is) (activated_stands begin history x sc rests stood)
+
+-- it can take a wakeup on the tables with those commands
+pub activated_ready : (tables : List (List TimedCommand)) (place : ℕ) (commands : List TimedCommand) (sc : Sc)
+    → ((begin : Beginning) (history : List ScEntry) → Stands begin history sc → is_running (at_place (sequences_of begin history).all place) ≡ false) → IsReady tables sc → IsReady (set tables place commands) sc
+activated_ready tables place commands sc rests ready =
+    let a = activation_at place commands in
+    record {
+      begin = ready.begin;
+      history = ready.history ++ Activated a ∷ [];
+      in_force = ap (λ (t : List (List TimedCommand)). set t place commands) ready.in_force ∙ sym (tables_activated ready.begin ready.history a);
+      stands = activated_stands ready.begin ready.history a sc (rests ready.begin ready.history ready.stands) ready.stands;
+    }
+
+-- what is left of a sequence that runs stands in the table in force
+timed : (base : ℕ) (left : List TimedCommand) → has_some left ≡ true → (t : ℕ) × (first_time base left ≡ Some t)
+timed base [] none = cc
+timed base (c ∷ left) some = (base + c.tag, refl)
+
+pub left_in_table : (begin : Beginning) (history : List ScEntry) (sc : Sc) (k : ℕ) → k < 66 → is_running (at_place (sequences_of begin history).all k) ≡ true → Stands begin history sc
+    → (at : ℕ) × (drop at (commands_in (tables_after begin history) k) ≡ (at_place (sequences_of begin history).all k).left)
+unfolding Stands
+left_in_table begin history sc k below runs stood =
+    let s = at_place (sequences_of begin history).all k in
+    let stands = stood.sequencer.cursors.each k below in
+    let time = timed s.base s.left runs in
+    ((cursor_in sc.sequencer.cursors k).at, stands.left time.0 (stands.next ∙ time.1))

@@ -25,6 +25,9 @@ pub record Activation : Type 0 where
   pub place : ℕ
   pub commands : List TimedCommand
 
+abbrev pub activation_at : ℕ → List TimedCommand → Activation
+activation_at place commands = record { place = place; commands = commands }
+
 -- An entry of a history is a wakeup with what is read in it, or an activation.
 abbrev pub ScEntry : Type 0
 ScEntry = Entry Input Activation

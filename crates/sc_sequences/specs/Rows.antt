@@ -64,6 +64,13 @@ begun tables = begun_at 1000 tables
 abbrev pub at_second : ℕ → List (List ℕ) → Input
 at_second second packets = input_of (1000 + second) packets
 
+-- tables whose first absolute sequence has a command two seconds behind the beginning, and the wakeup in which it is started
+abbrev pub one_in_first : List (List TimedCommand)
+one_in_first = with_ats 0 (timed 1002 mm_noop ∷ []) no_tables
+
+abbrev pub start_heard : ScEntry
+start_heard = Woken (at_second 0 (numbered 2 0x8E 1 ∷ []))
+
 -- what is sent in these wakeups, behind a history
 abbrev pub sent_behind : Beginning → List ScEntry → List Input → List (List Out)
 sent_behind begin history [] = []

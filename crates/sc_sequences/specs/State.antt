@@ -1,12 +1,12 @@
 -- When a state of Stored Command stands for what its history begins with and for its entries, and when it has nothing to do.
-use Rattle.std.specs.Prelude.{◌≡◌, ◌<◌, ℕ, ◌==◌, ◌%◌, Bool, false, not, ◌&&◌, List, length, drop, Option, Some, None, is_some}
+use Rattle.std.specs.Prelude.{◌≡◌, ◌<◌, ℕ, ◌==◌, ◌%◌, Bool, false, not, ◌&&◌, List, length, drop, Option, Some, None, option_map, is_some}
 use Rattle.commands.specs.Counting.{counts_of}
 use Rattle.table_files.specs.declared.kinds.TableKind.{TableKind}
 use Rattle.table_files.specs.declared.kinds.TableKind.TheVariants.{AppMon, EventMon, ExeCount, MsgActs, Ats, Rts, Dwell, Eeprom, Memory}
 use Rattle.sc_tables.specs.Commands.{TimedCommand, commands_in}
 use Rattle.sc_sequences.specs.Sequences.{Sequence, is_running, at_place, ats_place, rts_place, head_time}
 use Rattle.sc_sequences.specs.Turns.{Sequences, next_place}
-use Rattle.sc_sequences.specs.Histories.{ScEntry, Beginning, sequences_of, tables_after}
+use Rattle.sc_sequences.specs.Histories.{ScEntry, Beginning, Activation, activation_at, sequences_of, tables_after}
 use Rattle.sc_sequences.specs.Step.{sc_heard}
 use Rattle.sc_sequences.specs.Cursors.{cursor_in}
 use Rattle.sc_sequences.specs.declared.cursors.Cursor.{Cursor}
@@ -64,6 +64,11 @@ place_of (Dwell n) = None
 place_of Eeprom = None
 place_of Memory = None
 
+-- Whether the sequence of a kind runs that stands in this place.
 abbrev pub runs_in : List Sequence → Option ℕ → Bool
 runs_in all None = false
 runs_in all (Some place) = is_running (at_place all place)
+
+-- The activation of the sequence of a kind with its commands in these tables; none of a kind that isn't one.
+abbrev pub activation_of : TableKind → List (List TimedCommand) → Option Activation
+activation_of kind tables = option_map (λ place. activation_at place (commands_in tables place)) (place_of kind)

@@ -1,6 +1,6 @@
 //! What the definitions give in small cases, and the sentences that users rely on. The functions do nothing: their contracts are the
 //! laws. The rows' bytes are written by hand.
-ghost use Rattle.std.specs.Prelude.{◌≡◌, ◌<◌, ◌≤◌, ℕ, List, [], ◌∷◌, ◌++◌, length, replicate, filter_map, slice_set, Option, Some, None, true, false};
+ghost use Rattle.std.specs.Prelude.{◌≡◌, ◌<◌, ◌≤◌, ℕ, List, [], ◌∷◌, ◌++◌, length, drop, replicate, filter_map, slice_set, Option, Some, None, true, false};
 ghost use Rattle.std.specs.List.{All};
 ghost use Rattle.bus_pipes.specs.declared.names.Out.TheVariants.{Made, Stored};
 ghost use Rattle.histories.specs.Entries.Entry.{Woken, Activated};
@@ -8,16 +8,19 @@ ghost use Rattle.commands.specs.Verdicts.{verdict_at};
 ghost use Rattle.commands.specs.declared.verdicts.Verdict.TheVariants.{Other, Request, Refused, Accepted};
 ghost use Rattle.sc_sequences.specs.declared.instructions.Instruction.TheVariants.{Plain, StartAts, StopAts, StartRts, StopRts, DisableRts, EnableRts, SwitchAts, JumpAts};
 ghost use Rattle.sc_sequences.specs.Verdicts.{sc_protocol};
-ghost use Rattle.sc_sequences.specs.Histories.{Input, ScEntry, Beginning, Activation, input_of, begun_at, sequences_of, tables_after};
+ghost use Rattle.sc_sequences.specs.Histories.{Input, ScEntry, Beginning, Activation, activation_at, input_of, begun_at, sequences_of, tables_after};
 ghost use Rattle.sc_sequences.specs.Sequences.{Sequence, is_running, at_place, head_time};
 ghost use Rattle.sc_sequences.specs.Orders.{after_orders};
 ghost use Rattle.sc_sequences.specs.Turns.{Sequences, next_place, turns};
 ghost use Rattle.sc_sequences.specs.Laws.{departures, right_packet, stored_in, LeavesNoneBefore, AreTimed, AreTablesTimed, AreEntriesTimed, ComesFirst};
-ghost use Rattle.sc_sequences.specs.State.{Stands};
+ghost use Rattle.sc_sequences.specs.State.{Stands, IsReady, place_of, runs_in, activation_of};
+ghost use Rattle.table_files.specs.declared.kinds.TableKind.{TableKind};
+ghost use Rattle.table_files.specs.declared.kinds.TableKind.TheVariants.{Ats, Rts, Dwell};
+ghost use Rattle.sc_tables.specs.Commands.{TimedCommand, commands_in};
 ghost use Rattle.sc_sequences.specs.declared.state.Sc.{Sc};
 ghost use Rattle.sc_sequences.specs.declared.instructions.Instruction.{Instruction};
 ghost use Rattle.sc_sequences.specs.Housekeeping.{running_mask, enabled_mask, housekeeping_of};
-ghost use Rattle.sc_sequences.specs.Rows.{mm_noop, md_noop, cs_noop, bad_noop, bare, numbered, jump_to, request, told, timed, peek, no_tables, with_ats, with_rts, begun, at_second, all_running, waiting_one, at_any, sent_behind, sent_each_second};
+ghost use Rattle.sc_sequences.specs.Rows.{mm_noop, md_noop, cs_noop, bad_noop, bare, numbered, jump_to, request, told, timed, peek, no_tables, with_ats, with_rts, begun, at_second, all_running, waiting_one, at_any, one_in_first, start_heard, sent_behind, sent_each_second};
 
 /// At one time an absolute sequence goes before relative ones, and these by their numbers, in whatever order they were started.
 pub fn ats_leaves_before_rts()
@@ -187,10 +190,37 @@ pub fn left_behind_leaves_first()
         → head_time (at_place (after_orders later all orders) place) ≡ Some time → next_place later (after_orders later all orders) ≡ Some place }
 {}
 
-/// A state that stands for a history also stands for it with the activation of a sequence added that doesn't run.
-#[tactic(auto, using(crate::proofs::Activating::activated_stands))]
+/// A state that stands for a history also stands for it with the activation of a sequence added that doesn't run; so it does by the kind of
+/// the table. It can then take a wakeup on the tables with those commands.
+#[tactic(auto, using(crate::proofs::Activating::activated_stands, crate::proofs::Activating::kind_activated, crate::proofs::Activating::activated_ready))]
 pub fn activation_law()
-    ensures { (begin : Beginning) (history : List ScEntry) (a : Activation) (sc : Sc) → is_running (at_place (sequences_of begin history).all a.place) ≡ false → Stands begin history sc → Stands begin (history ++ Activated a ∷ []) sc }
+    ensures stands { (begin : Beginning) (history : List ScEntry) (a : Activation) (sc : Sc) → is_running (at_place (sequences_of begin history).all a.place) ≡ false → Stands begin history sc → Stands begin (history ++ Activated a ∷ []) sc }
+    ensures kind { (begin : Beginning) (history : List ScEntry) (kind : TableKind) (tables : List (List TimedCommand)) (a : Activation) (sc : Sc) → activation_of kind tables ≡ Some a
+        → runs_in (sequences_of begin history).all (place_of kind) ≡ false → Stands begin history sc → Stands begin (history ++ Activated a ∷ []) sc }
+    ensures ready { (tables : List (List TimedCommand)) (place : ℕ) (commands : List TimedCommand) (sc : Sc) → ((begin : Beginning) (history : List ScEntry) → Stands begin history sc → is_running (at_place (sequences_of begin history).all place) ≡ false)
+        → IsReady tables sc → IsReady (slice_set tables place commands) sc }
+{}
+
+/// Where a state stands for a history, what is left of each sequence that runs stands at the end of its commands in the tables in force: no
+/// sequence that runs was exchanged.
+#[tactic(auto, using(crate::proofs::Activating::left_in_table))]
+pub fn running_sequences_are_in_force()
+    ensures { (begin : Beginning) (history : List ScEntry) (sc : Sc) (place : ℕ) → place < 66 → is_running (at_place (sequences_of begin history).all place) ≡ true → Stands begin history sc
+        → (at : ℕ) × (drop at (commands_in (tables_after begin history) place) ≡ (at_place (sequences_of begin history).all place).left) }
+{}
+
+/// A sequence runs from its start until its last command left, and no other does; the first relative one from the start on.
+pub fn running_rows()
+    ensures before { runs_in (sequences_of (begun one_in_first) []).all (place_of (Ats 1)) ≡ false }
+    ensures started { runs_in (sequences_of (begun one_in_first) (start_heard ∷ [])).all (place_of (Ats 1)) ≡ true }
+    ensures waits { runs_in (sequences_of (begun one_in_first) (start_heard ∷ Woken (at_second 1 []) ∷ [])).all (place_of (Ats 1)) ≡ true }
+    ensures over { runs_in (sequences_of (begun one_in_first) (start_heard ∷ Woken (at_second 2 []) ∷ [])).all (place_of (Ats 1)) ≡ false }
+    ensures other { runs_in (sequences_of (begun one_in_first) (start_heard ∷ [])).all (place_of (Ats 2)) ≡ false }
+    ensures relative { runs_in (sequences_of (begun one_in_first) (start_heard ∷ [])).all (place_of (Rts 1)) ≡ false }
+    ensures first { runs_in (sequences_of (begun (with_rts 1 (timed 1 mm_noop ∷ []) no_tables)) []).all (place_of (Rts 1)) ≡ true }
+    ensures second { runs_in (sequences_of (begun (with_rts 1 (timed 1 mm_noop ∷ []) no_tables)) []).all (place_of (Rts 2)) ≡ false }
+    ensures none { place_of (Dwell 1) ≡ None }
+    ensures taken { activation_of (Rts 64) (with_rts 64 (timed 1 mm_noop ∷ []) no_tables) ≡ Some (activation_at 65 (timed 1 mm_noop ∷ [])) }
 {}
 
 /// The tables in force are those of the beginning, with the commands of each activation in its place.

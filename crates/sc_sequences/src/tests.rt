@@ -314,6 +314,8 @@ fn laws_hold() {
     laws::eight_leave_in_order();
     laws::left_behind_leaves_first();
     laws::activation_law();
+    laws::running_rows();
+    laws::running_sequences_are_in_force();
     laws::tables_are_those_activated();
     laws::sequences_stay_in_order();
 }
