@@ -71,7 +71,16 @@ module _ (happened : List Happening) (m : ℕ) where
   unfolding since_slice
   since_renewed = after_last_other is_read happened (Renewed m) refl
 
--- since a table last became active
+-- since a table last became active: nothing where it is the one that does
+since_renewal : {X : Type 0} (f : List Happening → List X) → f [] ≡ [] → ((happened : List Happening) (m : ℕ) → f (happened ++ Renewed m ∷ []) ≡ f happened) → (n m : ℕ) (happened : List Happening) (b : Bool) → eqb m n ≡ b
+    → f (after_last (renews n) (happened ++ Renewed m ∷ [])) ≡ cond b [] (f (after_last (renews n) happened))
+since_renewal f none other n m happened b is =
+    ap f (after_last_more (renews n) happened (Renewed m)) ∙ ap (λ (t : Bool). f (cond t [] (after_last (renews n) happened ++ Renewed m ∷ []))) is ∙ by_case b
+  where
+    by_case : (t : Bool) → f (cond t [] (after_last (renews n) happened ++ Renewed m ∷ [])) ≡ cond t [] (f (after_last (renews n) happened))
+    by_case true = none
+    by_case false = other (after_last (renews n) happened) m
+
 pub orders_since_ordered : (n : ℕ) (happened : List Happening) (order : Instruction) → orders_since n (happened ++ Ordered order ∷ []) ≡ orders_since n happened ++ order ∷ []
 unfolding orders_since
 orders_since_ordered n happened order = ap orders_among (after_last_other (renews n) happened (Ordered order) refl) ∙ orders_ordered (after_last (renews n) happened) order
@@ -82,14 +91,7 @@ orders_since_read n happened s = ap orders_among (after_last_other (renews n) ha
 
 pub orders_since_renewed : (n m : ℕ) (happened : List Happening) (b : Bool) → eqb m n ≡ b → orders_since n (happened ++ Renewed m ∷ []) ≡ cond b [] (orders_since n happened)
 unfolding orders_since
-orders_since_renewed n m happened b is =
-    ap orders_among (after_last_more (renews n) happened (Renewed m))
-    ∙ ap (λ (t : Bool). orders_among (cond t [] (after_last (renews n) happened ++ Renewed m ∷ []))) is
-    ∙ by_case b
-  where
-    by_case : (t : Bool) → orders_among (cond t [] (after_last (renews n) happened ++ Renewed m ∷ [])) ≡ cond t [] (orders_among (after_last (renews n) happened))
-    by_case true = orders_none
-    by_case false = orders_renewed (after_last (renews n) happened) m
+orders_since_renewed n m happened b is = since_renewal orders_among orders_none orders_renewed n m happened b is
 
 pub slices_since_ordered : (n : ℕ) (happened : List Happening) (order : Instruction) → slices_since n (happened ++ Ordered order ∷ []) ≡ slices_since n happened
 unfolding slices_since
@@ -101,11 +103,4 @@ slices_since_read n happened s = ap slices_among (after_last_other (renews n) ha
 
 pub slices_since_renewed : (n m : ℕ) (happened : List Happening) (b : Bool) → eqb m n ≡ b → slices_since n (happened ++ Renewed m ∷ []) ≡ cond b [] (slices_since n happened)
 unfolding slices_since
-slices_since_renewed n m happened b is =
-    ap slices_among (after_last_more (renews n) happened (Renewed m))
-    ∙ ap (λ (t : Bool). slices_among (cond t [] (after_last (renews n) happened ++ Renewed m ∷ []))) is
-    ∙ by_case b
-  where
-    by_case : (t : Bool) → slices_among (cond t [] (after_last (renews n) happened ++ Renewed m ∷ [])) ≡ cond t [] (slices_among (after_last (renews n) happened))
-    by_case true = slices_none
-    by_case false = slices_renewed (after_last (renews n) happened) m
+slices_since_renewed n m happened b is = since_renewal slices_among slices_none slices_renewed n m happened b is
