@@ -1,4 +1,4 @@
-use Rattle.std.proofs.Common.{◌≡◌, ◌<◌, length, arith}
+use Rattle.std.proofs.Common.{◌<◌, length, arith}
 use Rattle.bus_pipes.proofs.Places.{placed}
 use Rattle.bus_pipes.proofs.made.push_drop.Goals as goal
 
