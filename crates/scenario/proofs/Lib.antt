@@ -1,5 +1,6 @@
 pub mod WordsLemmas
 pub mod PairLemmas
+pub mod LaneLemmas
 pub mod LineLemmas
 pub mod StandingLemmas
 pub mod NextLemmas

@@ -1,6 +1,7 @@
 //! The text of a scenario: its lines, and the header and frames that they give.
 #![tactic(auto)]
 
+mod digit_lanes;
 mod digit_pairs;
 mod drill;
 mod frame;

@@ -1,9 +1,10 @@
 //! The words of a line, and what a word says.
-ghost use Rattle.std.specs.Prelude.{◌≡◌, ◌≤◌, ◌<◌, ◌+◌, ◌*◌, ◌==◌, ◌∷◌, [], ℕ, Some, None, take, drop, length, not, option_map, MatchOption, IfSome, IsTrue, codes, nat_eq, ◌&&◌};
+ghost use Rattle.std.specs.Prelude.{◌≡◌, ◌≤◌, ◌<◌, ◌+◌, ◌*◌, ◌%◌, ◌==◌, ◌∷◌, [], ℕ, Some, None, take, drop, length, not, option_map, MatchOption, IfSome, IsTrue, codes, nat_eq, ◌&&◌};
 ghost use Rattle.std.specs.List.{position, position_or_len, list_all, starts_with};
 ghost use Rattle.std.specs.Char.{is_digit, digit_value};
 ghost use Rattle.scenario.specs.Words.{words, digits, any_number, number, hex, name_said, app_of, kind_of};
 
+use crate::digit_lanes::{HALF_LANES, LANES, place_pairs};
 use crate::digit_pairs::pair_value;
 use crate::frame::App;
 use memory_window::Kind;
@@ -138,6 +139,41 @@ pub(crate) fn number(most: u32, word: &[u8]) -> Option<u32>
 
 /// Writes the bytes that pairs of hexadecimal digits write into the first places, and answers how many they are.
 pub(crate) fn hex(word: &[u8], places: &mut [u8; PACKET_BYTES]) -> Option<usize>
+    requires { length word.now ≤ 2 * PACKET_BYTES }
+    ensures bytes { option_map (λ count. take count places.new) result ≡ hex word.now }
+    ensures few { IfSome result (λ count. count ≤ PACKET_BYTES) }
+{
+    if word.len() % 2 != 0 {
+        return None;
+    }
+    if word.len() < LANES {
+        return short_hex(word, places);
+    }
+    long_hex(word, places)
+}
+
+/// The same of at least eight pairs, eight at once. The last eight may be read in part before.
+fn long_hex(word: &[u8], places: &mut [u8; PACKET_BYTES]) -> Option<usize>
+    requires even { length word.now % 2 ≡ 0 }
+    requires long { LANES ≤ length word.now }
+    requires short { length word.now ≤ 2 * PACKET_BYTES }
+    ensures bytes { option_map (λ count. take count places.new) result ≡ hex word.now }
+    ensures few { IfSome result (λ count. count ≤ PACKET_BYTES) }
+{
+    let count = word.len() / 2;
+    'eights: for k in 0..(count - 1) / HALF_LANES {
+        if !place_pairs(word, HALF_LANES * k, places) {
+            return None;
+        }
+    }
+    if !place_pairs(word, count - HALF_LANES, places) {
+        return None;
+    }
+    Some(count)
+}
+
+/// The same, one pair after another.
+fn short_hex(word: &[u8], places: &mut [u8; PACKET_BYTES]) -> Option<usize>
     requires { length word.now ≤ 2 * PACKET_BYTES }
     ensures bytes { option_map (λ count. take count places.new) result ≡ hex word.now }
     ensures few { IfSome result (λ count. count ≤ PACKET_BYTES) }

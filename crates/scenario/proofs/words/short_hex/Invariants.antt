@@ -1,6 +1,6 @@
 use Rattle.std.proofs.Common.{◌≡◌, length, take}
 use Rattle.scenario.proofs.WordsLemmas.{IsRead}
-use Rattle.scenario.proofs.words.hex.Given as goal
+use Rattle.scenario.proofs.words.short_hex.Given as goal
 
 abbrev pub invariant-pairs : goal.invariant-pairs
 invariant-pairs l = record {
