@@ -168,6 +168,63 @@ def standby():
     )
 
 
+def anew():
+    return Example(
+        "reset",
+        "Nobody counts for LOAD, so its monitor asks for a processor reset in each second check, in frames 1 and 3. "
+        "The no-op that is sent in frame 1 is lost with all that waits in the pipes, and the byte that was poked in that frame stays. "
+        "Behind each reset the monitor's watch begins anew, and relative sequence 1 is started again: its command leaves in the second frame, is lost beside the reset of frame 3, and is answered in frame 6, since the maximum of one reset more was reached.",
+        [
+            "# LOAD never counts. At most two resets are made.",
+            f"epoch {EPOCH}",
+            RAM,
+            "start",
+            send(hs_max_resets(2)),
+            send(mm_poke(8, 0x1010, 0xAB)),
+            "tick",
+            "",
+            "# Frame 1: the first reset. The no-op is lost.",
+            send(no_op(MM)),
+            "tick",
+            "",
+            "# Frame 2: the byte is asked for.",
+            send(mm_peek(8, 0x1010)),
+            "tick",
+            "",
+            "# Frame 3: it is shown, beside the second reset.",
+            "tick",
+            "tick",
+            "",
+            "# Frame 5: no more resets are made.",
+            "tick",
+            "tick",
+            "end",
+        ],
+        [
+            event(1, "HS", 0, 25, 2),
+            event(1, "HS", 1, 101, 3),
+            reset(1),
+            stored(1, no_op(MM)),
+            event(1, "SC", 2, 104, 2),
+            event(1, "MM", 3, 19, 2),
+            event(3, "HS", 4, 101, 3),
+            reset(3),
+            stored(3, no_op(MM)),
+            event(3, "SC", 5, 104, 2),
+            peek_packet(3, 0, 8, 0x1010, 0xAB),
+            event(3, "MM", 6, 18, 2),
+            event(5, "HS", 7, 105, 3),
+            stored(5, no_op(MM)),
+            event(5, "SC", 8, 104, 2),
+            event(6, "MM", 9, 16, 2),
+        ],
+        {
+            "apps.table": apps_table({1: ("LOAD", 2, 1)}),
+            "rts1.table": rts_table(1, [(1, no_op(MM))]),
+        },
+    )
+
+
 def dwell():
     return Example(
         "dwell",
@@ -673,4 +730,4 @@ def commands():
     )
 
 
-EXAMPLES = [first(), health(), standby(), dwell(), checksum(), sequences(), sequence_mistake(), eeprom(), loads(), held(), refused_file(), refused_scenario(), commands()]
+EXAMPLES = [first(), health(), standby(), anew(), dwell(), checksum(), sequences(), sequence_mistake(), eeprom(), loads(), held(), refused_file(), refused_scenario(), commands()]

@@ -27,6 +27,11 @@ def stored(frame, sent):
     return f"{frame} pkt {sent.hex().upper()}"
 
 
+def reset(frame):
+    """The line of a request for a processor reset."""
+    return f"{frame} reset"
+
+
 def restart(frame, name):
     return f"{frame} restart {name}"
 

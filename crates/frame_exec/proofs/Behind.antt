@@ -31,7 +31,7 @@ has_beside b block room jobs told s has = record {
 }
 
 pub ready_beside : (b : Bench) (block : Waiting) (room : b.drops.room ≡ DROPS) (jobs : b.crew.jobs ≡ 5) (told : b.activations.room ≡ ACTIVATIONS) → IsReady b → IsReady (record b { block = block; drops_room = room; five = jobs; activations_room = told })
-ready_beside b block room jobs told ready = record { cs = ready.cs; sc = ready.sc; md = ready.md; given = ready.given }
+ready_beside b block room jobs told ready = record { sc = ready.sc; md = ready.md; given = ready.given }
 
 -- a bench whose block is empty stands for all frames as earlier ones
 pub begins_behind : (b : Bench) (setup : Setup) (frames : List Frame) → b.epoch ≡ setup.epoch → b.tables.files ≡ setup.files → has_failed b ≡ false → Has b (run_of setup frames) → IsReady b → b.block ≡ empty_block → Follows b setup frames []

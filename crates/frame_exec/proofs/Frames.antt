@@ -1,5 +1,5 @@
 -- A run at one more frame.
-use Rattle.std.proofs.Common.{◌≡◌, ℕ, ◌+◌, ◌<◌, List, [], ◌∷◌, ◌++◌, length, refl, sym, ◌∙◌, ap, subst, fold, arith, add-zero, zero-add, true, false, Bool, if◌then◌else◌, All, Box, Global, Option, Some, None}
+use Rattle.std.proofs.Common.{◌≡◌, ℕ, ◌+◌, ◌<◌, List, [], ◌∷◌, ◌++◌, length, refl, sym, ◌∙◌, ap, subst, fold, arith, add-zero, zero-add, true, false, Bool, All, Box, Global, Option, Some, None}
 use Rattle.std.specs.List.{flat_map}
 use Rattle.std.proofs.lemmas.List.Sums.{fold_push}
 use Rattle.bus_pipes.specs.Pipes.{empty_pipes}
@@ -8,7 +8,9 @@ use Rattle.bus_pipes.specs.declared.names.Out.{Out}
 use Rattle.bus_pipes.specs.declared.names.Dropped.{Dropped}
 use Rattle.table_files.specs.Files.{file_at, kind_at, loads_of}
 use Rattle.table_files.specs.declared.kinds.TableKind.{TableKind}
-use Rattle.frame_exec.specs.Activations.{can_activate}
+use Rattle.frame_exec.specs.Activations.{naming_of}
+use Rattle.frame_exec.specs.declared.activations.Naming.{Naming}
+use Rattle.frame_exec.specs.declared.activations.Naming.TheVariants.{Accepted, Refused, Running}
 use Rattle.memory_window.specs.Regions.{is_mapped}
 use Rattle.memory_window.specs.Memory.{Memory, regions_of, start_memory}
 use Rattle.memory_window.specs.declared.regions.Region.{Region}
@@ -22,21 +24,26 @@ use Rattle.packet_log.specs.Standing.{Stands as LogStands}
 use Rattle.scenario.specs.declared.frame.Upset.{Upset}
 use Rattle.scenario.specs.FrameLists.{Frame}
 use Rattle.frame_exec.specs.declared.bench.Bench.{Bench}
+use Rattle.hs_monitors.specs.Histories.{setup_of}
+use Rattle.hs_monitors.specs.State.{Stands as HsStands}
 use Rattle.hs_monitors.specs.Step.{resets_made, resets_maximum}
 use Rattle.hs_monitors.specs.declared.state.Hs.{Hs}
+use Rattle.mm_core.specs.State.{Stands as MmStands}
 use Rattle.mm_core.specs.declared.state.Mm.{Mm}
 use Rattle.sc_sequences.specs.Histories.{begun_at}
-use Rattle.sc_sequences.specs.State.{IsReady as ScIsReady}
+use Rattle.sc_sequences.specs.State.{Stands as ScStands, IsReady as ScIsReady}
 use Rattle.sc_sequences.specs.declared.state.Sc.{Sc}
+use Rattle.sc_sequences.proofs.Loaded.{tables_begun as sc_begun}
+use Rattle.cs_slices.specs.State.{Stands as CsStands}
 use Rattle.cs_slices.specs.declared.state.Cs.{Cs}
-use Rattle.cs_slices.specs.declared.segments.Segment.{Segment}
+use Rattle.cs_slices.proofs.Histories.{tables_begun as cs_begun}
 use Rattle.md_dwell.specs.declared.state.Md.{Md}
 use Rattle.md_dwell.specs.State.{Stands as MdStands, AllGiven}
 use Rattle.frame_exec.specs.Tables.{TableSet, Loaded, AreGiven, with_file, tables_of}
-use Rattle.frame_exec.specs.Ready.{CsIsReady}
-use Rattle.frame_exec.specs.Applications.{hs_setup, hs_stands, cs_stands, sc_stands, mm_stands, md_stands}
+use Rattle.frame_exec.specs.Applications.{cs_tables, hs_setup, hs_stands, cs_stands, sc_stands, mm_stands, md_stands}
+use Rattle.frame_exec.proofs.Health.{tables_begun as hs_begun}
 use Rattle.frame_exec.specs.Sending.{upset_by}
-use Rattle.frame_exec.specs.Runs.{Setup, State, time_at, active_in, beginning, with_active, after_naming, after_activation, activated_at, after_wakeups, sc_begun, image_at, left_by, sent_at, offers_at, after_frame, run_of, frame_lines, lines_at, operations_at, resets_at, behind_reset, behind}
+use Rattle.frame_exec.specs.Runs.{Setup, State, time_at, active_in, beginning, runs_at, with_active, after_line, after_naming, after_activation, activated_at, after_wakeups, image_at, left_by, sent_at, offers_at, after_frame, run_of, frame_lines, lines_at, operations_at, resets_at, behind_reset, behind}
 use Rattle.frame_exec.specs.Standing.{AppsStand, Has, IsReady, Stands, CanRun}
 use Rattle.frame_exec.specs.Landable.{CanLand}
 use Rattle.frame_exec.specs.Stages.{KeepsApps, RunsIn, IsSameFrame, Lands, StartsAnew, loads_in}
@@ -52,24 +59,28 @@ unfolding run_of
 run_none setup = refl
 
 -- what a line that names a file keeps, where a table that becomes active does
+line_keeps : {B : Type 0} (f : State → B) (s : State) (kind : TableKind) (tables : TableSet) (naming : Naming) → f (with_active s kind tables) ≡ f s → f (after_line naming s kind tables) ≡ f s
+line_keeps f s kind tables Accepted keeps = keeps
+line_keeps f s kind tables Refused keeps = refl
+line_keeps f s kind tables Running keeps = refl
+
 naming_keeps : {B : Type 0} (f : State → B) (s : State) (file : List ℕ) (named : Option TableKind) → ((kind : TableKind) (tables : TableSet) → f (with_active s kind tables) ≡ f s) → f (after_naming s file named) ≡ f s
 naming_keeps f s file None keeps = refl
-naming_keeps f s file (Some kind) keeps = either (can_activate kind)
-  where
-    either : (can : Bool) → f (if can then with_active s kind (with_file s.tables file) else s) ≡ f s
-    either true = keeps kind (with_file s.tables file)
-    either false = refl
+naming_keeps f s file (Some kind) keeps = line_keeps f s kind (with_file s.tables file) (naming_of (runs_at s kind) kind) (keeps kind (with_file s.tables file))
 
 -- and all lines of a frame that do
-activations_keep : {B : Type 0} (f : State → B) (setup : Setup) (s : State) (numbers : List ℕ) → ((t : State) (kind : TableKind) (tables : TableSet) → f (with_active t kind tables) ≡ f t)
+pub activations_keep : {B : Type 0} (f : State → B) (setup : Setup) (s : State) (numbers : List ℕ) → ((t : State) (kind : TableKind) (tables : TableSet) → f (with_active t kind tables) ≡ f t)
     → f (fold (after_activation setup) s numbers) ≡ f s
 activations_keep f setup s [] keeps = refl
 activations_keep f setup s (n ∷ numbers) keeps =
     activations_keep f setup (after_activation setup s n) numbers keeps ∙ naming_keeps f s (file_at setup.files n) (kind_at setup.files n) (keeps s)
 
+pub folded_number : (setup : Setup) (s : State) (numbers : List ℕ) → (fold (after_activation setup) s numbers).number ≡ s.number
+folded_number setup s numbers = activations_keep (λ (t : State). t.number) setup s numbers (λ t kind tables. refl)
+
 pub activated_number : (setup : Setup) (s : State) (frame : Frame) → (activated_at setup s frame).number ≡ s.number
 unfolding activated_at
-activated_number setup s frame = activations_keep (λ (t : State). t.number) setup s frame.activations (λ t kind tables. refl)
+activated_number setup s frame = folded_number setup s frame.activations
 
 activated_memory : (setup : Setup) (s : State) (frame : Frame) → (activated_at setup s frame).memory ≡ s.memory
 unfolding activated_at
@@ -132,24 +143,15 @@ run_regions setup frames = regions_from setup (beginning setup) frames ∙ regio
 pub apps_kept : (before b : Bench) (s : State) → KeepsApps before b → AppsStand before s → AppsStand b s
 apps_kept before b s kept stand = record {
   hs = subst (λ (state : Box Hs Global). hs_stands (active_in s) s.hs state.value) (sym kept.hs) stand.hs;
-  cs = subst (λ (state : Box Cs Global). cs_stands s.tables s.cs state.value) (sym kept.cs) stand.cs;
-  sc = subst (λ (state : Box Sc Global). sc_stands (sc_begun s) s.sc state.value) (sym kept.sc) stand.sc;
+  cs = subst (λ (state : Box Cs Global). cs_stands (active_in s) s.cs state.value) (sym kept.cs) stand.cs;
+  sc = subst (λ (state : Box Sc Global). sc_stands (active_in s) s.sc state.value) (sym kept.sc) stand.sc;
   mm = subst (λ (state : Box Mm Global). mm_stands s.tables s.mm state.value) (sym kept.mm) stand.mm;
   md = subst (λ (state : Box Md Global). md_stands (active_in s) s.md state.value) (sym kept.md) stand.md;
 }
 
--- CS can be woken on the same tables in memory of the same regions
-pub cs_ready_by : (regions others : List Region) (eeprom memory other_eeprom other_memory : List Segment) (cs : Cs) → others ≡ regions → other_eeprom ≡ eeprom → other_memory ≡ memory
-    → CsIsReady regions eeprom memory cs → CsIsReady others other_eeprom other_memory cs
-cs_ready_by regions others eeprom memory other_eeprom other_memory cs a b c ready =
-    subst (λ (rs : List Region). CsIsReady rs other_eeprom other_memory cs) (sym a)
-    (subst (λ (table : List Segment). CsIsReady regions table other_memory cs) (sym b) (subst (λ (table : List Segment). CsIsReady regions eeprom table cs) (sym c) ready))
-
 -- the applications can be woken, where their states, the tables and the regions were kept
 pub ready_by : (before b : Bench) → regions_of b.ram.areas ≡ regions_of before.ram.areas → b.tables ≡ before.tables → KeepsApps before b → IsReady before → IsReady b
 ready_by before b same tables kept ready = record {
-  cs = subst (λ (state : Box Cs Global). CsIsReady (regions_of b.ram.areas) b.tables.set.eeprom b.tables.set.memory state.value) (sym kept.cs)
-      (cs_ready_by _ _ _ _ _ _ before.cs.state.value same (ap (λ (t : Loaded). t.set.eeprom) tables) (ap (λ (t : Loaded). t.set.memory) tables) ready.cs);
   sc = subst (λ (t : Loaded). ScIsReady t.set.sc b.sc.state.value) (sym tables) (subst (λ (state : Box Sc Global). ScIsReady before.tables.set.sc state.value) (sym kept.sc) ready.sc);
   md = subst (λ (regions : List Region). AllGiven regions b.md.state.value) (sym same) (subst (λ (state : Box Md Global). AllGiven (regions_of before.ram.areas) state.value) (sym kept.md) ready.md);
   given = subst (λ (regions : List Region). AreGiven regions b.tables) (sym same) (subst (AreGiven (regions_of before.ram.areas)) (sym tables) ready.given);
@@ -218,30 +220,30 @@ can_land_still before middle same can =
 
 -- a bench whose histories begin: with this number of frames, at this time of SC, and with these resets of HS
 pub has_begun : (b : Bench) (setup : Setup) (number began resets limit : ℕ) (made : List (List ℕ)) (memory : Memory) → b.number ≡ number → b.tables.set ≡ tables_of setup.files
-    → hs_stands (record { first = b.tables.set; now = b.tables.set; resets = resets; limit = limit }) [] b.hs.state.value → cs_stands b.tables.set [] b.cs.state.value → sc_stands (begun_at began b.tables.set.sc) [] b.sc.state.value
-    → mm_stands b.tables.set [] b.mm.state.value → MdStands b.tables.set.dwells [] b.md.state.value → b.bus ≡ empty_pipes → LogStands made b.log → b.ram ≡ memory
+    → HsStands (setup_of b.tables.set.hs resets limit) [] b.hs.state.value → CsStands (cs_tables b.tables.set) [] b.cs.state.value → ScStands (begun_at began b.tables.set.sc) [] b.sc.state.value
+    → MmStands [] b.mm.state.value → MdStands b.tables.set.dwells [] b.md.state.value → b.bus ≡ empty_pipes → LogStands made b.log → b.ram ≡ memory
     → Has b (record (beginning setup) { number = number; began = began; resets = resets; limit = limit; made = made; memory = memory })
 unfolding beginning
-has_begun b setup number began resets limit made memory numbered tables hs cs sc mm md pipes log image = record {
-  number = numbered;
-  tables = tables;
-  apps = record {
-    hs = subst (λ (t : TableSet). hs_stands (record { first = t; now = t; resets = resets; limit = limit }) [] b.hs.state.value) tables hs;
-    cs = subst (λ (t : TableSet). cs_stands t [] b.cs.state.value) tables cs;
-    sc = subst (λ (t : TableSet). sc_stands (begun_at began t.sc) [] b.sc.state.value) tables sc;
-    mm = mm;
-    md = subst (λ (t : TableSet). MdStands t.dwells [] b.md.state.value) tables md;
-  };
-  pipes = pipes;
-  made = log;
-  memory = image;
-}
+has_begun b setup number began resets limit made memory numbered tables hs cs sc mm md pipes log image =
+    let set = tables_of setup.files in
+    record {
+      number = numbered;
+      tables = tables;
+      apps = record {
+        hs = (sym (hs_begun (setup_of set.hs resets limit)), subst (λ (t : TableSet). HsStands (setup_of t.hs resets limit) [] b.hs.state.value) tables hs);
+        cs = (sym (cs_begun (cs_tables set)), subst (λ (t : TableSet). CsStands (cs_tables t) [] b.cs.state.value) tables cs);
+        sc = (sym (sc_begun (begun_at began set.sc)), subst (λ (t : TableSet). ScStands (begun_at began t.sc) [] b.sc.state.value) tables sc);
+        mm = mm;
+        md = subst (λ (t : TableSet). MdStands t.dwells [] b.md.state.value) tables md;
+      };
+      pipes = pipes;
+      made = log;
+      memory = image;
+    }
 
 -- and can be woken
-pub ready_begun : (b : Bench) (regions : List Region) → regions_of b.ram.areas ≡ regions → cs_stands b.tables.set [] b.cs.state.value → ScIsReady b.tables.set.sc b.sc.state.value → AllGiven regions b.md.state.value
-    → AreGiven regions b.tables → IsReady b
-ready_begun b regions same cs sequences dwells given = record {
-  cs = cs_ready_by regions (regions_of b.ram.areas) b.tables.set.eeprom b.tables.set.memory b.tables.set.eeprom b.tables.set.memory b.cs.state.value same refl refl (record { started = ([], cs); first = given.set.eeprom; second = given.set.memory });
+pub ready_begun : (b : Bench) (regions : List Region) → regions_of b.ram.areas ≡ regions → ScIsReady b.tables.set.sc b.sc.state.value → AllGiven regions b.md.state.value → AreGiven regions b.tables → IsReady b
+ready_begun b regions same sequences dwells given = record {
   sc = sequences;
   md = subst (λ (rs : List Region). AllGiven rs b.md.state.value) (sym same) dwells;
   given = subst (λ (rs : List Region). AreGiven rs b.tables) (sym same) given;
@@ -249,7 +251,7 @@ ready_begun b regions same cs sequences dwells given = record {
 
 -- a bench that was opened stands for no frames
 pub stands_opened : (b : Bench) (setup : Setup) → b.epoch ≡ setup.epoch → b.tables.files ≡ setup.files → b.failed ≡ false → b.block ≡ empty_block → b.number ≡ 0 → b.tables.set ≡ tables_of setup.files
-    → hs_stands (record { first = b.tables.set; now = b.tables.set; resets = 0; limit = 3 }) [] b.hs.state.value → cs_stands b.tables.set [] b.cs.state.value → sc_stands (begun_at setup.epoch b.tables.set.sc) [] b.sc.state.value → mm_stands b.tables.set [] b.mm.state.value
+    → HsStands (setup_of b.tables.set.hs 0 3) [] b.hs.state.value → CsStands (cs_tables b.tables.set) [] b.cs.state.value → ScStands (begun_at setup.epoch b.tables.set.sc) [] b.sc.state.value → MmStands [] b.mm.state.value
     → MdStands b.tables.set.dwells [] b.md.state.value → AreGiven setup.regions b.tables → ScIsReady b.tables.set.sc b.sc.state.value → AllGiven setup.regions b.md.state.value → b.bus ≡ empty_pipes → LogStands [] b.log → b.ram ≡ start_memory setup.regions → Stands b setup []
 unfolding run_of beginning
 stands_opened b setup epoch files well waits number tables hs cs sc mm md given sequences dwells pipes made memory = record {
@@ -258,7 +260,7 @@ stands_opened b setup epoch files well waits number tables hs cs sc mm md given 
   well = well;
   waits = waits;
   has = has_begun b setup 0 setup.epoch 0 3 [] (start_memory setup.regions) number tables hs cs sc mm md pipes made memory;
-  ready = ready_begun b setup.regions (ap (λ (m : Memory). regions_of m.areas) memory ∙ regions-cut setup.regions _) cs sequences dwells given;
+  ready = ready_begun b setup.regions (ap (λ (m : Memory). regions_of m.areas) memory ∙ regions-cut setup.regions _) sequences dwells given;
 }
 
 -- a bench that started anew has what the run comes to behind a processor reset

@@ -1,6 +1,5 @@
 pub mod Files
 pub mod Health
-pub mod Sequences
 pub mod GivenTables
 pub mod Offers
 pub mod Stamping

@@ -14,7 +14,6 @@ use Rattle.bus_pipes.specs.declared.names.Out.{Out}
 use Rattle.bus_pipes.specs.declared.names.Dropped.{Dropped}
 use Rattle.bus_pipes.proofs.Deliveries.{after_offers_none, after_offers_more, after_offers_both, drops_none, drops_both, drops_one, adding_none, adding_more, items-adding}
 use Rattle.frame_exec.specs.Sending.{packet_in, is_reset, packets_of, shown}
-use Rattle.frame_exec.specs.Wakes.{joined}
 
 -- one packet was offered
 pub offers_one : (before now : Pipes) (p : List ℕ) → now ≡ after_offer before p → now ≡ after_offers before (p ∷ [])

@@ -4,7 +4,6 @@ use Rattle.std.specs.List.{flat_map, list_any}
 use Rattle.bus_pipes.specs.Delivery.{after_offers, drops_from}
 use Rattle.bus_pipes.specs.Held.{Held}
 use Rattle.bus_pipes.specs.declared.names.Out.{Out}
-use Rattle.frame_exec.specs.Activations.{table_events}
 use Rattle.packet_log.specs.Sent.{makes}
 use Rattle.packet_log.specs.Standing.{Stands as LogStands}
 use Rattle.frame_exec.specs.Sending.{is_reset, offered, sent_of}
@@ -16,19 +15,19 @@ use Rattle.scenario.specs.declared.frame.App.TheVariants as names
 use Rattle.scenario.specs.FrameLists.{Frame}
 use Rattle.frame_exec.specs.declared.bench.Bench.{Bench}
 use Rattle.frame_exec.specs.Tables.{TableSet, Loaded}
-use Rattle.frame_exec.specs.Applications.{hs_stands, cs_stands, sc_stands, mm_stands, md_stands, hs_gives, cs_gives, sc_gives, mm_gives, md_gives, hs_reads, cs_reads, sc_reads, mm_reads, md_reads}
+use Rattle.frame_exec.specs.Applications.{cs_tables, hs_stands, cs_stands, sc_stands, mm_stands, md_stands, hs_gives, cs_gives, sc_gives, mm_gives, md_gives, hs_reads, cs_reads, sc_reads, mm_reads, md_reads}
 use Rattle.frame_exec.specs.Wakes.{HasTaken, IsWoken, unless, joined}
-use Rattle.frame_exec.specs.Runs.{Setup, State, is_held, active_in, sc_begun, time_at, image_at, hs_input_at, cs_input_at, sc_input_at, mm_input_at, md_input_at, items_at, operations_at, left_by, sent_at, resets_at, offers_at, after_wakeups}
+use Rattle.frame_exec.specs.Runs.{Setup, State, table_events, is_held, active_in, time_at, image_at, hs_input_at, cs_input_at, sc_input_at, mm_input_at, md_input_at, items_at, operations_at, left_by, sent_at, resets_at, offers_at, after_wakeups}
 use Rattle.frame_exec.specs.Standing.{AppsStand}
 use Rattle.frame_exec.specs.Stages.{Takes, Steps, Sends, RunsIn, loads_in, time_of, items_in}
 use Rattle.frame_exec.proofs.Frames.{apps_kept}
-use Rattle.frame_exec.proofs.Waking.{woken_state, woken_items, woken_beside, seen_by, moved}
+use Rattle.frame_exec.proofs.Waking.{woken_state, woken_items, woken_beside, seen_by, moved, of_both}
 
 -- A bench that has what a run has come to but for the frame's upsets, which are written; then what the applications took, and then that
 -- they were woken.
 module _ (setup : Setup) (s : State) (frame : Frame) (start took stepped : Bench) (epoch : start.epoch ≡ setup.epoch) (files : start.tables.files ≡ setup.files) (number : start.number ≡ s.number) (tables : start.tables.set ≡ s.tables) (pipes : start.bus ≡ s.pipes)
     (image : start.ram ≡ image_at s frame) (apps : AppsStand start s)
-    (events : start.activations.items ≡ table_events setup.files (time_at setup s) frame.activations) (takes : Takes frame.held start took) (steps : Steps frame.counters took stepped) where
+    (events : start.activations.items ≡ table_events setup s frame.activations) (takes : Takes frame.held start took) (steps : Steps frame.counters took stepped) where
   same_tables : took.tables.set ≡ s.tables
   same_tables = ap (λ (t : Loaded). t.set) takes.run.tables ∙ tables
 
@@ -66,14 +65,15 @@ module _ (setup : Setup) (s : State) (frame : Frame) (start took stepped : Bench
       (subst (λ (n : ℕ). IsWoken (hs_stands (active_in s)) (hs_gives (active_in s)) took.hs.held (hs_reads n took.hs.commands took.events frame.counters) took.hs.state.value stepped.hs.state.value stepped.hs.out.items) same_time
       (steps.hs (active_in s) (ap (λ (t : TableSet). t.hs) (sym same_tables))))
 
-  cs_woken : IsWoken (cs_stands s.tables) (cs_gives s.tables) took.cs.held (cs_reads (time_at setup s) took.cs.commands (image_at s frame)) took.cs.state.value stepped.cs.state.value stepped.cs.out.items
-  cs_woken = moved (λ (t : TableSet) (n : ℕ) (m : Memory). IsWoken (cs_stands t) (cs_gives t) took.cs.held (cs_reads n took.cs.commands m) took.cs.state.value stepped.cs.state.value stepped.cs.out.items)
-      took.tables.set s.tables (time_of took) (time_at setup s) took.ram (image_at s frame) same_tables same_time same_image steps.cs
+  cs_woken : IsWoken (cs_stands (active_in s)) (cs_gives (active_in s)) took.cs.held (cs_reads (time_at setup s) took.cs.commands (image_at s frame)) took.cs.state.value stepped.cs.state.value stepped.cs.out.items
+  cs_woken =
+      of_both (λ (n : ℕ) (m : Memory). IsWoken (cs_stands (active_in s)) (cs_gives (active_in s)) took.cs.held (cs_reads n took.cs.commands m) took.cs.state.value stepped.cs.state.value stepped.cs.out.items) _ _ _ _ same_time same_image
+      (steps.cs (active_in s) (ap cs_tables (sym same_tables)))
 
-  sc_woken : IsWoken (sc_stands (sc_begun s)) (sc_gives (sc_begun s)) took.sc.held (sc_reads (time_at setup s) took.sc.commands) took.sc.state.value stepped.sc.state.value stepped.sc.out.items
+  sc_woken : IsWoken (sc_stands (active_in s)) (sc_gives (active_in s)) took.sc.held (sc_reads (time_at setup s) took.sc.commands) took.sc.state.value stepped.sc.state.value stepped.sc.out.items
   sc_woken =
-      subst (λ (n : ℕ). IsWoken (sc_stands (sc_begun s)) (sc_gives (sc_begun s)) took.sc.held (sc_reads n took.sc.commands) took.sc.state.value stepped.sc.state.value stepped.sc.out.items) same_time
-      (steps.sc (sc_begun s) (ap (λ (t : TableSet). t.sc) (sym same_tables)))
+      subst (λ (n : ℕ). IsWoken (sc_stands (active_in s)) (sc_gives (active_in s)) took.sc.held (sc_reads n took.sc.commands) took.sc.state.value stepped.sc.state.value stepped.sc.out.items) same_time
+      (steps.sc (active_in s) (ap (λ (t : TableSet). t.sc) (sym same_tables)))
 
   mm_woken : IsWoken (mm_stands s.tables) (mm_gives s.tables) took.mm.held (mm_reads (loads_of setup.files) (time_at setup s) took.mm.commands (image_at s frame)) took.mm.state.value stepped.mm.state.value stepped.mm.out.items
   mm_woken =
@@ -90,9 +90,9 @@ module _ (setup : Setup) (s : State) (frame : Frame) (start took stepped : Bench
   apps_after = record {
     hs = woken_state (hs_stands (active_in s)) (hs_gives (active_in s)) (λ commands. hs_reads (time_at setup s) commands s.pipes.hs_ev frame.counters) _ took.hs.held s.pipes.hs took.hs.commands took.hs.out.items stepped.hs.out.items took.hs.state.value
         stepped.hs.state.value s.hs hs_took hs_woken stand.hs;
-    cs = woken_state (cs_stands s.tables) (cs_gives s.tables) (λ commands. cs_reads (time_at setup s) commands (image_at s frame)) _ took.cs.held s.pipes.cs took.cs.commands took.cs.out.items stepped.cs.out.items took.cs.state.value
+    cs = woken_state (cs_stands (active_in s)) (cs_gives (active_in s)) (λ commands. cs_reads (time_at setup s) commands (image_at s frame)) _ took.cs.held s.pipes.cs took.cs.commands took.cs.out.items stepped.cs.out.items took.cs.state.value
         stepped.cs.state.value s.cs cs_took cs_woken stand.cs;
-    sc = woken_state (sc_stands (sc_begun s)) (sc_gives (sc_begun s)) (λ commands. sc_reads (time_at setup s) commands) _ took.sc.held s.pipes.sc took.sc.commands took.sc.out.items stepped.sc.out.items took.sc.state.value
+    sc = woken_state (sc_stands (active_in s)) (sc_gives (active_in s)) (λ commands. sc_reads (time_at setup s) commands) _ took.sc.held s.pipes.sc took.sc.commands took.sc.out.items stepped.sc.out.items took.sc.state.value
         stepped.sc.state.value s.sc sc_took sc_woken stand.sc;
     mm = woken_state (mm_stands s.tables) (mm_gives s.tables) (λ commands. mm_reads (loads_of setup.files) (time_at setup s) commands (image_at s frame)) _ took.mm.held s.pipes.mm took.mm.commands took.mm.out.items stepped.mm.out.items took.mm.state.value
         stepped.mm.state.value s.mm mm_took mm_woken stand.mm;
@@ -105,9 +105,9 @@ module _ (setup : Setup) (s : State) (frame : Frame) (start took stepped : Bench
   items_after =
       let hs = woken_items (hs_stands (active_in s)) (hs_gives (active_in s)) (λ commands. hs_reads (time_at setup s) commands s.pipes.hs_ev frame.counters) _ took.hs.held s.pipes.hs took.hs.commands took.hs.out.items stepped.hs.out.items
       took.hs.state.value stepped.hs.state.value s.hs hs_took hs_woken stand.hs in
-      let cs = woken_items (cs_stands s.tables) (cs_gives s.tables) (λ commands. cs_reads (time_at setup s) commands (image_at s frame)) _ took.cs.held s.pipes.cs took.cs.commands took.cs.out.items stepped.cs.out.items
+      let cs = woken_items (cs_stands (active_in s)) (cs_gives (active_in s)) (λ commands. cs_reads (time_at setup s) commands (image_at s frame)) _ took.cs.held s.pipes.cs took.cs.commands took.cs.out.items stepped.cs.out.items
       took.cs.state.value stepped.cs.state.value s.cs cs_took cs_woken stand.cs in
-      let sc = woken_items (sc_stands (sc_begun s)) (sc_gives (sc_begun s)) (λ commands. sc_reads (time_at setup s) commands) _ took.sc.held s.pipes.sc took.sc.commands took.sc.out.items stepped.sc.out.items
+      let sc = woken_items (sc_stands (active_in s)) (sc_gives (active_in s)) (λ commands. sc_reads (time_at setup s) commands) _ took.sc.held s.pipes.sc took.sc.commands took.sc.out.items stepped.sc.out.items
       took.sc.state.value stepped.sc.state.value s.sc sc_took sc_woken stand.sc in
       let mm = woken_items (mm_stands s.tables) (mm_gives s.tables) (λ commands. mm_reads (loads_of setup.files) (time_at setup s) commands (image_at s frame)) _ took.mm.held s.pipes.mm took.mm.commands took.mm.out.items stepped.mm.out.items
       took.mm.state.value stepped.mm.state.value s.mm mm_took mm_woken stand.mm in

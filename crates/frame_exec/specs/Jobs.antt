@@ -16,9 +16,8 @@ use Rattle.frame_exec.specs.declared.left.Left.{Left}
 use Rattle.scenario.specs.declared.frame.App.{App}
 use Rattle.scenario.specs.declared.frame.App.TheVariants as names
 use Rattle.frame_exec.specs.Turns.{Seen}
-use Rattle.frame_exec.specs.Applications.{Active, hs_stands, cs_stands, sc_stands, mm_stands, md_stands, hs_gives, cs_gives, sc_gives, mm_gives, md_gives, hs_reads, cs_reads, sc_reads, mm_reads, md_reads}
+use Rattle.frame_exec.specs.Applications.{Active, cs_tables, hs_stands, cs_stands, sc_stands, mm_stands, md_stands, hs_gives, cs_gives, sc_gives, mm_gives, md_gives, hs_reads, cs_reads, sc_reads, mm_reads, md_reads}
 use Rattle.frame_exec.specs.Landable.{CanLand}
-use Rattle.frame_exec.specs.Ready.{CsIsReady}
 use Rattle.frame_exec.specs.Tables.{TableSet}
 use Rattle.frame_exec.specs.Wakes.{AreSendable, IsWoken, next_of, unless}
 
@@ -36,11 +35,9 @@ pub record Operates (loads : List (ℕ × List ℕ)) (held : Bool) (time : ℕ) 
 -- what the wakeup of an application leaves in its scratch, by what the wakeups of the frame read
 abbrev pub Leaves : App → Seen → Left → Type 0
 Leaves names.Hs s left = Gives (λ t. s.tables.hs ≡ t.now.hs) hs_stands hs_gives hs_most s.hs.held (hs_reads s.time s.hs.commands s.events s.counters) s.hs.state.value left.stays left.hs.value left.out.items
-Leaves names.Cs s left =
-    Gives (λ t. (s.tables.eeprom ≡ t.eeprom) × (s.tables.memory ≡ t.memory)) cs_stands cs_gives cs_most s.cs.held (cs_reads s.time s.cs.commands s.memory) s.cs.state.value left.stays left.cs.value left.out.items
-    × CsIsReady (regions_of s.memory.areas) s.tables.eeprom s.tables.memory (next_of left.stays left.cs.value s.cs.state.value)
+Leaves names.Cs s left = Gives (λ t. cs_tables s.tables ≡ cs_tables t.now) cs_stands cs_gives cs_most s.cs.held (cs_reads s.time s.cs.commands s.memory) s.cs.state.value left.stays left.cs.value left.out.items
 Leaves names.Sc s left =
-    Gives (λ begin. s.tables.sc ≡ begin.tables) sc_stands sc_gives sc_most s.sc.held (sc_reads s.time s.sc.commands) s.sc.state.value left.stays left.sc.value left.out.items × ScIsReady s.tables.sc (next_of left.stays left.sc.value s.sc.state.value)
+    Gives (λ t. s.tables.sc ≡ t.now.sc) sc_stands sc_gives sc_most s.sc.held (sc_reads s.time s.sc.commands) s.sc.state.value left.stays left.sc.value left.out.items × ScIsReady s.tables.sc (next_of left.stays left.sc.value s.sc.state.value)
 Leaves names.Mm s left =
     Gives {Setup = TableSet} (λ t. Unit {0}) mm_stands mm_gives mm_most s.mm.held (mm_reads (loads_of s.files) s.time s.mm.commands s.memory) s.mm.state.value left.stays left.mm.value left.out.items
     × Operates (loads_of s.files) s.mm.held s.time s.mm.commands s.memory left.ops.value

@@ -6,7 +6,6 @@ pub mod Standing
 pub mod Following
 pub mod Wakes
 pub mod Applications
-pub mod Ready
 pub mod Landable
 pub mod Stages
 pub mod Turns

@@ -1,5 +1,5 @@
 -- A frame, and a run over a list of frames.
-use Rattle.std.specs.Prelude.{ℕ, ◌+◌, Bool, if◌then◌else◌, List, [], ◌∷◌, ◌++◌, fold, Option, Some, None}
+use Rattle.std.specs.Prelude.{ℕ, ◌+◌, Bool, if◌then◌else◌, List, [], ◌∷◌, ◌++◌, map, fold, Option, Some, None}
 use Rattle.std.specs.List.{flat_map, list_any}
 use Rattle.histories.specs.Words.{along}
 use Rattle.bus_pipes.specs.Pipes.{Pipes, empty_pipes}
@@ -11,11 +11,12 @@ use Rattle.memory_window.specs.Memory.{Memory, start_memory}
 use Rattle.memory_window.specs.Landing.{land}
 use Rattle.memory_window.specs.declared.regions.Region.{Region}
 use Rattle.memory_window.specs.declared.operations.MemOp.{MemOp}
-use Rattle.sc_sequences.specs.Histories.{Input as ScInput, Beginning, begun_at}
+use Rattle.sc_sequences.specs.Histories.{ScEntry, sequences_of}
+use Rattle.sc_sequences.specs.State.{place_of, runs_in}
 use Rattle.mm_core.specs.Step.{Input as MmInput, mm_operations}
 use Rattle.hs_monitors.specs.Histories.{HsEntry}
 use Rattle.hs_monitors.specs.Step.{resets_made, resets_maximum}
-use Rattle.cs_slices.specs.Wakeups.{Input as CsInput}
+use Rattle.cs_slices.specs.Histories.{CsEntry}
 use Rattle.md_dwell.specs.Histories.{MdEntry}
 use Rattle.packet_log.specs.Lines.{drop_line}
 use Rattle.packet_log.specs.Items.{item_line}
@@ -23,11 +24,13 @@ use Rattle.scenario.specs.declared.frame.App.{App}
 use Rattle.scenario.specs.declared.frame.App.TheVariants as apps
 use Rattle.scenario.specs.FrameLists.{Frame}
 use Rattle.frame_exec.specs.Tables.{TableSet, with_file, tables_of}
-use Rattle.frame_exec.specs.Activations.{can_activate, hs_activated, md_activated, table_events}
+use Rattle.frame_exec.specs.Activations.{naming_of, hs_activated, cs_activated, sc_activated, md_activated, table_event}
 use Rattle.frame_exec.specs.Sending.{is_same, upset_by, left_in_pipe, sent_of, is_reset, offered}
 use Rattle.packet_log.specs.Sent.{makes}
 use Rattle.frame_exec.specs.Wakes.{history_after, unless, joined}
-use Rattle.frame_exec.specs.Applications.{Active, hs_setup, hs_gives, cs_gives, sc_gives, mm_gives, md_gives, hs_reads, cs_reads, sc_reads, mm_reads, md_reads}
+use Rattle.frame_exec.specs.declared.activations.Naming.{Naming}
+use Rattle.frame_exec.specs.declared.activations.Naming.TheVariants.{Accepted, Refused, Running}
+use Rattle.frame_exec.specs.Applications.{Active, hs_setup, sc_begun, hs_gives, cs_gives, sc_gives, mm_gives, md_gives, hs_reads, cs_reads, sc_reads, mm_reads, md_reads}
 
 -- what a run begins with: the time of frame 0, the regions of memory, and the named files
 pub record Setup : Type 0 where
@@ -46,8 +49,8 @@ pub record State : Type 0 where
   pub first : TableSet
   pub tables : TableSet
   pub hs : List HsEntry
-  pub cs : List CsInput
-  pub sc : List ScInput
+  pub cs : List CsEntry
+  pub sc : List ScEntry
   pub mm : List MmInput
   pub md : List MdEntry
   pub pipes : Pipes
@@ -58,14 +61,39 @@ pub record State : Type 0 where
 unfoldable pub beginning : Setup → State
 beginning setup = record { number = 0; began = setup.epoch; resets = 0; limit = 3; first = tables_of setup.files; tables = tables_of setup.files; hs = []; cs = []; sc = []; mm = []; md = []; pipes = empty_pipes; made = []; memory = start_memory setup.regions }
 
+-- the tables with which the histories of a run began and those that are active, and what SC's and HS's began with besides
+abbrev pub active_in : State → Active
+active_in s = record { first = s.first; now = s.tables; began = s.began; resets = s.resets; limit = s.limit }
+
+-- whether the table of this kind is a sequence that runs
+abbrev pub runs_at : State → TableKind → Bool
+runs_at s kind = runs_in (sequences_of (sc_begun (active_in s)) s.sc).all (place_of kind)
+
+-- what becomes of a line that names a file of this kind, or no table
+abbrev pub naming_at : State → Option TableKind → Naming
+naming_at s None = Refused
+naming_at s (Some kind) = naming_of (runs_at s kind) kind
+
 -- the state once a table of this kind became active, which the tables have now: its application's history has the activation
 abbrev pub with_active : State → TableKind → TableSet → State
-with_active s kind tables = record s { tables = tables; hs = s.hs ++ hs_activated kind tables.hs; md = s.md ++ md_activated kind tables.dwells }
+with_active s kind tables = record s {
+  tables = tables;
+  hs = s.hs ++ hs_activated kind tables.hs;
+  cs = s.cs ++ cs_activated kind tables;
+  sc = s.sc ++ sc_activated kind tables.sc;
+  md = s.md ++ md_activated kind tables.dwells;
+}
+
+-- the state once a line named a table of this kind, by what becomes of it
+abbrev pub after_line : Naming → State → TableKind → TableSet → State
+after_line Accepted s kind tables = with_active s kind tables
+after_line Refused s kind tables = s
+after_line Running s kind tables = s
 
 -- the state once a line named this file, by the file's kind
 abbrev pub after_naming : State → List ℕ → Option TableKind → State
 after_naming s file None = s
-after_naming s file (Some kind) = if can_activate kind then with_active s kind (with_file s.tables file) else s
+after_naming s file (Some kind) = after_line (naming_of (runs_at s kind) kind) s kind (with_file s.tables file)
 
 -- the state once a line named file n
 abbrev pub after_activation : Setup → State → ℕ → State
@@ -75,7 +103,7 @@ after_activation setup s n = after_naming s (file_at setup.files n) (kind_at set
 unfoldable pub activated_at : Setup → State → Frame → State
 activated_at setup s frame = fold (after_activation setup) s frame.activations
 
--- A state below, up to `after_wakeups`, is that behind the activations of the frame.
+-- A state below, up to `after_wakeups`, is that behind the activations of the frame: the same sequences run there as before them.
 
 -- whether an application is held in a frame
 abbrev pub is_held : App → Frame → Bool
@@ -89,22 +117,18 @@ image_at s frame = fold upset_by s.memory frame.upsets
 abbrev pub time_at : Setup → State → ℕ
 time_at setup s = setup.epoch + s.number
 
--- the tables with which the histories of a run began and those that are active, and what HS's began with besides
-abbrev pub active_in : State → Active
-active_in s = record { first = s.first; now = s.tables; resets = s.resets; limit = s.limit }
-
--- what a history of SC begins with in a run
-abbrev pub sc_begun : State → Beginning
-sc_begun s = begun_at s.began s.tables.sc
+-- what is told of lines that name these files
+unfoldable pub table_events : Setup → State → List ℕ → List Out
+table_events setup s numbers = map (λ (n : ℕ). table_event (time_at setup s) (naming_at s (kind_at setup.files n))) numbers
 
 -- what HS, CS, SC, MM and MD read in a frame
 unfoldable pub hs_input_at : Setup → State → Frame → HsEntry
 hs_input_at setup s frame = hs_reads (time_at setup s) s.pipes.hs s.pipes.hs_ev frame.counters
 
-unfoldable pub cs_input_at : Setup → State → Frame → CsInput
+unfoldable pub cs_input_at : Setup → State → Frame → CsEntry
 cs_input_at setup s frame = cs_reads (time_at setup s) s.pipes.cs (image_at s frame)
 
-unfoldable pub sc_input_at : Setup → State → Frame → ScInput
+unfoldable pub sc_input_at : Setup → State → Frame → ScEntry
 sc_input_at setup s frame = sc_reads (time_at setup s) s.pipes.sc
 
 unfoldable pub mm_input_at : Setup → State → Frame → MmInput
@@ -116,10 +140,10 @@ md_input_at setup s frame = md_reads (time_at setup s) s.pipes.md (image_at s fr
 -- what is told of the frame's activations, and what the applications give in it, a list each, in their order
 unfoldable pub items_at : Setup → State → Frame → List (List Out)
 items_at setup s frame =
-    table_events setup.files (time_at setup s) frame.activations
+    table_events setup s frame.activations
     ∷ unless (is_held apps.Hs frame) (hs_gives (active_in s) s.hs (hs_input_at setup s frame))
-    ∷ unless (is_held apps.Cs frame) (cs_gives s.tables s.cs (cs_input_at setup s frame))
-    ∷ unless (is_held apps.Sc frame) (sc_gives (sc_begun s) s.sc (sc_input_at setup s frame))
+    ∷ unless (is_held apps.Cs frame) (cs_gives (active_in s) s.cs (cs_input_at setup s frame))
+    ∷ unless (is_held apps.Sc frame) (sc_gives (active_in s) s.sc (sc_input_at setup s frame))
     ∷ unless (is_held apps.Mm frame) (mm_gives s.tables s.mm (mm_input_at setup s frame))
     ∷ unless (is_held apps.Md frame) (md_gives (active_in s) s.md (md_input_at setup s frame))
     ∷ []

@@ -6,7 +6,6 @@ use Rattle.bus_pipes.specs.Counted.{is_item_counted}
 use Rattle.bus_pipes.specs.declared.names.Out.{Out}
 use Rattle.table_files.specs.Files.{loads_of}
 use Rattle.memory_window.specs.Landing.{land}
-use Rattle.sc_sequences.specs.Histories.{Beginning}
 use Rattle.sc_sequences.specs.State.{IsReady as ScIsReady}
 use Rattle.memory_window.specs.Memory.{regions_of}
 use Rattle.md_dwell.specs.State.{AllGiven}
@@ -29,11 +28,9 @@ use Rattle.frame_exec.specs.Tables.{TableSet}
 use Rattle.frame_exec.specs.Sending.{is_same, upset_by, sent_of, is_reset, offered}
 use Rattle.packet_log.specs.Sent.{makes}
 use Rattle.frame_exec.specs.Wakes.{joined, unless, AreSendable, HasTaken, IsWoken, next_of}
-use Rattle.frame_exec.specs.Applications.{Active, hs_stands, cs_stands, sc_stands, mm_stands, md_stands, hs_gives, cs_gives, sc_gives, mm_gives, md_gives, hs_reads, cs_reads, sc_reads, mm_reads, md_reads}
-use Rattle.frame_exec.specs.Activations.{table_events}
-use Rattle.frame_exec.specs.Runs.{Setup, State, after_activation, image_at, items_at, operations_at, left_by, sent_at, resets_at, offers_at, after_wakeups, behind}
+use Rattle.frame_exec.specs.Applications.{Active, cs_tables, hs_stands, cs_stands, sc_stands, mm_stands, md_stands, hs_gives, cs_gives, sc_gives, mm_gives, md_gives, hs_reads, cs_reads, sc_reads, mm_reads, md_reads}
+use Rattle.frame_exec.specs.Runs.{Setup, State, after_activation, table_events, image_at, items_at, operations_at, left_by, sent_at, resets_at, offers_at, after_wakeups, behind}
 use Rattle.frame_exec.specs.Landable.{CanLand}
-use Rattle.frame_exec.specs.Ready.{CsIsReady}
 use Rattle.frame_exec.specs.declared.left.Left.{Left}
 use Rattle.frame_exec.specs.Jobs.{Gives, Operates}
 use Rattle.frame_exec.specs.Standing.{AppsStand, Has}
@@ -69,7 +66,9 @@ pub record NamesFile (n : ℕ) (old new : Bench) : Type 0 where
 pub record Activates (numbers : List ℕ) (told : List Out) (old new : Bench) : Type 0 where
   pub goes : GoesOn old new
   pub memory : new.ram ≡ old.ram
-  pub events : new.activations.items ≡ told ++ table_events old.tables.files (time_of old) numbers
+  pub many : length new.activations.items ≡ length told + length numbers
+  pub counted : AllPass is_item_counted told → AllPass is_item_counted new.activations.items
+  pub events : (setup : Setup) (s : State) → old.epoch ≡ setup.epoch → old.tables.files ≡ setup.files → Has old s → new.activations.items ≡ told ++ table_events setup s numbers
   pub has : (setup : Setup) (s : State) → old.tables.files ≡ setup.files → Has old s → Has new (fold (after_activation setup) s numbers)
 
 -- the states of the applications stay
@@ -127,8 +126,8 @@ pub record Steps (counters : List Counter) (old new : Bench) : Type 0 where
   pub run : IsSameRun old new
   pub told : new.activations ≡ old.activations
   pub hs : (tables : Active) → tables.now.hs ≡ old.tables.set.hs → IsWoken (hs_stands tables) (hs_gives tables) old.hs.held (hs_reads (time_of old) old.hs.commands old.events counters) old.hs.state.value new.hs.state.value new.hs.out.items
-  pub cs : IsWoken (cs_stands old.tables.set) (cs_gives old.tables.set) old.cs.held (cs_reads (time_of old) old.cs.commands old.ram) old.cs.state.value new.cs.state.value new.cs.out.items
-  pub sc : (begin : Beginning) → begin.tables ≡ old.tables.set.sc → IsWoken (sc_stands begin) (sc_gives begin) old.sc.held (sc_reads (time_of old) old.sc.commands) old.sc.state.value new.sc.state.value new.sc.out.items
+  pub cs : (tables : Active) → cs_tables tables.now ≡ cs_tables old.tables.set → IsWoken (cs_stands tables) (cs_gives tables) old.cs.held (cs_reads (time_of old) old.cs.commands old.ram) old.cs.state.value new.cs.state.value new.cs.out.items
+  pub sc : (tables : Active) → tables.now.sc ≡ old.tables.set.sc → IsWoken (sc_stands tables) (sc_gives tables) old.sc.held (sc_reads (time_of old) old.sc.commands) old.sc.state.value new.sc.state.value new.sc.out.items
   pub mm : (tables : TableSet) → IsWoken (mm_stands tables) (mm_gives tables) old.mm.held (mm_reads (loads_in old) (time_of old) old.mm.commands old.ram) old.mm.state.value new.mm.state.value new.mm.out.items
   pub md : (tables : Active) → IsWoken (md_stands tables) (md_gives tables) old.md.held (md_reads (time_of old) old.md.commands old.ram) old.md.state.value new.md.state.value new.md.out.items
   pub operations : new.ops.value ≡ unless old.mm.held (mm_operations (mm_reads (loads_in old) (time_of old) old.mm.commands old.ram))
@@ -163,9 +162,8 @@ pub record AreWoken (counters : List Counter) (old new : Bench) : Type 0 where
   pub slots : KeepsSlots old new
   pub five : length new.crew.results ≡ 5
   pub hs : HasLeft new 0 (λ left. Gives (λ t. old.tables.set.hs ≡ t.now.hs) hs_stands hs_gives hs_most old.hs.held (hs_reads (time_of old) old.hs.commands old.events counters) old.hs.state.value left.stays left.hs.value left.out.items)
-  pub cs : HasLeft new 1 (λ left. Gives (λ t. (old.tables.set.eeprom ≡ t.eeprom) × (old.tables.set.memory ≡ t.memory)) cs_stands cs_gives cs_most old.cs.held (cs_reads (time_of old) old.cs.commands old.ram) old.cs.state.value left.stays left.cs.value left.out.items
-      × CsIsReady (regions_of old.ram.areas) old.tables.set.eeprom old.tables.set.memory (next_of left.stays left.cs.value old.cs.state.value))
-  pub sc : HasLeft new 2 (λ left. Gives (λ begin. old.tables.set.sc ≡ begin.tables) sc_stands sc_gives sc_most old.sc.held (sc_reads (time_of old) old.sc.commands) old.sc.state.value left.stays left.sc.value left.out.items
+  pub cs : HasLeft new 1 (λ left. Gives (λ t. cs_tables old.tables.set ≡ cs_tables t.now) cs_stands cs_gives cs_most old.cs.held (cs_reads (time_of old) old.cs.commands old.ram) old.cs.state.value left.stays left.cs.value left.out.items)
+  pub sc : HasLeft new 2 (λ left. Gives (λ t. old.tables.set.sc ≡ t.now.sc) sc_stands sc_gives sc_most old.sc.held (sc_reads (time_of old) old.sc.commands) old.sc.state.value left.stays left.sc.value left.out.items
       × ScIsReady old.tables.set.sc (next_of left.stays left.sc.value old.sc.state.value))
   pub mm : HasLeft new 3 (λ left. Gives {Setup = TableSet} (λ t. Unit {0}) mm_stands mm_gives mm_most old.mm.held (mm_reads (loads_in old) (time_of old) old.mm.commands old.ram) old.mm.state.value left.stays left.mm.value left.out.items
       × Operates (loads_in old) old.mm.held (time_of old) old.mm.commands old.ram left.ops.value)

@@ -12,14 +12,13 @@ use Rattle.scenario.specs.FrameLists.{Frame}
 use Rattle.frame_exec.specs.declared.bench.Bench.{Bench}
 use Rattle.frame_exec.specs.Applications.{hs_stands, cs_stands, sc_stands, mm_stands, md_stands}
 use Rattle.frame_exec.specs.Tables.{AreGiven}
-use Rattle.frame_exec.specs.Ready.{CsIsReady}
-use Rattle.frame_exec.specs.Runs.{Setup, State, active_in, sc_begun, image_at, run_of}
+use Rattle.frame_exec.specs.Runs.{Setup, State, active_in, image_at, run_of}
 
 -- the state of each application stands for its history
 pub record AppsStand (b : Bench) (s : State) : Type 0 where
   pub hs : hs_stands (active_in s) s.hs b.hs.state.value
-  pub cs : cs_stands s.tables s.cs b.cs.state.value
-  pub sc : sc_stands (sc_begun s) s.sc b.sc.state.value
+  pub cs : cs_stands (active_in s) s.cs b.cs.state.value
+  pub sc : sc_stands (active_in s) s.sc b.sc.state.value
   pub mm : mm_stands s.tables s.mm b.mm.state.value
   pub md : md_stands (active_in s) s.md b.md.state.value
 
@@ -34,7 +33,6 @@ pub record Has (b : Bench) (s : State) : Type 0 where
 
 -- each application can be woken
 pub record IsReady (b : Bench) : Type 0 where
-  pub cs : CsIsReady (regions_of b.ram.areas) b.tables.set.eeprom b.tables.set.memory b.cs.state.value
   pub sc : ScIsReady b.tables.set.sc b.sc.state.value
   pub md : AllGiven (regions_of b.ram.areas) b.md.state.value
   pub given : AreGiven (regions_of b.ram.areas) b.tables

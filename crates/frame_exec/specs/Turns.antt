@@ -2,6 +2,7 @@
 use Rattle.std.specs.Prelude.{ℕ, List}
 use Rattle.packet_forms.specs.declared.name.Counter.{Counter}
 use Rattle.memory_window.specs.Memory.{Memory, regions_of}
+use Rattle.cs_slices.specs.Given.{SegmentsGiven}
 use Rattle.cs_slices.specs.declared.state.Cs.{Cs}
 use Rattle.hs_monitors.specs.declared.state.Hs.{Hs}
 use Rattle.sc_sequences.specs.declared.state.Sc.{Sc}
@@ -10,7 +11,6 @@ use Rattle.mm_core.specs.declared.state.Mm.{Mm}
 use Rattle.md_dwell.specs.declared.state.Md.{Md}
 use Rattle.md_dwell.specs.State.{AllGiven}
 use Rattle.frame_exec.specs.declared.slot.Slot.{Slot}
-use Rattle.frame_exec.specs.Ready.{CsIsReady}
 use Rattle.frame_exec.specs.Tables.{TableSet}
 
 -- the slots of the applications, the packets that HS took from its pipe of events, the tables, the files, the frame's image and its
@@ -28,8 +28,9 @@ pub record Seen : Type 0 where
   pub counters : List Counter
   pub time : ℕ
 
--- each application can be woken
+-- each application can be woken: memory gives what CS's tables and MD's read, and SC reads the sequences that are active
 pub record CanWake (s : Seen) : Type 0 where
-  pub cs : CsIsReady (regions_of s.memory.areas) s.tables.eeprom s.tables.memory s.cs.state.value
+  pub eeprom : SegmentsGiven (regions_of s.memory.areas) s.tables.eeprom
+  pub memory : SegmentsGiven (regions_of s.memory.areas) s.tables.memory
   pub sc : ScIsReady s.tables.sc s.sc.state.value
   pub md : AllGiven (regions_of s.memory.areas) s.md.state.value

@@ -1,14 +1,20 @@
 //! Tables that become active in a run.
 
-ghost use Rattle.std.specs.Prelude.{◌≡◌, ◌<◌, List, [], ◌∷◌, length};
+ghost use Rattle.std.specs.Prelude.{◌≡◌, ◌<◌, List, [], ◌∷◌, ◌++◌, length};
 ghost use Rattle.packet_forms.specs.Names.{is_name_text};
 ghost use Rattle.bus_pipes.specs.Held.{adding};
 ghost use Rattle.table_files.specs.Kinds.{IsKnown};
 ghost use Rattle.memory_window.specs.declared.regions.Region.{Region};
+ghost use Rattle.cs_slices.specs.Tables.{TablePair};
+ghost use Rattle.cs_slices.specs.Histories.{CsEntry};
+ghost use Rattle.cs_slices.specs.State.{Stands as CsStands};
+ghost use Rattle.md_dwell.specs.Tables.{DwellTable};
+ghost use Rattle.md_dwell.specs.Histories.{MdEntry};
+ghost use Rattle.md_dwell.specs.State.{Stands as MdStands, AllGiven};
 ghost use Rattle.md_dwell.specs.Given.{TablesGiven};
-ghost use Rattle.md_dwell.specs.State.{AllGiven};
-ghost use Rattle.frame_exec.specs.Activations.{can_activate, TakesTable, tables_name, table_event};
+ghost use Rattle.frame_exec.specs.Activations.{can_activate, naming_of, cs_activated, md_activated, TakesTable, tables_name, table_event};
 
+use crate::cs_slot::CsSlot;
 use crate::hs_slot::HsSlot;
 use crate::md_slot::MdSlot;
 use crate::tables::Tables;
@@ -17,8 +23,19 @@ use commands::named;
 use packet_forms::Name;
 use table_files::TableKind;
 
+/// What becomes of a line that names a file.
+#[derive(Clone, Copy, Debug, PartialEq, Eq)]
+pub(crate) enum Naming {
+    /// Its table is active from then on.
+    Accepted,
+    /// There is no table of this number, or none that can become active in a run.
+    Refused,
+    /// The sequence that it would replace runs.
+    Running,
+}
+
 /// Whether a table of this kind can be made active in a run.
-pub(crate) fn can_activate(kind: TableKind) -> bool
+fn can_activate(kind: TableKind) -> bool
     ensures { result ≡ can_activate kind }
 {
     match kind {
@@ -26,11 +43,24 @@ pub(crate) fn can_activate(kind: TableKind) -> bool
         TableKind::EventMon => true,
         TableKind::ExeCount => true,
         TableKind::MsgActs => false,
-        TableKind::Ats(_) => false,
-        TableKind::Rts(_) => false,
+        TableKind::Ats(_) => true,
+        TableKind::Rts(_) => true,
         TableKind::Dwell(_) => true,
-        TableKind::Eeprom => false,
-        TableKind::Memory => false,
+        TableKind::Eeprom => true,
+        TableKind::Memory => true,
+    }
+}
+
+/// What becomes of a line that names a table of this kind, by whether its sequence runs.
+pub(crate) fn naming_of(kind: TableKind, runs: bool) -> Naming
+    ensures { result ≡ naming_of runs kind }
+{
+    if !can_activate(kind) {
+        return Naming::Refused;
+    }
+    match runs {
+        true => Naming::Running,
+        false => Naming::Accepted,
     }
 }
 
@@ -42,26 +72,60 @@ fn name() -> Name
     named("TBL")
 }
 
-/// Tells that a table became active, or that the number of a file was refused.
-pub(crate) fn tell(out: &mut Outbox, accepted: bool, time: u32)
+/// Tells what became of a line.
+pub(crate) fn tell(out: &mut Outbox, naming: Naming, time: u32)
     requires { length out.old.items < out.old.room }
-    ensures after { out.new ≡ adding out.old (table_event time accepted ∷ []) }
+    ensures after { out.new ≡ adding out.old (table_event time naming ∷ []) }
     ensures room { out.new.room ≡ out.old.room }
 {
-    match accepted {
-        true => push_event(out, name(), 1, 2, time),
-        false => push_event(out, name(), 2, 3, time),
+    match naming {
+        Naming::Accepted => push_event(out, name(), 1, 2, time),
+        Naming::Refused => push_event(out, name(), 2, 3, time),
+        Naming::Running => push_event(out, name(), 3, 3, time),
     }
 }
 
-/// Makes the table of this kind, which the tables have now, the one that HS or MD reads.
-#[tactic(auto, using(crate::proofs::GivenTables::given_at))]
-pub(crate) fn hand_over(tables: &Tables<'_>, kind: TableKind, hs: &mut HsSlot, md: &mut MdSlot)
+/// Makes the table of this kind, which the tables have now, the one that HS, CS or MD reads. SC reads its sequences where they lie.
+pub(crate) fn hand_over(
+    tables: &Tables<'_>,
+    kind: TableKind,
+    hs: &mut HsSlot,
+    cs: &mut CsSlot,
+    md: &mut MdSlot,
+)
     requires { IsKnown kind }
-    ensures takes { TakesTable kind tables.now.set hs.old.state.value hs.new.state.value md.old.state.value md.new.state.value }
+    ensures takes { TakesTable kind tables.now.set hs.old.state.value hs.new.state.value cs.old.state.value cs.new.state.value md.old.state.value md.new.state.value }
     ensures given { (regions : List Region) → TablesGiven regions tables.now.set.dwells → AllGiven regions md.old.state.value → AllGiven regions md.new.state.value }
 {
     hs.state.activate(tables.hs(), kind);
+    hand_over_segments(tables, kind, cs);
+    hand_over_dwells(tables, kind, md);
+}
+
+/// The same of CS's tables.
+fn hand_over_segments(tables: &Tables<'_>, kind: TableKind, cs: &mut CsSlot)
+    ensures { (first : TablePair) (history : List CsEntry) → CsStands first history cs.old.state.value → CsStands first (history ++ cs_activated kind tables.now.set) cs.new.state.value }
+{
+    match kind {
+        TableKind::Eeprom => cs.state.activate(tables.eeprom(), tables.memory(), 1),
+        TableKind::Memory => cs.state.activate(tables.eeprom(), tables.memory(), 2),
+        TableKind::AppMon => {}
+        TableKind::EventMon => {}
+        TableKind::ExeCount => {}
+        TableKind::MsgActs => {}
+        TableKind::Ats(_) => {}
+        TableKind::Rts(_) => {}
+        TableKind::Dwell(_) => {}
+    }
+}
+
+/// The same of MD's tables.
+#[tactic(auto, using(crate::proofs::GivenTables::given_at))]
+fn hand_over_dwells(tables: &Tables<'_>, kind: TableKind, md: &mut MdSlot)
+    requires { IsKnown kind }
+    ensures dwells { (first : List DwellTable) (history : List MdEntry) → MdStands first history md.old.state.value → MdStands first (history ++ md_activated kind tables.now.set.dwells) md.new.state.value }
+    ensures given { (regions : List Region) → TablesGiven regions tables.now.set.dwells → AllGiven regions md.old.state.value → AllGiven regions md.new.state.value }
+{
     if let TableKind::Dwell(n) = kind {
         let dwells = &tables.dwells()[..];
         md.state.activate(n, &dwells[n as usize - 1]);

@@ -3,7 +3,7 @@
 ghost use Rattle.std.specs.Prelude.{◌≡◌};
 ghost use Rattle.frame_exec.specs.declared.bench.TheConstants.{DROPS, ACTIVATIONS};
 
-use crate::activations::{can_activate, hand_over, tell};
+use crate::activations::{Naming, hand_over, naming_of, tell};
 use crate::cs_slot::CsSlot;
 use crate::cut::Cut;
 use crate::giving::{OpenFault, refused_place};
@@ -14,7 +14,9 @@ use crate::mm_slot::MmSlot;
 use crate::reads::Reads;
 use crate::sc_slot::ScSlot;
 use crate::slot::Slot;
-use crate::stages::{deliver_all, has_reset, in_order, is_held, put_frame, stamp_all, take_unless, upset_all};
+use crate::stages::{
+    deliver_all, has_reset, in_order, is_held, put_frame, stamp_all, take_unless, upset_all,
+};
 use crate::tables::Tables;
 use crate::wakeups::{Scene, Wakeup};
 use bus_pipes::{Batch, Bus, Drops, Outbox, PipeName};
@@ -90,14 +92,13 @@ impl<'f> Bench<'f> {
     ghost use Rattle.scenario.specs.declared.frame.Upset.{Upset};
     ghost use Rattle.scenario.specs.declared.frame.App.{App};
     ghost use Rattle.scenario.specs.FrameLists.{Frame};
-    ghost use Rattle.frame_exec.specs.Runs.{Setup, State, activated_at, frame_lines, log_of};
+    ghost use Rattle.frame_exec.specs.Runs.{Setup, State, activated_at, naming_at, frame_lines, log_of};
     ghost use Rattle.frame_exec.specs.Standing.{Has, has_failed, waiting_in, IsReady, Stands, IsInterrupted, CanRun, setup_in};
     ghost use Rattle.frame_exec.specs.Following.{Follows, IsCutAt, Adds};
     ghost use Rattle.frame_exec.specs.Tables.{AreGiven, AreLoaded, Opens, region_fault};
     ghost use Rattle.frame_exec.specs.Landable.{CanLand};
     ghost use Rattle.std.specs.List.{AllPass, list_any};
     ghost use Rattle.bus_pipes.specs.Counted.{is_item_counted};
-    ghost use Rattle.frame_exec.specs.Activations.{accepts};
     ghost use Rattle.table_files.specs.Files.{kind_at};
     ghost use Rattle.frame_exec.specs.Stages.{IsSameRun, GoesOn, NamesFile, Activates, IsUpset, Takes, IsClear, Steps, CanSend, AreWoken, TakesOver, Sends, RunsIn, IsSameFrame, Lands, StartsAnew, IsStamped, items_in, loads_in, lines_in};
     ghost use Rattle.frame_exec.specs.Sending.{is_reset};
@@ -352,26 +353,29 @@ impl<'f> Bench<'f> {
         ensures ready { IsReady self.new }
     {
         let time = self.epoch + self.number as u32;
-        let accepted = self.make_active(file);
-        tell(&mut self.activations, accepted, time);
+        let naming = self.make_active(file);
+        tell(&mut self.activations, naming, time);
     }
 
-    /// Makes the table of this file active, and answers whether it can be.
-    fn make_active(&mut self, file: u32) -> bool
+    /// Makes the table of this file active, if it can be, and answers what became of it.
+    fn make_active(&mut self, file: u32) -> Naming
         requires ready { IsReady self.old }
-        ensures accepts { result ≡ accepts (kind_at self.old.tables.files file) }
+        ensures naming { (setup : Setup) (s : State) → self.old.tables.files ≡ setup.files → Has self.old s → result ≡ naming_at s (kind_at setup.files file) }
         ensures names { NamesFile file self.old self.new }
         ensures ready { IsReady self.new }
     {
         let Some(kind) = self.tables.kind(file) else {
-            return false;
+            return Naming::Refused;
         };
-        if !can_activate(kind) {
-            return false;
+        let naming = naming_of(kind, self.sc.state.runs(kind));
+        match naming {
+            Naming::Refused => return Naming::Refused,
+            Naming::Running => return Naming::Running,
+            Naming::Accepted => {}
         }
         self.tables.activate(file);
-        hand_over(&self.tables, kind, &mut self.hs, &mut self.md);
-        true
+        hand_over(&self.tables, kind, &mut self.hs, &mut self.cs, &mut self.md);
+        Naming::Accepted
     }
 
     /// Writes the frame's upsets.

@@ -4,10 +4,11 @@ ghost use Rattle.std.specs.Prelude.{◌≡◌};
 ghost use Rattle.memory_window.specs.Memory.{regions_of};
 ghost use Rattle.memory_window.specs.Window.{seen};
 ghost use Rattle.cs_slices.specs.declared.step.TheConstants.{MOST_ITEMS};
-ghost use Rattle.cs_slices.specs.Wakeups.{Input, input_of};
-ghost use Rattle.frame_exec.specs.Tables.{TableSet};
-ghost use Rattle.frame_exec.specs.Applications.{cs_stands, cs_gives};
-ghost use Rattle.frame_exec.specs.Ready.{CsIsReady};
+ghost use Rattle.histories.specs.Entries.Entry.{Woken};
+ghost use Rattle.cs_slices.specs.Given.{SegmentsGiven};
+ghost use Rattle.cs_slices.specs.Histories.{CsEntry};
+ghost use Rattle.cs_slices.specs.Wakeups.{input_of};
+ghost use Rattle.frame_exec.specs.Applications.{Active, cs_tables, cs_stands, cs_gives};
 
 use crate::application::Application;
 use crate::reads::Reads;
@@ -19,9 +20,9 @@ use packet_forms::Packet;
 pub(crate) type CsSlot = Slot<Cs>;
 
 impl Application<()> for Cs {
-    ghost Setup = { TableSet };
+    ghost Setup = { Active };
 
-    ghost Input = { Input };
+    ghost Input = { CsEntry };
 
     ghost stands = { cs_stands };
 
@@ -29,11 +30,11 @@ impl Application<()> for Cs {
 
     ghost most = { MOST_ITEMS };
 
-    ghost belongs = { λ setup reads. (reads.tables.now.set.eeprom ≡ setup.eeprom) × (reads.tables.now.set.memory ≡ setup.memory) };
+    ghost belongs = { λ setup reads. cs_tables reads.tables.now.set ≡ cs_tables setup.now };
 
-    ghost input = { λ reads commands. input_of reads.time commands reads.window };
+    ghost input = { λ reads commands. Woken (input_of reads.time commands reads.window) };
 
-    ghost can_step = { λ reads cs. CsIsReady (regions_of (seen reads.window).areas) reads.tables.now.set.eeprom reads.tables.now.set.memory cs };
+    ghost can_step = { λ reads cs. SegmentsGiven (regions_of (seen reads.window).areas) reads.tables.now.set.eeprom × SegmentsGiven (regions_of (seen reads.window).areas) reads.tables.now.set.memory };
 
     ghost is_clear = { λ beside. Unit {0} };
 

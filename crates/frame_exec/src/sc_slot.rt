@@ -2,9 +2,9 @@
 
 ghost use Rattle.std.specs.Prelude.{◌≡◌};
 ghost use Rattle.sc_sequences.specs.declared.step.TheConstants.{MOST_ITEMS};
-ghost use Rattle.sc_sequences.specs.Histories.{Input, Beginning};
+ghost use Rattle.sc_sequences.specs.Histories.{ScEntry};
 ghost use Rattle.sc_sequences.specs.State.{IsReady};
-ghost use Rattle.frame_exec.specs.Applications.{sc_stands, sc_gives, sc_reads};
+ghost use Rattle.frame_exec.specs.Applications.{Active, sc_stands, sc_gives, sc_reads};
 
 use crate::application::Application;
 use crate::reads::Reads;
@@ -16,9 +16,9 @@ use sc_sequences::Sc;
 pub(crate) type ScSlot = Slot<Sc>;
 
 impl Application<()> for Sc {
-    ghost Setup = { Beginning };
+    ghost Setup = { Active };
 
-    ghost Input = { Input };
+    ghost Input = { ScEntry };
 
     ghost stands = { sc_stands };
 
@@ -26,7 +26,7 @@ impl Application<()> for Sc {
 
     ghost most = { MOST_ITEMS };
 
-    ghost belongs = { λ setup reads. reads.tables.now.set.sc ≡ setup.tables };
+    ghost belongs = { λ setup reads. reads.tables.now.set.sc ≡ setup.now.sc };
 
     ghost input = { λ reads commands. sc_reads reads.time commands };
 

@@ -13,6 +13,7 @@ mod hostile;
 mod lengths;
 mod loads;
 mod refusals;
+mod resets;
 mod rows;
 mod runs;
 mod sequences;

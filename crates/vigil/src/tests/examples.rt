@@ -141,6 +141,34 @@ fn standby_example(rt: HostRuntime) -> Result<(), Fail> {
     assert_example(&rt, &STANDBY)
 }
 
+const RESET: Example<'static> = Example {
+    text: "# LOAD never counts. At most two resets are made.\nepoch 1000\nregion RAM 0x1000 256\nstart\nsend 18AEC000000309810002\nsend 1888C000000A03050800001010000000AB\ntick\n\n# Frame 1: the first reset. The no-op is lost.\nsend 1888C000000100AE\ntick\n\n# Frame 2: the byte is asked for.\nsend 1888C000000602A30800001010\ntick\n\n# Frame 3: it is shown, beside the second reset.\ntick\ntick\n\n# Frame 5: no more resets are made.\ntick\ntick\nend\n",
+    tables: &[
+        Table {
+            bytes: b"\x63\x46\x45\x31\x00\x00\x00\x08\x00\x00\x00\x00\x00\x00\x00\x00\x00\x00\x00\x00\x00\x00\x00\x00\x00\x00\x00\x00\x00\x00\x00\x00\x00\x00\x00\x00\x00\x00\x00\x00\x00\x00\x00\x00\x00\x00\x00\x00\x00\x00\x00\x00\x00\x00\x00\x00\x00\x00\x00\x00\x00\x00\x00\x00\x00\x00\x00\x00\x00\x00\x00\x00\x00\x00\x03\x00\x48\x53\x2E\x41\x70\x70\x4D\x6F\x6E\x5F\x54\x62\x6C\x00\x00\x00\x00\x00\x00\x00\x00\x00\x00\x00\x00\x00\x00\x00\x00\x00\x00\x00\x00\x00\x00\x00\x00\x00\x00\x00\x4C\x4F\x41\x44\x00\x00\x00\x00\x00\x00\x00\x00\x00\x00\x00\x00\x00\x00\x00\x00\x00\x02\x00\x01",
+            len: 884,
+        },
+        Table {
+            bytes: b"\x63\x46\x45\x31\x00\x00\x00\x08\x00\x00\x00\x00\x00\x00\x00\x00\x00\x00\x00\x00\x00\x00\x00\x00\x00\x00\x00\x00\x00\x00\x00\x00\x00\x00\x00\x00\x00\x00\x00\x00\x00\x00\x00\x00\x00\x00\x00\x00\x00\x00\x00\x00\x00\x00\x00\x00\x00\x00\x00\x00\x00\x00\x00\x00\x00\x00\x00\x00\x00\x00\x00\x00\x00\x00\x00\x0A\x53\x43\x2E\x52\x54\x53\x5F\x54\x42\x4C\x30\x30\x31\x00\x00\x00\x00\x00\x00\x00\x00\x00\x00\x00\x00\x00\x00\x00\x00\x00\x00\x00\x00\x00\x00\x00\x00\x00\x00\x00\x00\x01\x18\x88\xC0\x00\x00\x01\x00\xAE",
+            len: 126,
+        },
+    ],
+    log: "1 pkt 0808C0000025000003E900004853000000000000000000000000000000000000001900020000004200000001\n1 pkt 0808C0010025000003E900004853000000000000000000000000000000000000006500030000004200000001\n1 reset\n1 pkt 1888C000000100AE\n1 pkt 0808C0020025000003E900005343000000000000000000000000000000000000006800020000004200000001\n1 pkt 0808C0030025000003E900004D4D000000000000000000000000000000000000001300020000004200000001\n3 pkt 0808C0040025000003EB00004853000000000000000000000000000000000000006500030000004200000001\n3 reset\n3 pkt 1888C000000100AE\n3 pkt 0808C0050025000003EB00005343000000000000000000000000000000000000006800020000004200000001\n3 pkt 088AC000000E000003EB00000800001010000000AB\n3 pkt 0808C0060025000003EB00004D4D000000000000000000000000000000000000001200020000004200000001\n5 pkt 0808C0070025000003ED00004853000000000000000000000000000000000000006900030000004200000001\n5 pkt 1888C000000100AE\n5 pkt 0808C0080025000003ED00005343000000000000000000000000000000000000006800020000004200000001\n6 pkt 0808C0090025000003EE00004D4D000000000000000000000000000000000000001000020000004200000001\n",
+    error: "",
+    report: Report {
+        status: Status::Done,
+        file: 0,
+        line: 0,
+        reason: 0,
+        frames: 7,
+    },
+};
+
+#[test]
+fn reset_example(rt: HostRuntime) -> Result<(), Fail> {
+    assert_example(&rt, &RESET)
+}
+
 const DWELL: Example<'static> = Example {
     text: "# Dwell table 1: two bytes at 0x1000, and a wakeup later one byte at 0x1002.\nepoch 1000\nregion RAM 0x1000 256\nstart\n\n# Frame 0: values to read, and a start of table 1.\nupset 0x1000 0x11\nupset 0x1001 0x22\nupset 0x1002 0x33\nupset 0x1004 0x44\nupset 0x1005 0x55\nupset 0x1006 0x66\nupset 0x1007 0x77\nsend 1890C000000302B70001\ntick\n\n# Frame 1 reads entry 1. Frame 2 reads entry 2, whose byte changes in that frame.\ntick\nupset 0x1002 0x34\ntick\n\n# Frame 3 begins the next round; the jam that it sends ends it.\nsend 1890C000000D04AC000100020004000100001004\ntick\n\n# Frames 4 and 5: the round with the new entry. Frame 5 sends a stop.\ntick\nsend 1890C000000303B60001\ntick\n\n# Frame 6: stopped.\nsend 1891C000000100B7\ntick\ntick\nend\n",
     tables: &[Table {

@@ -1,9 +1,10 @@
 //! Tables that become active in a frame.
 
-use super::runs::{HEADER, Line, Part, Rehearsal, assert_rehearsal};
+use super::runs::{HEADER, Line, Part, Rehearsal, assert_log_beside, assert_rehearsal, log_of};
+use super::sequences::push_stored;
 use super::tables::{
     Dwelling, actions_file, apps_file, ats_file, counts_file, dwell_file, events_file, load_file,
-    rts_file, segments_file,
+    rts_file, segments_file, sequence_file,
 };
 use std::test::Fail;
 
@@ -102,8 +103,8 @@ const MONITORS: [Rehearsal<'static>; 3] = [
     },
 ];
 
-/// No table, tables that can't become active, a load file, and files past the last.
-const REFUSED: Rehearsal<'static> = Rehearsal {
+/// No table, tables of CS and SC, one of message actions, a load file, and files past the last.
+const OTHERS: Rehearsal<'static> = Rehearsal {
     frames: 1,
     parts: &[&[(
         0,
@@ -111,10 +112,10 @@ const REFUSED: Rehearsal<'static> = Rehearsal {
     )]],
     lines: &[
         Line::Event("TBL", 0, 0, 2, 3),
-        Line::Event("TBL", 0, 1, 2, 3),
-        Line::Event("TBL", 0, 2, 2, 3),
-        Line::Event("TBL", 0, 3, 2, 3),
-        Line::Event("TBL", 0, 4, 2, 3),
+        Line::Event("TBL", 0, 1, 1, 2),
+        Line::Event("TBL", 0, 2, 1, 2),
+        Line::Event("TBL", 0, 3, 1, 2),
+        Line::Event("TBL", 0, 4, 1, 2),
         Line::Event("TBL", 0, 5, 2, 3),
         Line::Event("TBL", 0, 6, 2, 3),
         Line::Event("TBL", 0, 7, 2, 3),
@@ -151,7 +152,7 @@ fn standby_monitors_become_active(rt: HostRuntime) -> Result<(), Fail> {
 }
 
 #[test]
-fn other_files_are_refused(rt: HostRuntime) -> Result<(), Fail> {
+fn other_files_are_named(rt: HostRuntime) -> Result<(), Fail> {
     let eeprom = segments_file(rt.alloc(), "CS.DefEepromTbl", &[])?;
     let memory = segments_file(rt.alloc(), "CS.DefMemoryTbl", &[])?;
     let absolute = ats_file(rt.alloc(), "SC.ATS_TBL1", &[])?;
@@ -162,7 +163,7 @@ fn other_files_are_refused(rt: HostRuntime) -> Result<(), Fail> {
         &rt,
         HEADER,
         &[&eeprom, &memory, &absolute, &relative, &actions, &load],
-        &REFUSED,
+        &OTHERS,
     )
 }
 
@@ -274,4 +275,118 @@ fn orders_before_an_activation_are_forgotten(rt: HostRuntime) -> Result<(), Fail
         ],
     };
     assert_rehearsal(&rt, HEADER, &[&file, &file], &jammed)
+}
+
+/// A baseline is forgotten with the table that is exchanged, and so is a byte that differed from it; a pass begins anew in the middle.
+#[test]
+fn checksum_tables_become_active(rt: HostRuntime) -> Result<(), Fail> {
+    let header = "epoch 1000\nregion RAM 0x10000 4096\nstart\n";
+    let file = segments_file(rt.alloc(), "CS.DefMemoryTbl", &[(1, 1, 0x10000, 2500)])?;
+    let forgotten = Rehearsal {
+        frames: 9,
+        parts: &[&[
+            (0, "upset 0x10001 1\n"),
+            (5, "upset 0x10834 1\n"),
+            (6, "activate 2\n"),
+        ]],
+        lines: &[
+            Line::Event("CS", 5, 0, 101, 3),
+            Line::Event("TBL", 6, 1, 1, 2),
+        ],
+    };
+    assert_rehearsal(&rt, header, &[&file, &file], &forgotten)?;
+    let in_the_middle = Rehearsal {
+        frames: 11,
+        parts: &[&[
+            (0, "upset 0x10001 1\n"),
+            (4, "activate 2\n"),
+            (9, "upset 0x10834 1\n"),
+        ]],
+        lines: &[
+            Line::Event("TBL", 4, 0, 1, 2),
+            Line::Event("CS", 9, 1, 101, 3),
+        ],
+    };
+    assert_rehearsal(&rt, header, &[&file, &file], &in_the_middle)
+}
+
+/// A peek of the first byte.
+const FIRST_PEEK: &[u8] = b"\x18\x88\xC0\x00\x00\x06\x02\xB3\x08\x00\x00\x10\x00";
+
+/// A sequence that runs is kept; once it doesn't, it is exchanged, and its new commands leave where it is started.
+#[test]
+fn running_sequences_are_kept(rt: HostRuntime) -> Result<(), Fail> {
+    let slow = ats_file(rt.alloc(), "SC.ATS_TBL1", &[(1, 1002, FIRST_PEEK)])?;
+    let later = ats_file(rt.alloc(), "SC.ATS_TBL1", &[(1, 1005, FIRST_PEEK)])?;
+    let rehearsal = Rehearsal {
+        frames: 7,
+        parts: &[&[
+            (0, "send 18A9C0000003028E0001\n"),
+            (2, "activate 2\nactivate 1\n"),
+            (3, "activate 2\nsend 18A9C0000003028E0001\n"),
+            (5, "activate 1\n"),
+            (6, "activate 1\n"),
+        ]],
+        lines: &[
+            Line::Event("SC", 1, 0, 18, 2),
+            Line::Event("TBL", 2, 1, 3, 3),
+            Line::Event("TBL", 2, 2, 3, 3),
+            Line::Text("2 pkt 1888C000000602B30800001000"),
+            Line::Event("SC", 2, 3, 103, 2),
+            Line::Event("TBL", 3, 4, 1, 2),
+            Line::Text("3 pkt 088AC000000E000003EB0000080000100000000000"),
+            Line::Event("MM", 3, 5, 18, 2),
+            Line::Event("SC", 4, 6, 18, 2),
+            Line::Event("TBL", 5, 7, 3, 3),
+            Line::Text("5 pkt 1888C000000602B30800001000"),
+            Line::Event("SC", 5, 8, 103, 2),
+            Line::Event("TBL", 6, 9, 1, 2),
+            Line::Text("6 pkt 088AC001000E000003EE0000080000100000000000"),
+            Line::Event("MM", 6, 10, 18, 2),
+        ],
+    };
+    assert_rehearsal(&rt, HEADER, &[&slow, &later], &rehearsal)
+}
+
+/// A peek of the byte at 0x1000 plus a number.
+fn peek_of(number: u8) -> [u8; 13] {
+    [
+        0x18,
+        0x88,
+        0xC0,
+        0,
+        0,
+        6,
+        2,
+        0xB3 ^ number,
+        8,
+        0,
+        0,
+        0x10,
+        number,
+    ]
+}
+
+/// Ten commands at one time, stored from the last to the first: their file is named again in the frame in which eight of them leave.
+#[test]
+fn leaving_commands_are_kept(rt: HostRuntime) -> Result<(), Fail> {
+    let alloc = rt.alloc();
+    let mut payload = Vec::new(alloc);
+    for number in [10_u8, 9, 8, 7, 6, 5, 4, 3, 2, 1].iter() {
+        payload.extend_from_slice(&u16::from(*number).to_be_bytes())?;
+        payload.extend_from_slice(&1002_u32.to_be_bytes())?;
+        payload.extend_from_slice(&peek_of(*number))?;
+    }
+    let lines = [
+        Line::Event("SC", 1, 0, 18, 2),
+        Line::Event("TBL", 2, 1, 3, 3),
+    ];
+    let mut log = log_of(alloc, &lines)?;
+    for number in [1_u8, 2, 3, 4, 5, 6, 7, 8].iter() {
+        push_stored(&mut log, 2, &peek_of(*number))?;
+    }
+    let mut text = String::from_str(alloc, HEADER)?;
+    text.push_str("send 18A9C0000003028E0001\ntick\ntick\nactivate 2\ntick\nend\n")?;
+    let file = sequence_file(alloc, "SC.ATS_TBL1", &payload)?;
+    assert_log_beside(&rt, &[&file, &file], text.as_str(), 3, log.as_str())
 }

@@ -23,9 +23,9 @@ use Rattle.bus_pipes.specs.Pipes.{pipe_of, offered, count_of_id}
 use Rattle.bus_pipes.specs.Delivery.{after_offer_to, after_offer, drop_of, after_offers, drops_from}
 use Rattle.frame_exec.specs.Tables.{tables_of, blank_tables}
 use Rattle.table_files.specs.Files.{kind_at}
-use Rattle.frame_exec.specs.Activations.{table_events, tables_name}
+use Rattle.frame_exec.specs.Activations.{tables_name}
 use Rattle.frame_exec.specs.Sending.{sent_of}
-use Rattle.frame_exec.specs.Runs.{beginning, image_at, cs_input_at, mm_input_at, md_input_at, items_at, operations_at, left_by, sent_at, resets_at, offers_at, lines_at, after_wakeups, activated_at, after_frame, run_of, frame_lines, log_of}
+use Rattle.frame_exec.specs.Runs.{beginning, table_events, image_at, cs_input_at, mm_input_at, md_input_at, items_at, operations_at, left_by, sent_at, resets_at, offers_at, lines_at, after_wakeups, activated_at, after_frame, run_of, frame_lines, log_of}
 use Rattle.frame_exec.proofs.laws.worked_run.Goals as goal
 
 pub returns-clause-answered : goal.returns-clause-answered

@@ -1,9 +1,7 @@
-use Rattle.std.proofs.Common.{ℕ, List, [], ◌∷◌, length, take, get_or, refl, sym, ◌∙◌, ap, subst, arith, take_all}
+use Rattle.std.proofs.Common.{ℕ, List, [], ◌∷◌, take, get_or, refl, sym, subst, arith, take_all}
 use Rattle.std.proofs.lemmas.List.{get_or_default, length-take}
 use Rattle.histories.proofs.Fronts.{front_more}
-use Rattle.bus_pipes.specs.declared.names.Out.{Out}
-use Rattle.frame_exec.specs.Stages.{Activates, time_of}
-use Rattle.frame_exec.proofs.Activating.{events_many}
+use Rattle.frame_exec.specs.Stages.{Activates}
 use Rattle.frame_exec.proofs.Naming.{activates_none, activates_more, ready_told}
 use Rattle.frame_exec.proofs.bench.Bench.activate_all.Goals as goal
 
@@ -12,9 +10,7 @@ files-init c = record { named = activates_none c.args.self.now c.clear.new.self 
 
 pub name_file-requires-clause-room : goal.name_file-requires-clause-room
 name_file-requires-clause-room c =
-    let old = c.args.self.now in
-    let numbers = take c.files.file-index c.args.files.now in
-    let told = ap (λ (items : List Out). length items) c.files.invariant.named.events ∙ events_many old.tables.files (time_of old) numbers in
+    let told = c.files.invariant.named.many in
     let front = length-take c.files.file-index c.args.files.now in
     omega (arith, told, front, c.files-test.true, c.requires.few)
 

@@ -1,4 +1,3 @@
-use Rattle.std.proofs.Common.{ap, ◌∙◌}
 use Rattle.frame_exec.proofs.Offers.{reset_in_six}
 use Rattle.frame_exec.proofs.bench.Bench.asks_for_reset.Goals as goal
 

@@ -3,6 +3,7 @@ use Rattle.cs_slices.specs.declared.segments.Segment.{Segment}
 use Rattle.md_dwell.specs.Given.{TablesGiven}
 use Rattle.md_dwell.specs.State.{Stands as MdStands, AllGiven}
 use Rattle.md_dwell.specs.Tables.{DwellTable}
+use Rattle.cs_slices.specs.Tables.{pair_of}
 use Rattle.cs_slices.specs.State.{Stands as CsStands}
 use Rattle.sc_tables.specs.Commands.{TimedCommand}
 use Rattle.sc_sequences.specs.Histories.{begun_at}
@@ -11,8 +12,8 @@ use Rattle.mm_core.specs.State.{Stands as MmStands}
 use Rattle.hs_tables.specs.declared.tables.HsTables.{HsTables}
 use Rattle.hs_monitors.specs.Histories.{setup_of}
 use Rattle.hs_monitors.specs.State.{Stands as HsStands}
+use Rattle.frame_exec.specs.Applications.{cs_tables}
 use Rattle.frame_exec.proofs.Frames.{stands_opened}
-use Rattle.frame_exec.proofs.Health.{tables_begun}
 use Rattle.frame_exec.proofs.bench.Bench.begin.Goals as goal
 
 pub returns : goal.returns
@@ -21,9 +22,10 @@ returns c = λ files loaded.
     let regions = c.args.header.now.map in
     let dwells = c.start-5.ensures.given regions (subst (TablesGiven regions) (sym c.dwells.ensures.dwells) c.requires.given.set.dwells) in
     stands_opened _ _ refl loaded.kept refl c.in_ok-open-10.ensures.empty refl loaded.named
-    (sym (tables_begun (setup_of tables.hs 0 3)), subst (HsStands (setup_of tables.hs 0 3) []) (sym c.in_ok-open.ensures) (subst (λ (hs : HsTables). HsStands (setup_of hs 0 3) [] c.start.result) c.hs.ensures c.start.ensures))
-    (subst (CsStands tables.eeprom tables.memory []) (sym c.in_ok-open-2.ensures)
-    (subst (λ (memory : List Segment). CsStands tables.eeprom memory [] c.start-2.result) c.memory.ensures (subst (λ (eeprom : List Segment). CsStands eeprom c.memory.result.now [] c.start-2.result) c.eeprom.ensures c.start-2.ensures)))
+    (subst (HsStands (setup_of tables.hs 0 3) []) (sym c.in_ok-open.ensures) (subst (λ (hs : HsTables). HsStands (setup_of hs 0 3) [] c.start.result) c.hs.ensures c.start.ensures))
+    (subst (CsStands (cs_tables tables) []) (sym c.in_ok-open-2.ensures)
+    (subst (λ (memory : List Segment). CsStands (pair_of tables.eeprom memory) [] c.start-2.result) c.memory.ensures
+    (subst (λ (eeprom : List Segment). CsStands (pair_of eeprom c.memory.result.now) [] c.start-2.result) c.eeprom.ensures c.start-2.ensures)))
     (subst (ScStands (begun_at c.args.header.now.epoch tables.sc) []) (sym c.in_ok-open-3.ensures) (subst (λ (sc : List (List TimedCommand)). ScStands (begun_at c.args.header.now.epoch sc) [] c.start-3.result) c.sc.ensures c.start-3.ensures.stands))
     (subst (MmStands []) (sym c.in_ok-open-4.ensures) c.start-4.ensures)
     (subst (MdStands tables.dwells []) (sym c.in_ok-open-5.ensures) (subst (λ (ts : List DwellTable). MdStands ts [] c.start-5.result) c.dwells.ensures.dwells c.start-5.ensures.stands))

@@ -12,8 +12,8 @@ use Rattle.scenario.specs.declared.frame.App.{App}
 use Rattle.packet_forms.specs.declared.name.Counter.{Counter}
 use Rattle.frame_exec.specs.Tables.{Loaded}
 use Rattle.frame_exec.specs.Runs.{activated_at}
-use Rattle.frame_exec.specs.Stages.{Takes, Steps, time_of}
-use Rattle.frame_exec.proofs.Activating.{events_counted, events_many}
+use Rattle.frame_exec.specs.Stages.{Takes, Steps}
+use Rattle.std.proofs.lemmas.List.Elements.{All-nil}
 use Rattle.frame_exec.proofs.Frames.{apps_kept, ready_by, regions_same}
 use Rattle.frame_exec.proofs.Naming.{activated_has, events_at}
 use Rattle.frame_exec.proofs.Waking.{image_is}
@@ -31,8 +31,8 @@ upset-requires g c =
 
 pub step-none-requires-clause-told : goal.step-none-requires-clause-told
 step-none-requires-clause-told g c = λ _ _.
-    let told = ap (λ (held : Held Out). held.items) (c.take.ensures.told ∙ c.upset.ensures.told) ∙ c.activate.ensures.activates.events in
-    subst (AllPass is_item_counted) (sym told) (events_counted c.args.self.now.tables.files (time_of c.args.self.now) c.activations.result.now)
+    let told = ap (λ (held : Held Out). held.items) (c.take.ensures.told ∙ c.upset.ensures.told) in
+    subst (AllPass is_item_counted) (sym told) (c.activate.ensures.activates.counted (All-nil (λ (item : Out). is_item_counted item ≡ true)))
 
 pub step-none-requires-clause-ready : goal.step-none-requires-clause-ready
 step-none-requires-clause-ready g c = λ _ _.
@@ -42,10 +42,11 @@ step-none-requires-clause-ready g c = λ _ _.
 
 pub send-requires-clause-few : goal.send-requires-clause-few
 send-requires-clause-few g c =
-    let told = ap (λ (held : Held Out). length held.items) (c.step-none.ensures.steps.told ∙ c.take.ensures.told ∙ c.upset.ensures.told) ∙ ap (λ (items : List Out). length items) c.activate.ensures.activates.events
-    ∙ events_many c.args.self.now.tables.files (time_of c.args.self.now) c.activations.result.now ∙ ap (λ (ns : List ℕ). length ns) c.activations.ensures.value in
+    let told = ap (λ (held : Held Out). length held.items) (c.step-none.ensures.steps.told ∙ c.take.ensures.told ∙ c.upset.ensures.told) in
+    let many = c.activate.ensures.activates.many in
+    let named = ap (λ (ns : List ℕ). length ns) c.activations.ensures.value in
     let limit = c.activations.ensures.limit in
-    omega (arith, told, limit)
+    omega (arith, told, many, named, limit)
 
 pub returns-clause-run : goal.returns-clause-run
 returns-clause-run g c =
@@ -64,7 +65,6 @@ returns-clause-run g c =
 
 pub returns-clause-runs : goal.returns-clause-runs
 returns-clause-runs g c = λ setup s epoch files has.
-    let old = c.args.self.now in
     let frame = c.args.input.now in
     let active = c.activate.ensures.activates in
     let now = c.activate.new.self in
@@ -75,5 +75,5 @@ returns-clause-runs g c = λ setup s epoch files has.
     ran setup t frame c.upset.new.self c.take.new.self c.step-none.new.self (upset.run.epoch ∙ active.goes.epoch ∙ epoch) (ap (λ (l : Loaded). l.files) upset.run.tables ∙ active.goes.files ∙ files) (upset.run.number ∙ has_now.number)
     (ap (λ (l : Loaded). l.set) upset.run.tables ∙ has_now.tables) (upset.pipes ∙ has_now.pipes) (image_is t frame now.ram c.upset.new.self.ram c.upsets.result.now has_now.memory c.upsets.ensures.value upset.memory)
     (apps_kept now c.upset.new.self t upset.apps has_now.apps)
-    (ap (λ (held : Held Out). held.items) upset.told ∙ events_at old setup s frame now.activations.items c.activations.result.now files epoch has.number c.activations.ensures.value active.events)
+    (ap (λ (held : Held Out). held.items) upset.told ∙ events_at setup s frame now.activations.items c.activations.result.now c.activations.ensures.value (active.events setup s epoch files has))
     (subst (λ (held : List App). Takes held c.upset.new.self c.take.new.self) c.held.ensures.value c.take.ensures) steps c.send.new.self (subst (LogStands t.made) (sym upset.log) has_now.made) c.send.ensures.sends

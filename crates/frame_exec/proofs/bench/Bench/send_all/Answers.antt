@@ -1,4 +1,4 @@
-use Rattle.std.proofs.Common.{◌≡◌, Bool, true, false, ℕ, List, [], ◌++◌, sym, ◌∙◌, ap}
+use Rattle.std.proofs.Common.{◌≡◌, Bool, ℕ, List, [], ◌++◌, sym, ◌∙◌, ap}
 use Rattle.std.specs.List.{flat_map}
 use Rattle.bus_pipes.specs.Held.{Held, adding}
 use Rattle.bus_pipes.specs.Delivery.{after_offers, drops_from}

@@ -1,4 +1,4 @@
-use Rattle.std.proofs.Common.{ℕ, List, [], ◌++◌, refl, sym, ◌∙◌, ap, subst, append-nil}
+use Rattle.std.proofs.Common.{ℕ, List, [], ◌++◌, refl, sym, subst, append-nil}
 use Rattle.std.specs.List.{flat_map}
 use Rattle.packet_log.specs.Sent.{makes}
 use Rattle.packet_log.specs.Standing.{Stands as LogStands}

@@ -1,4 +1,4 @@
-use Rattle.std.proofs.Common.{◌≡◌, ◌∙◌, List, ap, refl, subst, sym}
+use Rattle.std.proofs.Common.{◌≡◌, ◌∙◌, List, ap, subst, sym}
 use Rattle.table_files.specs.Files.{loads_of}
 use Rattle.memory_window.specs.Memory.{Memory, regions_of}
 use Rattle.memory_window.specs.declared.operations.MemOp.{MemOp}
@@ -6,13 +6,11 @@ use Rattle.sc_sequences.specs.State.{IsReady as ScIsReady}
 use Rattle.sc_sequences.specs.declared.state.Sc.{Sc}
 use Rattle.md_dwell.specs.State.{AllGiven}
 use Rattle.md_dwell.specs.declared.state.Md.{Md}
-use Rattle.cs_slices.specs.declared.state.Cs.{Cs}
 use Rattle.std.specs.List.{AllPass}
 use Rattle.bus_pipes.specs.Held.{Held}
 use Rattle.bus_pipes.specs.Counted.{is_item_counted}
 use Rattle.bus_pipes.specs.declared.names.Out.{Out}
 use Rattle.frame_exec.specs.Landable.{CanLand}
-use Rattle.frame_exec.specs.Ready.{CsIsReady}
 use Rattle.frame_exec.specs.Tables.{Loaded, AreGiven}
 use Rattle.frame_exec.specs.Stages.{loads_in}
 use Rattle.frame_exec.proofs.Taking.{state_is, taken_woken, taken_sendable}
@@ -29,8 +27,8 @@ returns-clause-steps g c =
       run = record { waits = more.waits ∙ run.waits; epoch = more.epoch ∙ run.epoch; number = more.number ∙ run.number; failed = more.failed ∙ run.failed; tables = more.tables ∙ run.tables };
       told = taken.told ∙ woken.told;
       hs = λ tables same. taken_woken _ _ _ _ _ _ _ _ _ _ _ _ _ (woken.hs taken.hs.0 taken.hs.1) (ap (λ slot. slot.state.value) slots.hs) taken.hs.2.0 taken.hs.2.1 tables (sym same);
-      cs = taken_woken _ _ _ _ _ _ _ _ _ _ _ _ _ (woken.cs taken.cs.0 taken.cs.1).0 (ap (λ slot. slot.state.value) slots.cs) taken.cs.2.0 taken.cs.2.1 c.args.self.now.tables.set (refl, refl);
-      sc = λ begin same. taken_woken _ _ _ _ _ _ _ _ _ _ _ _ _ (woken.sc taken.sc.0 taken.sc.1).0 (ap (λ slot. slot.state.value) slots.sc) taken.sc.2.0 taken.sc.2.1 begin (sym same);
+      cs = λ tables same. taken_woken _ _ _ _ _ _ _ _ _ _ _ _ _ (woken.cs taken.cs.0 taken.cs.1) (ap (λ slot. slot.state.value) slots.cs) taken.cs.2.0 taken.cs.2.1 tables (sym same);
+      sc = λ tables same. taken_woken _ _ _ _ _ _ _ _ _ _ _ _ _ (woken.sc taken.sc.0 taken.sc.1).0 (ap (λ slot. slot.state.value) slots.sc) taken.sc.2.0 taken.sc.2.1 tables (sym same);
       mm = λ tables. taken_woken _ _ _ _ _ _ _ _ _ _ _ _ _ (woken.mm taken.mm.0 taken.mm.1).0 (ap (λ slot. slot.state.value) slots.mm) taken.mm.2.0 taken.mm.2.1 tables tt;
       md = λ tables. taken_woken _ _ _ _ _ _ _ _ _ _ _ _ _ (woken.md taken.md.0 taken.md.1).0 (ap (λ slot. slot.state.value) slots.md) taken.md.2.0 taken.md.2.1 tables tt;
       operations = taken.mm.2.2 ∙ (woken.mm taken.mm.0 taken.mm.1).1.are;
@@ -52,7 +50,7 @@ returns-clause-can_send g c =
     record {
       told = subst (λ (held : Held Out). AllPass is_item_counted held.items) (sym (taken.told ∙ woken.told)) c.requires.told;
       hs = taken_sendable _ _ _ _ _ _ _ _ _ _ _ _ _ (woken.hs taken.hs.0 taken.hs.1) (ap (λ slot. slot.state.value) slots.hs) taken.hs.2.0 taken.hs.2.1;
-      cs = taken_sendable _ _ _ _ _ _ _ _ _ _ _ _ _ (woken.cs taken.cs.0 taken.cs.1).0 (ap (λ slot. slot.state.value) slots.cs) taken.cs.2.0 taken.cs.2.1;
+      cs = taken_sendable _ _ _ _ _ _ _ _ _ _ _ _ _ (woken.cs taken.cs.0 taken.cs.1) (ap (λ slot. slot.state.value) slots.cs) taken.cs.2.0 taken.cs.2.1;
       sc = taken_sendable _ _ _ _ _ _ _ _ _ _ _ _ _ (woken.sc taken.sc.0 taken.sc.1).0 (ap (λ slot. slot.state.value) slots.sc) taken.sc.2.0 taken.sc.2.1;
       mm = taken_sendable _ _ _ _ _ _ _ _ _ _ _ _ _ (woken.mm taken.mm.0 taken.mm.1).0 (ap (λ slot. slot.state.value) slots.mm) taken.mm.2.0 taken.mm.2.1;
       md = taken_sendable _ _ _ _ _ _ _ _ _ _ _ _ _ (woken.md taken.md.0 taken.md.1).0 (ap (λ slot. slot.state.value) slots.md) taken.md.2.0 taken.md.2.1;
@@ -69,13 +67,9 @@ returns-clause-ready g c =
     let slots = woken.slots in
     let ram : new.ram ≡ old.ram = taken.memory ∙ slots.memory in
     let tables : new.tables ≡ old.tables = taken.run.tables ∙ woken.run.tables in
-    let cs = (woken.cs taken.cs.0 taken.cs.1) in
     let sc = (woken.sc taken.sc.0 taken.sc.1) in
     let md = (woken.md taken.md.0 taken.md.1) in
     record {
-      cs = subst (λ (m : Memory). CsIsReady (regions_of m.areas) new.tables.set.eeprom new.tables.set.memory new.cs.state.value) (sym ram)
-          (subst (λ (t : Loaded). CsIsReady (regions_of old.ram.areas) t.set.eeprom t.set.memory new.cs.state.value) (sym tables)
-          (subst (λ (s : Cs). CsIsReady (regions_of old.ram.areas) old.tables.set.eeprom old.tables.set.memory s) (sym (state_is _ _ _ _ _ _ _ _ _ _ _ _ _ cs.0 (ap (λ slot. slot.state.value) slots.cs) taken.cs.2.0 taken.cs.2.1)) cs.1));
       sc = subst (λ (t : Loaded). ScIsReady t.set.sc new.sc.state.value) (sym tables)
           (subst (λ (s : Sc). ScIsReady old.tables.set.sc s) (sym (state_is _ _ _ _ _ _ _ _ _ _ _ _ _ sc.0 (ap (λ slot. slot.state.value) slots.sc) taken.sc.2.0 taken.sc.2.1)) sc.1);
       md = subst (λ (m : Memory). AllGiven (regions_of m.areas) new.md.state.value) (sym ram)

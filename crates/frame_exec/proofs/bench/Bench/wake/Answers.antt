@@ -1,8 +1,11 @@
 use Rattle.std.proofs.Common.{◌≡◌, ℕ, List, ◌+◌, ◌∙◌, refl, sym, subst, arith}
 use Rattle.memory_window.specs.Memory.{Memory, regions_of}
 use Rattle.md_dwell.specs.State.{AllGiven}
-use Rattle.frame_exec.specs.Applications.{Active, cs_stands, mm_stands, md_stands, cs_gives, mm_gives, md_gives, cs_reads, mm_reads, md_reads}
-use Rattle.frame_exec.specs.Ready.{CsIsReady}
+use Rattle.md_dwell.specs.declared.step.TheConstants.{MOST_ITEMS as md_most}
+use Rattle.cs_slices.specs.declared.step.TheConstants.{MOST_ITEMS as cs_most}
+use Rattle.mm_core.specs.declared.step.TheConstants.{MOST_ITEMS as mm_most}
+use Rattle.frame_exec.specs.Applications.{Active, cs_tables, cs_stands, mm_stands, md_stands, cs_gives, mm_gives, md_gives, cs_reads, mm_reads, md_reads}
+use Rattle.cs_slices.specs.Given.{SegmentsGiven}
 use Rattle.frame_exec.specs.Tables.{TableSet}
 use Rattle.frame_exec.specs.Wakes.{next_of}
 use Rattle.frame_exec.specs.Jobs.{Gives, Operates}
@@ -15,7 +18,8 @@ invariant_of-scene g c =
     let old = c.args.self.now in
     let is = sym c.window-window.ensures.window in
     record {
-      cs = subst (λ (m : Memory). CsIsReady (regions_of m.areas) old.tables.set.eeprom old.tables.set.memory old.cs.state.value) is c.requires.ready.cs;
+      eeprom = subst (λ (m : Memory). SegmentsGiven (regions_of m.areas) old.tables.set.eeprom) is c.requires.ready.given.set.eeprom;
+      memory = subst (λ (m : Memory). SegmentsGiven (regions_of m.areas) old.tables.set.memory) is c.requires.ready.given.set.memory;
       sc = c.requires.ready.sc;
       md = subst (λ (m : Memory). AllGiven (regions_of m.areas) old.md.state.value) is c.requires.ready.md;
     }
@@ -33,11 +37,11 @@ returns g c =
       slots = record { hs = refl; cs = refl; sc = refl; mm = refl; md = refl; operations = refl; pipes = refl; log = refl; memory = refl };
       five = c.run.ensures.results.0 ∙ five;
       hs = λ left at. done 0 (omega (arith, five)) _ left refl at;
-      cs = λ left at. subst (λ (m : Memory). Gives (λ t. (old.tables.set.eeprom ≡ t.eeprom) × (old.tables.set.memory ≡ t.memory)) cs_stands cs_gives 33 old.cs.held (cs_reads time old.cs.commands m) old.cs.state.value left.stays left.cs.value left.out.items
-          × CsIsReady (regions_of m.areas) old.tables.set.eeprom old.tables.set.memory (next_of left.stays left.cs.value old.cs.state.value)) is (done 1 (omega (arith, five)) _ left refl at);
+      cs = λ left at. subst (λ (m : Memory). Gives (λ t. cs_tables old.tables.set ≡ cs_tables t.now) cs_stands cs_gives cs_most old.cs.held (cs_reads time old.cs.commands m) old.cs.state.value left.stays left.cs.value left.out.items) is
+          (done 1 (omega (arith, five)) _ left refl at);
       sc = λ left at. done 2 (omega (arith, five)) _ left refl at;
-      mm = λ left at. of_both (λ (files : List (List ℕ)) (m : Memory). Gives {Setup = TableSet} (λ t. Unit {0}) mm_stands mm_gives 272 old.mm.held (mm_reads (loads_of files) time old.mm.commands m) old.mm.state.value left.stays left.mm.value left.out.items
+      mm = λ left at. of_both (λ (files : List (List ℕ)) (m : Memory). Gives {Setup = TableSet} (λ t. Unit {0}) mm_stands mm_gives mm_most old.mm.held (mm_reads (loads_of files) time old.mm.commands m) old.mm.state.value left.stays left.mm.value left.out.items
           × Operates (loads_of files) old.mm.held time old.mm.commands m left.ops.value) _ _ _ _ c.files.ensures is (done 3 (omega (arith, five)) _ left refl at);
-      md = λ left at. subst (λ (m : Memory). Gives {Setup = Active} (λ t. Unit {0}) md_stands md_gives 20 old.md.held (md_reads time old.md.commands m) old.md.state.value left.stays left.md.value left.out.items
+      md = λ left at. subst (λ (m : Memory). Gives {Setup = Active} (λ t. Unit {0}) md_stands md_gives md_most old.md.held (md_reads time old.md.commands m) old.md.state.value left.stays left.md.value left.out.items
           × AllGiven (regions_of m.areas) (next_of left.stays left.md.value old.md.state.value)) is (done 4 (omega (arith, five)) _ left refl at);
     }

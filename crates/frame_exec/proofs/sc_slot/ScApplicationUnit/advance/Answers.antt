@@ -1,14 +1,13 @@
-use Rattle.std.proofs.Common.{List, sym, subst, ◌∙◌}
-use Rattle.sc_sequences.specs.Histories.{ScEntry}
-use Rattle.sc_sequences.specs.State.{Stands}
-use Rattle.frame_exec.specs.Applications.{sc_entries, sc_reads}
-use Rattle.frame_exec.proofs.Sequences.{woken_more, sequences_stay}
+use Rattle.std.proofs.Common.{sym, ◌∙◌}
+use Rattle.sc_sequences.specs.Histories.{Input, input_of}
+use Rattle.sc_sequences.proofs.Loaded.{tables_woken}
+use Rattle.frame_exec.specs.Applications.{sc_begun}
 use Rattle.frame_exec.proofs.sc_slot.ScApplicationUnit.advance.Goals as goal
 
 pub returns-clause-stands : goal.returns-clause-stands
-returns-clause-stands c = λ begin history belongs stands.
-    subst (λ (entries : List ScEntry). Stands begin entries c.advance.new.self) (sym (woken_more history (sc_reads c.args.reads.now.time c.args.commands.now)))
-    (c.advance.ensures.stands begin (sc_entries history) (c.sc.ensures ∙ belongs ∙ sym (sequences_stay begin history)) stands)
+returns-clause-stands c = λ setup history belongs stands.
+    let input : Input = input_of c.args.reads.now.time c.args.commands.now in
+    (stands.0 ∙ sym (tables_woken (sc_begun setup) history input), c.advance.ensures.stands (sc_begun setup) history (c.sc.ensures ∙ belongs ∙ stands.0) stands.1)
 
 pub returns-clause-items : goal.returns-clause-items
-returns-clause-items c = λ begin history belongs stands. c.advance.ensures.items begin (sc_entries history) (c.sc.ensures ∙ belongs ∙ sym (sequences_stay begin history)) stands
+returns-clause-items c = λ setup history belongs stands. c.advance.ensures.items (sc_begun setup) history (c.sc.ensures ∙ belongs ∙ stands.0) stands.1

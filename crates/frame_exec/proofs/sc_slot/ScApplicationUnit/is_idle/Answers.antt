@@ -1,14 +1,10 @@
-use Rattle.std.proofs.Common.{List, refl, sym, subst}
-use Rattle.sc_sequences.specs.Histories.{ScEntry}
-use Rattle.sc_sequences.specs.State.{Stands}
-use Rattle.frame_exec.specs.Applications.{sc_entries, sc_reads}
-use Rattle.frame_exec.proofs.Sequences.{woken_more}
+use Rattle.std.proofs.Common.{refl, sym, ◌∙◌}
+use Rattle.sc_sequences.specs.Histories.{Input, input_of}
+use Rattle.sc_sequences.proofs.Loaded.{tables_woken}
+use Rattle.frame_exec.specs.Applications.{sc_begun}
 use Rattle.frame_exec.proofs.sc_slot.ScApplicationUnit.is_idle.Goals as goal
 
 pub returns-clause-stands : goal.returns-clause-stands
-returns-clause-stands c = λ begin history idle belongs stands.
-    let input = sc_reads c.args.reads.now.time c.args.commands.now in
-    subst (λ (entries : List ScEntry). Stands begin entries c.args.self.now) (sym (woken_more history input)) (c.is_idle.ensures.stands begin (sc_entries history) input idle refl refl stands)
-
-pub returns-clause-items : goal.returns-clause-items
-returns-clause-items c = λ begin history idle belongs stands. c.is_idle.ensures.items begin (sc_entries history) (sc_reads c.args.reads.now.time c.args.commands.now) idle refl refl stands
+returns-clause-stands c = λ setup history idle belongs stands.
+    let input : Input = input_of c.args.reads.now.time c.args.commands.now in
+    (stands.0 ∙ sym (tables_woken (sc_begun setup) history input), c.is_idle.ensures.stands (sc_begun setup) history input idle refl refl stands.1)

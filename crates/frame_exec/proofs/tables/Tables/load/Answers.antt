@@ -1,4 +1,4 @@
-use Rattle.std.proofs.Common.{◌≡◌, ℕ, ◌+◌, ◌-◌, drop, Option, option_map, sym, ◌∙◌, ap, arith}
+use Rattle.std.proofs.Common.{◌≡◌, ℕ, ◌+◌, drop, Option, option_map, sym, ◌∙◌, ap, arith}
 use Rattle.table_files.specs.Files.{file_at}
 use Rattle.table_files.specs.declared.fault.EntryFault.{EntryFault}
 use Rattle.frame_exec.specs.Tables.{Loaded, said_or, first_said, entry_fault_in, fault_at, tables_of}
