@@ -1,3 +1,4 @@
+mod Copies
 pub mod Forms
 pub mod NameForms
 pub mod Checks

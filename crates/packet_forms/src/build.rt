@@ -69,9 +69,11 @@ pub(crate) fn draft_telemetry(
     ensures bytes { draft.new ≡ telemetry_of mid secs payload.now }
     ensures reads_back { IsTelemetryOf mid payload.now draft.new }
 {
-    begin(draft, mid, payload.len() + 12);
-    draft.append(&secondary_header(secs));
-    draft.append(payload);
+    let size = payload.len() + 12;
+    draft.resize(size);
+    draft.put(0, &primary_header(mid, size));
+    draft.put(6, &secondary_header(secs));
+    draft.put(12, payload);
 }
 
 /// Drafts an event message, over what was drafted before.
@@ -85,17 +87,19 @@ pub(crate) fn draft_event(
     ensures bytes { draft.new ≡ event_of name id kind secs }
     ensures reads_back { IsTelemetryOf EVENT (event_payload name id kind) draft.new }
 {
-    begin(draft, EVENT, 44);
-    draft.append(&secondary_header(secs));
-    draft.append(name.bytes());
-    draft.append(&event_end(id, kind));
+    draft.resize(44);
+    draft.put(0, &primary_header(EVENT, 44));
+    draft.put(6, &secondary_header(secs));
+    draft.put(12, name.bytes());
+    draft.put(32, &event_end(id, kind));
 }
 
 /// The seconds, and subseconds 0.
 #[inline(always)]
 #[tactic(auto, unfolding(crate::specs::Numbers::be16_bytes, crate::specs::Numbers::be32_bytes))]
 fn secondary_header(secs: u32) -> [u8; 6]
-    ensures { result ≡ be32_bytes secs ++ be16_bytes 0 }
+    ensures value { result ≡ be32_bytes secs ++ be16_bytes 0 }
+    ensures six { length result ≡ 6 }
 {
     let [a, b, c, d] = secs.to_be_bytes();
     [a, b, c, d, 0, 0]
@@ -105,22 +109,34 @@ fn secondary_header(secs: u32) -> [u8; 6]
 #[inline(always)]
 #[tactic(auto, unfolding(crate::specs::Numbers::be16_bytes, crate::specs::Numbers::be32_bytes))]
 fn event_end(id: u16, kind: u16) -> [u8; 12]
-    ensures { result ≡ be16_bytes id ++ be16_bytes kind ++ be32_bytes 66 ++ be32_bytes 1 }
+    ensures value { result ≡ be16_bytes id ++ be16_bytes kind ++ be32_bytes 66 ++ be32_bytes 1 }
+    ensures twelve { length result ≡ 12 }
 {
     let [a, b] = id.to_be_bytes();
     let [c, d] = kind.to_be_bytes();
     [a, b, c, d, 0, 0, 0, 66, 0, 0, 0, 1]
 }
 
-/// Begins a packet of `size` bytes with its header of six bytes, over what was drafted before.
-#[tactic(auto, unfolding(crate::specs::Built::primary_header, crate::specs::Numbers::be16_bytes))]
+/// Begins a packet of `size` bytes with its header of six bytes.
 fn begin(draft: &mut ByteList<PACKET_BYTES>, mid: u16, size: usize)
     requires long { 7 < size }
     requires short { size ≤ PACKET_BYTES }
     ensures header { draft.new ≡ primary_header mid size }
     ensures six { length draft.new ≡ 6 }
 {
+    draft.set(&primary_header(mid, size));
+}
+
+/// The header of a packet of `size` bytes.
+#[inline(always)]
+#[tactic(auto, unfolding(crate::specs::Built::primary_header, crate::specs::Numbers::be16_bytes))]
+fn primary_header(mid: u16, size: usize) -> [u8; 6]
+    requires long { 7 < size }
+    requires short { size ≤ PACKET_BYTES }
+    ensures header { result ≡ primary_header mid size }
+    ensures six { length result ≡ 6 }
+{
     let [a, b] = mid.to_be_bytes();
     let [c, d] = ((size - 7) as u16).to_be_bytes();
-    draft.set(&[a, b, 0xC0, 0, c, d]);
+    [a, b, 0xC0, 0, c, d]
 }

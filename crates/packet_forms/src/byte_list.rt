@@ -3,7 +3,7 @@
 ghost use Rattle.std.specs.Prelude.{◌≡◌, ◌≤◌, ◌+◌, [], ◌++◌, length, take, drop};
 ghost use Rattle.packet_forms.specs.Packets.{checksum_of};
 
-use crate::pieces::{exclusive_or, place, place_alone};
+use crate::pieces::{FEW, exclusive_or, place, place_few, place_over, wipe};
 use std::marker::Model;
 
 /// A list of at most `N` bytes.
@@ -56,13 +56,46 @@ impl<const N: usize> ByteList<N> {
         self.len += piece.len();
     }
 
-    /// Becomes a copy of these bytes.
+    /// Becomes a copy of these bytes. Zeros are written over the bytes so far alone, since behind them there are some.
     pub fn set(&mut self, bytes: &[u8])
         requires { length bytes.now ≤ N }
         ensures { self.new ≡ bytes.now }
     {
-        place_alone(&mut self.places, bytes);
+        place_over(&mut self.places, self.len, bytes);
         self.len = bytes.len();
+    }
+
+    /// Becomes a list of so many bytes: those so far, and zeros behind them.
+    pub(crate) fn resize(&mut self, len: usize)
+        requires { len ≤ N }
+        ensures { length self.new ≡ len }
+    {
+        if len < self.len {
+            wipe(&mut self.places, len, self.len);
+        }
+        self.len = len;
+    }
+
+    /// Writes the piece over the bytes from place `at` on. Those before it stay as they are.
+    pub(crate) fn put(&mut self, at: usize, piece: &[u8])
+        requires { at + length piece.now ≤ length self.old }
+        ensures front { take (at + length piece.now) self.new ≡ take at self.old ++ piece.now }
+        ensures size { length self.new ≡ length self.old }
+    {
+        self.overwrite(at, piece);
+    }
+
+    /// Becomes a copy of another list. Where both have few bytes no more than those places are copied, since zeros stand behind.
+    #[inline(always)]
+    pub fn copy_from(&mut self, other: &Self)
+        ensures { self.new ≡ other.now }
+    {
+        if N < FEW || self.len > FEW || other.len > FEW {
+            *self = *other;
+            return;
+        }
+        place_few(&mut self.places, &other.places);
+        self.len = other.len;
     }
 
     /// The exclusive or of the bytes. The zeros behind them are taken in too, so that all can be taken many at once.

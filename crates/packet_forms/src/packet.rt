@@ -91,6 +91,14 @@ impl Packet {
         Ok(())
     }
 
+    /// Becomes a copy of another packet, where it lies.
+    #[inline(always)]
+    pub fn copy_from(&mut self, other: &Packet)
+        ensures { self.new ≡ other.now }
+    {
+        self.list.copy_from(&other.list);
+    }
+
     /// Becomes telemetry of at most 244 payload bytes, where it lies: subseconds 0, sequence count 0.
     pub fn set_telemetry(&mut self, mid: u16, secs: u32, payload: &[u8])
         requires version { mid < 8192 }

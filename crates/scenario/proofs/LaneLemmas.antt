@@ -1,5 +1,5 @@
 -- Pairs of hexadecimal digits, eight at once.
-use Rattle.std.proofs.Common.{take-take, replicate, map, cond, not, nat_eq, ap₂, Fits, w8, eqb-true, ltb, ltb-true, ltb-false, min, ◌≡◌, ◌≤◌, ◌<◌, ◌+◌, ◌-◌, ◌*◌, ◌/◌, ◌%◌, ℕ, zero, suc, Bool, true, false, ◌&&◌, if◌then◌else◌, nat_lt, nat_le, ◌==◌, List, [], ◌∷◌, ◌++◌, length, take, drop, get_or, Option, Some, None, refl, ap, sym, ◌∙◌, arith}
+use Rattle.std.proofs.Common.{take-take, replicate, map, cond, not, nat_eq, ap₂, Fits, w8, eqb-true, ltb, ltb-true, ltb-false, min, ◌≡◌, ◌≤◌, ◌<◌, ◌+◌, ◌-◌, ◌*◌, ◌%◌, ℕ, zero, suc, Bool, true, false, ◌&&◌, if◌then◌else◌, nat_lt, nat_le, ◌==◌, List, [], ◌∷◌, ◌++◌, length, take, drop, get_or, Option, Some, None, refl, ap, sym, ◌∙◌, arith}
 use Rattle.std.specs.List.{All, list_all}
 use Rattle.std.proofs.lemmas.Bool.{agree_below, agree_below_at}
 use Rattle.std.proofs.lemmas.List.{length-map, get_or-map, length-take-le, take_at, length-drop, take-append-drop}

@@ -50,7 +50,7 @@ impl SendList {
         requires { length self.old < 64 }
         ensures { self.new ≡ self.old ++ packet.now ∷ [] }
     {
-        self.places[self.count] = *packet;
+        self.places[self.count].copy_from(packet);
         self.count += 1;
     }
 

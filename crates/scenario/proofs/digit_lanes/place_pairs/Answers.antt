@@ -1,6 +1,5 @@
-use Rattle.std.proofs.Common.{◌≡◌, ◌+◌, ◌*◌, ◌≤◌, ◌∙◌, ℕ, List, Option, Some, None, Bool, if◌then◌else◌, length, take, drop, sym, ap, arith, w8}
+use Rattle.std.proofs.Common.{◌*◌, ◌≤◌, ◌∙◌, ℕ, Some, None, Bool, if◌then◌else◌, length, take, drop, sym, ap, arith, w8}
 use Rattle.std.proofs.lemmas.Simd.{length-chunk, chunk-fits}
-use Rattle.scenario.specs.Words.{hex}
 use Rattle.scenario.specs.DigitPairs.{joined_pairs}
 use Rattle.scenario.proofs.LaneLemmas.{hex_by_lanes, front_placed, middle_placed}
 use Rattle.scenario.proofs.digit_lanes.place_pairs.Goals as goal

@@ -1,4 +1,4 @@
-use Rattle.std.proofs.Common.{ℕ, List, map, min, length, refl, ap, ◌≡◌, ◌∙◌}
+use Rattle.std.proofs.Common.{ℕ, map, min, length, refl, ap, ◌≡◌, ◌∙◌}
 use Rattle.std.proofs.lemmas.List.{length-map}
 use Rattle.std.proofs.lemmas.Simd.{zip2_splat, splat_is_map}
 use Rattle.scenario.specs.DigitPairs.{lane_value}
