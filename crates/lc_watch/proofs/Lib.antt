@@ -1,0 +1,12 @@
+pub mod Both
+pub mod Stacks
+pub mod Leaving
+pub mod Evaluating
+pub mod Ables
+pub mod Halves
+pub mod Taking
+pub mod Rows
+pub mod Following
+pub mod Serving
+pub mod Showing
+pub mod Idling

@@ -1,0 +1,122 @@
+use Rattle.std.proofs.Common.{◌≡◌, ◌<◌, ◌+◌, ◌%◌, ◌++◌, ◌∷◌, [], ℕ, Bool, false, cond, List, Option, option_to_list, length, refl, sym, ap, subst, ◌∙◌, arith}
+use Rattle.std.specs.List.{flat_map}
+use Rattle.std.proofs.lemmas.List.{length-set}
+use Rattle.bus_pipes.specs.Held.{adding}
+use Rattle.bus_pipes.proofs.Deliveries.{adding_none}
+use Rattle.lc_watch.specs.Outcomes.{outcome_at, kept_at}
+use Rattle.lc_watch.specs.Actionpoints.{act_at, evaluation_of}
+use Rattle.lc_watch.specs.Failing.{fires_by, by_firing, PointStands}
+use Rattle.lc_watch.specs.Histories.{Input, Setup, setup_of, ordered_at, switches_in, telemetry_of, evaluation_at, evaluations_of}
+use Rattle.lc_watch.specs.Firing.{starts_active, settings_of}
+use Rattle.lc_watch.specs.Step.{firing_items, items_at}
+use Rattle.lc_watch.specs.State.{PointsStand, point_at}
+use Rattle.lc_watch.specs.declared.watchpoints.WatchRow.{WatchRow}
+use Rattle.lc_watch.specs.declared.actionpoints.ActRow.{ActRow}
+use Rattle.lc_watch.proofs.Halves.{half_none, half_more, half_whole}
+use Rattle.lc_watch.proofs.Evaluating.{evaluation_same}
+use Rattle.lc_watch.proofs.Serving.{IsPoint, served_is, fired_below, below_none, below_all, given_more, fired_one}
+use Rattle.lc_watch.proofs.limits.serve_all.Goals as goal
+use Rattle.lc_watch.proofs.limits.serve_all.Goals.{After-serve}
+
+pub loop-place-init : goal.loop-place-init
+loop-place-init c = record {
+  long = c.told-points;
+  few = omega arith;
+  room = refl;
+  counted = λ before. before;
+  points = λ watch history input same stood.
+      let setup : Setup = setup_of watch c.args.actions.now in
+      half_none (IsPoint setup history (ordered_at setup input)) (IsPoint setup (history ++ input ∷ []) []) 16 (record { active = false; failing = 0 }) c.args.points.now stood.each;
+  items = λ watch history input same stood.
+      let setup : Setup = setup_of watch c.args.actions.now in
+      sym (ap (λ (places : List ℕ). adding c.args.out.now (flat_map (items_at c.args.now c.args.actions.now) places)) (below_none setup history input) ∙ adding_none c.args.out.now);
+  fired = λ watch history input count same stood counted.
+      let setup : Setup = setup_of watch c.args.actions.now in
+      let none : length (fired_below setup history input 0) ≡ 0 = ap length (below_none setup history input) in
+      omega (arith, none, counted);
+}
+
+-- the place that is served, before it is
+stood_here : (c : After-serve) (watch : List WatchRow) (history : List Input) (input : Input) → ((k : ℕ) → kept_at c.args.outcomes.now k ≡ outcome_at watch (telemetry_of (history ++ input ∷ [])) k)
+    → PointsStand (setup_of watch c.args.actions.now) history (ordered_at (setup_of watch c.args.actions.now) input) c.args.points.now
+    → IsPoint (setup_of watch c.args.actions.now) history (ordered_at (setup_of watch c.args.actions.now) input) c.loop-place.place (point_at c.loop-place.points c.loop-place.place)
+stood_here c watch history input same stood = (c.loop-place.invariant.points watch history input same stood).left c.loop-place.place (omega arith) c.loop-place-test.true
+
+-- and what its evaluation comes to
+evaluated_here : (c : After-serve) (watch : List WatchRow) (history : List Input) (input : Input) → ((k : ℕ) → kept_at c.args.outcomes.now k ≡ outcome_at watch (telemetry_of (history ++ input ∷ [])) k)
+    → evaluation_of (kept_at c.args.outcomes.now) (act_at c.args.actions.now c.loop-place.place) ≡ evaluation_at (setup_of watch c.args.actions.now) c.loop-place.place (history ++ input ∷ [])
+evaluated_here c watch history input same =
+    evaluation_same (kept_at c.args.outcomes.now) (outcome_at watch (telemetry_of (history ++ input ∷ []))) same (act_at c.args.actions.now c.loop-place.place)
+
+pub loop-place-preserved : goal.loop-place-preserved
+loop-place-preserved c =
+    let held = c.loop-place.invariant in
+    let place = c.loop-place.place in
+    let within : place < length c.loop-place.points = omega (arith, held.long) in
+    let outcomes = c.args.outcomes.now in
+    let old = point_at c.loop-place.points place in
+    let row_is = c.row.ensures.row in
+    record {
+      long = length-set c.loop-place.points place c.serve.result ∙ held.long;
+      few = let one = c.serve.ensures.few in let before = held.few in omega (arith, one, before);
+      room = c.serve.ensures.room ∙ held.room;
+      counted = λ before. c.serve.ensures.counted (held.counted before);
+      points = λ watch history input same stood.
+          let setup : Setup = setup_of watch c.args.actions.now in
+          let row = act_at setup.actions place in
+          let evaluations = evaluations_of setup place history in
+          let settings = settings_of setup place history ++ switches_in place (ordered_at setup input) in
+          let served = subst (λ (r : ActRow). PointStands (starts_active row) r.failures evaluations settings old
+          → PointStands (starts_active row) r.failures (evaluations ++ option_to_list (evaluation_of (kept_at outcomes) r)) (settings ++ by_firing (fires_by (starts_active row) r.failures evaluations settings (evaluation_of (kept_at outcomes) r))) c.serve.result)
+          row_is (c.serve.ensures.stands (starts_active row) evaluations settings) in
+          half_more (IsPoint setup history (ordered_at setup input)) (IsPoint setup (history ++ input ∷ []) []) 16 (record { active = false; failing = 0 }) c.loop-place.points place c.serve.result within
+          (served_is setup history input place c.serve.result
+          (subst (λ (o : Option Bool). PointStands (starts_active row) row.failures (evaluations ++ option_to_list o) (settings ++ by_firing (fires_by (starts_active row) row.failures evaluations settings o)) c.serve.result)
+          (evaluated_here c watch history input same) (served (stood_here c watch history input same stood))))
+          (held.points watch history input same stood);
+      items = λ watch history input same stood.
+          let setup : Setup = setup_of watch c.args.actions.now in
+          let row = act_at setup.actions place in
+          let evaluations = evaluations_of setup place history in
+          let settings = settings_of setup place history ++ switches_in place (ordered_at setup input) in
+          let given = subst (λ (r : ActRow). PointStands (starts_active row) r.failures evaluations settings old
+          → c.serve.new.out ≡ adding c.loop-place.out (cond (fires_by (starts_active row) r.failures evaluations settings (evaluation_of (kept_at outcomes) r)) (firing_items c.args.now r) []))
+          row_is (c.serve.ensures.items (starts_active row) evaluations settings) in
+          given_more setup history input c.args.now place c.args.out.now c.loop-place.out c.serve.new.out (held.items watch history input same stood)
+          (subst (λ (o : Option Bool). c.serve.new.out ≡ adding c.loop-place.out (cond (fires_by (starts_active row) row.failures evaluations settings o) (firing_items c.args.now row) []))
+          (evaluated_here c watch history input same) (given (stood_here c watch history input same stood)));
+      fired = λ watch history input count same stood counted.
+          let setup : Setup = setup_of watch c.args.actions.now in
+          let row = act_at setup.actions place in
+          let evaluations = evaluations_of setup place history in
+          let settings = settings_of setup place history ++ switches_in place (ordered_at setup input) in
+          let before : ℕ = count + length (fired_below setup history input place) in
+          let noted = subst (λ (r : ActRow). PointStands (starts_active row) r.failures evaluations settings old → c.loop-place.fired ≡ before % 65536
+          → c.serve.new.fired ≡ (before + cond (fires_by (starts_active row) r.failures evaluations settings (evaluation_of (kept_at outcomes) r)) 1 0) % 65536)
+          row_is (λ here so_far. c.serve.ensures.fired (starts_active row) evaluations settings before here so_far) in
+          fired_one setup history input count place c.serve.new.fired
+          (subst (λ (o : Option Bool). c.serve.new.fired ≡ (before + cond (fires_by (starts_active row) row.failures evaluations settings o) 1 0) % 65536)
+          (evaluated_here c watch history input same) (noted (stood_here c watch history input same stood) (held.fired watch history input count same stood counted)));
+    }
+
+pub returns-clause-points : goal.returns-clause-points
+returns-clause-points c = λ watch history input same stood.
+    let setup : Setup = setup_of watch c.args.actions.now in
+    record {
+      long = c.loop-place.invariant.long;
+      each = half_whole (IsPoint setup history (ordered_at setup input)) (IsPoint setup (history ++ input ∷ []) []) 16 (record { active = false; failing = 0 }) c.loop-place.points c.loop-place.place c.loop-place-test.false (c.loop-place.invariant.points watch history input same stood);
+    }
+
+pub returns-clause-items : goal.returns-clause-items
+returns-clause-items c = λ watch history input same stood.
+    let setup : Setup = setup_of watch c.args.actions.now in
+    let all : c.loop-place.place ≡ 16 = omega arith in
+    c.loop-place.invariant.items watch history input same stood
+    ∙ ap (λ (places : List ℕ). adding c.args.out.now (flat_map (items_at c.args.now c.args.actions.now) places)) (ap (fired_below setup history input) all ∙ below_all setup history input)
+
+pub returns-clause-fired : goal.returns-clause-fired
+returns-clause-fired c = λ watch history input count same stood counted.
+    let setup : Setup = setup_of watch c.args.actions.now in
+    let all : c.loop-place.place ≡ 16 = omega arith in
+    c.loop-place.invariant.fired watch history input count same stood counted
+    ∙ ap (λ (places : List ℕ). (count + length places) % 65536) (ap (fired_below setup history input) all ∙ below_all setup history input)

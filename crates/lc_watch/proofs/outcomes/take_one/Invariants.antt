@@ -1,0 +1,11 @@
+use Rattle.std.proofs.Common.{◌≡◌, ℕ, List, length}
+use Rattle.lc_watch.specs.Outcomes.{OutcomesStand}
+use Rattle.lc_watch.proofs.Taking.{HalfTaken}
+use Rattle.lc_watch.proofs.outcomes.take_one.Given as goal
+
+-- the outcomes so far have seen the packet
+abbrev pub invariant-loop-place : goal.invariant-loop-place
+invariant-loop-place l = record {
+  long : length l.outcomes ≡ 32;
+  half : (before : List (List ℕ)) → OutcomesStand l.rows before l.fn.outcomes → HalfTaken l.rows before l.packet l.place l.outcomes;
+}

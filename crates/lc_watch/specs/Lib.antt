@@ -1,0 +1,14 @@
+pub mod Messages
+pub mod Watchpoints
+pub mod Outcomes
+pub mod Expressions
+pub mod Actionpoints
+pub mod Failing
+pub mod Instructions
+pub mod Verdicts
+pub mod Histories
+pub mod Firing
+pub mod Housekeeping
+pub mod Step
+pub mod State
+pub mod Rows

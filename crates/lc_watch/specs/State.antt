@@ -1,0 +1,50 @@
+-- When a state of LC stands for its tables and a history, and when it has nothing to do.
+use Rattle.std.specs.Prelude.{◌≡◌, ◌<◌, ℕ, ◌==◌, Bool, not, ◌&&◌, List, [], ◌∷◌, ◌++◌, length, false, slice_index_or}
+use Rattle.commands.specs.Counting.{counts_of}
+use Rattle.lc_watch.specs.Outcomes.{OutcomesStand}
+use Rattle.lc_watch.specs.Actionpoints.{act_at, uses_any}
+use Rattle.lc_watch.specs.Failing.{PointStands}
+use Rattle.lc_watch.specs.Histories.{Input, Setup, setup_of, ordered_at, switches_in, telemetry_of, evaluations_of}
+use Rattle.lc_watch.specs.Firing.{starts_active, settings_of, fired_count}
+use Rattle.lc_watch.specs.Step.{lc_heard}
+use Rattle.lc_watch.specs.declared.watchpoints.WatchRow.{WatchRow}
+use Rattle.lc_watch.specs.declared.actionpoints.ActRow.{ActRow}
+use Rattle.lc_watch.specs.declared.points.Point.{Point}
+use Rattle.lc_watch.specs.declared.instructions.Instruction.{Instruction}
+use Rattle.lc_watch.specs.declared.limits.Limits.{Limits}
+use Rattle.lc_watch.specs.declared.state.Lc.{Lc}
+
+-- What is kept in a place.
+abbrev pub point_at : List Point → ℕ → Point
+point_at points place = slice_index_or points place (record { active = false; failing = 0 })
+
+-- What is kept of the actionpoints stands for a history, and what was ordered in the next wakeup so far.
+pub record PointsStand (setup : Setup) (history : List Input) (orders : List Instruction) (points : List Point) : Type 0 where
+  pub long : length points ≡ 16
+  pub each : (k : ℕ) → k < 16
+      → PointStands (starts_active (act_at setup.actions k)) (act_at setup.actions k).failures (evaluations_of setup k history) (settings_of setup k history ++ switches_in k orders) (point_at points k)
+
+pub record LimitsStand (setup : Setup) (history : List Input) (orders : List Instruction) (limits : Limits) : Type 0 where
+  pub outcomes : OutcomesStand setup.watch (telemetry_of history) limits.outcomes
+  pub points : PointsStand setup history orders limits.points
+  pub fired : limits.fired ≡ fired_count setup history
+
+-- Once a wakeup's telemetry was taken the outcomes stand for it, and the rest still for the history and what was ordered in the wakeup.
+pub record HasTaken (setup : Setup) (history : List Input) (input : Input) (limits : Limits) : Type 0 where
+  pub whole : length setup.watch ≡ 32
+  pub outcomes : OutcomesStand setup.watch (telemetry_of (history ++ input ∷ [])) limits.outcomes
+  pub points : PointsStand setup history (ordered_at setup input) limits.points
+  pub fired : limits.fired ≡ fired_count setup history
+
+-- The state stands for the tables and a history.
+pub record StandsFor (setup : Setup) (history : List Input) (lc : Lc) : Type 0 where
+  pub counts : lc.counts ≡ counts_of (lc_heard setup history)
+  pub limits : LimitsStand setup history [] lc.limits
+  pub uses : lc.uses ≡ uses_any setup.actions
+
+unfoldable pub Stands : List WatchRow → List ActRow → List Input → Lc → Type 0
+Stands watch actions history lc = StandsFor (setup_of watch actions) history lc
+
+-- Without packets LC has nothing to do where no actionpoint is used.
+unfoldable pub is_idle_on : List ActRow → List (List ℕ) → List (List ℕ) → Bool
+is_idle_on actions commands telemetry = ((length commands == 0) && (length telemetry == 0)) && not (uses_any actions)

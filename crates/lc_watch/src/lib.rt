@@ -1,0 +1,26 @@
+//! LC, the Limit Checker: watchpoints over telemetry, actionpoints over watchpoints, and the sequences that they start.
+#![tactic(auto)]
+
+mod actionpoints;
+mod evaluation;
+mod expressions;
+mod housekeeping;
+mod instructions;
+pub mod laws;
+mod limits;
+mod loading;
+mod messages;
+mod outcomes;
+mod points;
+mod state;
+mod verdicts;
+mod watchpoints;
+
+pub use actionpoints::{ActRow, Adt};
+pub use expressions::Word;
+pub use loading::{load_adt, load_wdt};
+pub use state::Lc;
+pub use watchpoints::{Operator, WatchRow, Wdt};
+
+#[cfg(test)]
+mod tests;

@@ -1,0 +1,144 @@
+//! The limits: the outcomes of the watchpoints, and the actionpoints.
+ghost use Rattle.std.specs.Prelude.{◌≡◌, ◌≤◌, ◌<◌, ◌+◌, ◌%◌, ◌++◌, ℕ, List, [], ◌∷◌, length};
+ghost use Rattle.std.specs.List.{AllPass, flat_map};
+ghost use Rattle.bus_pipes.specs.Held.{adding};
+ghost use Rattle.bus_pipes.specs.Counted.{is_item_counted};
+ghost use Rattle.lc_watch.specs.declared.watchpoints.WatchRow.{WatchRow};
+ghost use Rattle.lc_watch.specs.Outcomes.{outcome_at, kept_at, OutcomesStand};
+ghost use Rattle.lc_watch.specs.Instructions.{NamesPoint};
+ghost use Rattle.lc_watch.specs.Histories.{Input, Setup, setup_of, ordered_at, telemetry_of};
+ghost use Rattle.lc_watch.specs.Firing.{is_active, fired_at};
+ghost use Rattle.lc_watch.specs.Housekeeping.{results_of, active_bits};
+ghost use Rattle.lc_watch.specs.Step.{items_at};
+ghost use Rattle.lc_watch.specs.State.{PointsStand, LimitsStand, HasTaken};
+ghost use Rattle.lc_watch.specs.declared.instructions.Instruction.{Instruction};
+
+use crate::actionpoints::{ACTIONPOINTS, Adt};
+use crate::instructions::Instruction;
+use crate::outcomes::{Outcome, codes_of, take_all};
+use crate::points::{Point, serve};
+use crate::watchpoints::{WATCHPOINTS, Wdt};
+use bus_pipes::Outbox;
+use histories::bits_of;
+use packet_forms::Packet;
+
+/// The outcomes of the watchpoints, what is kept of the actionpoints, and the firings modulo 65,536.
+#[derive(Clone, Copy, Debug, PartialEq, Eq)]
+pub(crate) struct Limits {
+    pub(crate) outcomes: [Outcome; WATCHPOINTS],
+    pub(crate) points: [Point; ACTIONPOINTS],
+    pub(crate) fired: u16,
+}
+
+impl Limits {
+    /// Before the first wakeup.
+    pub(crate) fn start(actions: &Adt) -> Limits
+        ensures { (watch : List WatchRow) → LimitsStand (setup_of watch actions.now) [] [] result }
+    {
+        Limits {
+            outcomes: [Outcome::Unseen; WATCHPOINTS],
+            points: begin_all(actions),
+            fired: 0,
+        }
+    }
+
+    /// Does what an accepted command asks for.
+    pub(crate) fn obey(&mut self, instruction: &Instruction)
+        requires { NamesPoint instruction.now }
+        ensures { (setup : Setup) (history : List Input) (orders : List Instruction) → LimitsStand setup history orders self.old → LimitsStand setup history (orders ++ instruction.now ∷ []) self.new }
+    {
+        match instruction {
+            Instruction::Plain => {}
+            Instruction::Switch { number, on } => {
+                let place = *number as usize - 1;
+                self.points[place] = self.points[place].set(*on);
+            }
+        }
+    }
+
+    /// Takes these packets in order: of each watchpoint the last of its id counts.
+    pub(crate) fn take(&mut self, watch: &Wdt, telemetry: &[Packet])
+        ensures outcomes { (before : List (List ℕ)) → OutcomesStand watch.now before self.old.outcomes → OutcomesStand watch.now (before ++ telemetry.now) self.new.outcomes }
+        ensures points { self.new.points ≡ self.old.points }
+        ensures fired { self.new.fired ≡ self.old.fired }
+        ensures whole { length watch.now ≡ 32 }
+    {
+        take_all(&mut self.outcomes, watch.rows(), telemetry);
+    }
+
+    /// Evaluates the actionpoints in table order, and puts what those give that fire behind the items.
+    pub(crate) fn fire(&mut self, actions: &Adt, now: u32, out: &mut Outbox)
+        requires room { length out.old.items + 32 ≤ out.old.room }
+        ensures stands { (watch : List WatchRow) (history : List Input) (input : Input) → HasTaken (setup_of watch actions.now) history input self.old → LimitsStand (setup_of watch actions.now) (history ++ input ∷ []) [] self.new }
+        ensures items { (watch : List WatchRow) (history : List Input) (input : Input) → HasTaken (setup_of watch actions.now) history input self.old
+            → out.new ≡ adding out.old (flat_map (items_at now actions.now) (fired_at (setup_of watch actions.now) history input)) }
+        ensures counted { AllPass is_item_counted out.old.items → AllPass is_item_counted out.new.items }
+        ensures few { length out.new.items ≤ length out.old.items + 32 }
+        ensures room { out.new.room ≡ out.old.room }
+    {
+        serve_all(
+            &mut self.points,
+            actions,
+            &self.outcomes,
+            &mut self.fired,
+            now,
+            out,
+        );
+    }
+
+    /// The active actionpoints: bit n - 1 is actionpoint n.
+    #[tactic(auto, unfolding(crate::specs::Housekeeping::active_bits))]
+    pub(crate) fn active_bits(&self) -> u16
+        ensures { (setup : Setup) (history : List Input) (orders : List Instruction) → LimitsStand setup history orders self.now → result ≡ active_bits (is_active setup history orders) }
+    {
+        let mut bits = [false; ACTIONPOINTS];
+        for place in 0..ACTIONPOINTS {
+            bits[place] = self.points[place].active;
+        }
+        bits_of(&bits) as u16
+    }
+
+    /// The outcomes of the watchpoints, two bits each, the first lowest.
+    pub(crate) fn results(&self) -> u64
+        ensures { (watch : List WatchRow) (telemetry : List (List ℕ)) → OutcomesStand watch telemetry self.now.outcomes → result ≡ results_of (outcome_at watch telemetry) }
+    {
+        codes_of(&self.outcomes)
+    }
+}
+
+/// What is kept of all actionpoints before the first wakeup.
+fn begin_all(actions: &Adt) -> [Point; ACTIONPOINTS]
+    ensures { (watch : List WatchRow) → PointsStand (setup_of watch actions.now) [] [] result }
+{
+    let mut points = [Point::UNUSED; ACTIONPOINTS];
+    for place in 0..ACTIONPOINTS {
+        points[place] = Point::begun(actions.row(place));
+    }
+    points
+}
+
+/// Evaluates all actionpoints.
+fn serve_all(
+    points: &mut [Point; ACTIONPOINTS],
+    actions: &Adt,
+    outcomes: &[Outcome; WATCHPOINTS],
+    fired: &mut u16,
+    now: u32,
+    out: &mut Outbox,
+)
+    requires room { length out.old.items + 32 ≤ out.old.room }
+    ensures points { (watch : List WatchRow) (history : List Input) (input : Input) → ((k : ℕ) → kept_at outcomes.now k ≡ outcome_at watch (telemetry_of (history ++ input ∷ [])) k)
+        → PointsStand (setup_of watch actions.now) history (ordered_at (setup_of watch actions.now) input) points.old → PointsStand (setup_of watch actions.now) (history ++ input ∷ []) [] points.new }
+    ensures items { (watch : List WatchRow) (history : List Input) (input : Input) → ((k : ℕ) → kept_at outcomes.now k ≡ outcome_at watch (telemetry_of (history ++ input ∷ [])) k)
+        → PointsStand (setup_of watch actions.now) history (ordered_at (setup_of watch actions.now) input) points.old → out.new ≡ adding out.old (flat_map (items_at now actions.now) (fired_at (setup_of watch actions.now) history input)) }
+    ensures fired { (watch : List WatchRow) (history : List Input) (input : Input) (count : ℕ) → ((k : ℕ) → kept_at outcomes.now k ≡ outcome_at watch (telemetry_of (history ++ input ∷ [])) k)
+        → PointsStand (setup_of watch actions.now) history (ordered_at (setup_of watch actions.now) input) points.old → fired.old ≡ count % 65536
+        → fired.new ≡ (count + length (fired_at (setup_of watch actions.now) history input)) % 65536 }
+    ensures counted { AllPass is_item_counted out.old.items → AllPass is_item_counted out.new.items }
+    ensures few { length out.new.items ≤ length out.old.items + 32 }
+    ensures room { out.new.room ≡ out.old.room }
+{
+    for place in 0..ACTIONPOINTS {
+        points[place] = serve(points[place], actions.row(place), outcomes, fired, now, out);
+    }
+}

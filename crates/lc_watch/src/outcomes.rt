@@ -1,0 +1,148 @@
+//! What watchpoints make of packets.
+ghost use Rattle.std.specs.Prelude.{◌≡◌, ◌≤◌, ◌+◌, ◌++◌, List, ℕ, [], ◌∷◌, length};
+ghost use Rattle.packet_forms.specs.Packets.{message_id};
+ghost use Rattle.lc_watch.specs.Housekeeping.{code_of, codes_of};
+ghost use Rattle.lc_watch.specs.Outcomes.{size_of, value_at, compares, holds, reading, outcome_of, OutcomesStand};
+
+use crate::watchpoints::{Operator, WATCHPOINTS, WatchRow};
+use packet_forms::{Packet, be16, be32};
+
+/// What a watchpoint made of the last packet of its id.
+#[derive(Clone, Copy, Debug, PartialEq, Eq)]
+pub(crate) enum Outcome {
+    /// There was none, or the watchpoint isn't used.
+    Unseen,
+    /// The comparison didn't hold.
+    Clear,
+    /// The comparison held.
+    Tripped,
+    /// The value's bytes didn't all lie in the packet.
+    Outside,
+}
+
+/// Takes these packets in order: of each watchpoint the last of its id counts.
+pub(crate) fn take_all(
+    outcomes: &mut [Outcome; WATCHPOINTS],
+    rows: &[WatchRow; WATCHPOINTS],
+    telemetry: &[Packet],
+)
+    ensures { (before : List (List ℕ)) → OutcomesStand rows.now before outcomes.old → OutcomesStand rows.now (before ++ telemetry.now) outcomes.new }
+{
+    for packet in telemetry {
+        take_one(outcomes, rows, packet);
+    }
+}
+
+fn take_one(outcomes: &mut [Outcome; WATCHPOINTS], rows: &[WatchRow; WATCHPOINTS], packet: &Packet)
+    ensures { (before : List (List ℕ)) → OutcomesStand rows.now before outcomes.old → OutcomesStand rows.now (before ++ packet.now ∷ []) outcomes.new }
+{
+    let id = packet.mid();
+    let bytes = packet.bytes();
+    for place in 0..WATCHPOINTS {
+        outcomes[place] = outcome_after(&rows[place], id, bytes, outcomes[place]);
+    }
+}
+
+/// The outcome of a watchpoint after a packet.
+#[inline(always)]
+fn outcome_after(row: &WatchRow, id: u16, bytes: &[u8], before: Outcome) -> Outcome
+    requires { id ≡ message_id bytes.now }
+    ensures { (telemetry : List (List ℕ)) → before ≡ outcome_of row.now telemetry → result ≡ outcome_of row.now (telemetry ++ bytes.now ∷ []) }
+{
+    if row.id != id {
+        return before;
+    }
+    if !row.is_used() {
+        return before;
+    }
+    reading(row, bytes)
+}
+
+/// The outcome of a watchpoint on a packet of its id.
+#[tactic(auto, unfolding(crate::specs::Outcomes::reading))]
+fn reading(row: &WatchRow, bytes: &[u8]) -> Outcome
+    ensures { result ≡ reading row.now bytes.now }
+{
+    let at = row.offset as usize;
+    if at + size_of(row.kind) > bytes.len() {
+        return Outcome::Outside;
+    }
+    let value = value_at(row.kind, bytes, at) & row.mask;
+    if holds(row.operator, value, row.limit) {
+        Outcome::Tripped
+    } else {
+        Outcome::Clear
+    }
+}
+
+/// How many bytes a value of a type has.
+fn size_of(kind: u16) -> usize
+    ensures size { result ≡ size_of kind }
+    ensures small { result ≤ 4 }
+{
+    if kind == 1 {
+        return 1;
+    }
+    if kind == 2 { 2 } else { 4 }
+}
+
+/// The number that the bytes of a value are.
+fn value_at(kind: u16, bytes: &[u8], at: usize) -> u32
+    requires { at + size_of kind ≤ length bytes.now }
+    ensures { result ≡ value_at kind bytes.now at }
+{
+    if kind == 1 {
+        return u32::from(bytes[at]);
+    }
+    if kind == 2 {
+        return u32::from(be16(bytes, at));
+    }
+    be32(bytes, at)
+}
+
+/// Whether a value stands in this relation to a limit.
+fn holds(operator: Option<Operator>, value: u32, limit: u32) -> bool
+    ensures { result ≡ holds operator value limit }
+{
+    match operator {
+        None => false,
+        Some(operator) => compares(operator, value, limit),
+    }
+}
+
+fn compares(operator: Operator, value: u32, limit: u32) -> bool
+    ensures { result ≡ compares operator value limit }
+{
+    match operator {
+        Operator::Less => value < limit,
+        Operator::LessOrEqual => value <= limit,
+        Operator::NotEqual => value != limit,
+        Operator::Equal => value == limit,
+        Operator::GreaterOrEqual => value >= limit,
+        Operator::Greater => value > limit,
+    }
+}
+
+/// Outcomes as one number, two bits each, the first lowest.
+pub(crate) fn codes_of(outcomes: &[Outcome; WATCHPOINTS]) -> u64
+    ensures { result ≡ codes_of outcomes.now }
+{
+    let mut codes = 0;
+    for done in 0..WATCHPOINTS {
+        codes = 4 * codes + code_of(outcomes[WATCHPOINTS - 1 - done]);
+    }
+    codes
+}
+
+/// The two bits of an outcome.
+fn code_of(outcome: Outcome) -> u64
+    ensures code { result ≡ code_of outcome }
+    ensures small { result ≤ 3 }
+{
+    match outcome {
+        Outcome::Unseen => 0,
+        Outcome::Clear => 1,
+        Outcome::Tripped => 2,
+        Outcome::Outside => 3,
+    }
+}
