@@ -2,10 +2,10 @@
 use Rattle.std.specs.Prelude.{ℕ, ◌+◌, ◌*◌, ◌/◌, ◌%◌, Bool, List, [], ◌∷◌, ◌++◌, map}
 use Rattle.std.specs.List.{range_with_len}
 use Rattle.histories.specs.Masks.{bits_of}
+use Rattle.packet_forms.specs.MessageIds.{lc_housekeeping}
 use Rattle.packet_forms.specs.Numbers.{be16_bytes, be32_bytes}
 use Rattle.packet_forms.specs.Built.{telemetry_of as telemetry_packet}
 use Rattle.bus_pipes.specs.declared.names.Counts.{Counts}
-use Rattle.lc_watch.specs.Messages.{lc_housekeeping}
 use Rattle.lc_watch.specs.Outcomes.{outcome_at}
 use Rattle.lc_watch.specs.Histories.{Input, Setup, telemetry_of}
 use Rattle.lc_watch.specs.Firing.{is_active, fired_count}

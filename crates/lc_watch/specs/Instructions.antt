@@ -1,8 +1,9 @@
 -- What LC's commands ask for.
 use Rattle.std.specs.Prelude.{ℕ, ◌==◌, ◌≤◌, true, false, if◌then◌else◌, List}
+use Rattle.packet_forms.specs.MessageIds.{lc_command, lc_request}
 use Rattle.packet_forms.specs.Numbers.{be16_at}
 use Rattle.commands.specs.Verdicts.{Language}
-use Rattle.lc_watch.specs.Messages.{lc_name, lc_command, lc_request, lc_codes}
+use Rattle.lc_watch.specs.Messages.{lc_name, lc_codes}
 use Rattle.lc_watch.specs.declared.instructions.Instruction.{Instruction}
 use Rattle.lc_watch.specs.declared.instructions.Instruction.TheVariants.{Plain, Switch}
 

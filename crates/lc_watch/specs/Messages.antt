@@ -1,4 +1,4 @@
--- LC's name, its message ids, the codes of its commands, and what a firing sends.
+-- LC's name, the codes of its commands, and what a firing sends.
 use Rattle.std.specs.Prelude.{ℕ, List, [], ◌∷◌, codes}
 use Rattle.packet_forms.specs.Names.{name_of}
 use Rattle.commands.specs.Rows.{code_row}
@@ -7,15 +7,6 @@ use Rattle.commands.specs.declared.verdicts.CodeRow.{CodeRow}
 -- LC's name.
 unfoldable pub lc_name : List ℕ
 lc_name = name_of (codes "LC")
-
-abbrev pub lc_command : ℕ
-lc_command = 0x18A6
-
-abbrev pub lc_request : ℕ
-lc_request = 0x18A7
-
-abbrev pub lc_housekeeping : ℕ
-lc_housekeeping = 0x08A7
 
 -- The codes, each with the shortest and the longest payload: no-op, reset counters, set active, set passive.
 unfoldable pub lc_codes : List CodeRow

@@ -2,8 +2,8 @@
 ghost use Rattle.std.specs.Prelude.{◌≡◌};
 ghost use Rattle.lc_watch.specs.Housekeeping.{housekeeping_of};
 
-use crate::messages::LC_HOUSEKEEPING;
 use bus_pipes::Counts;
+use packet_forms::message_ids::LC_HOUSEKEEPING;
 use packet_forms::{Packet, telemetry};
 
 /// The packet with both counts, the active actionpoints (bit n - 1 is actionpoint n), the firings, and the outcomes of the watchpoints (two

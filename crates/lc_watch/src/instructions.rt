@@ -1,8 +1,9 @@
 //! What a command asks for.
 ghost use Rattle.std.specs.Prelude.{◌≡◌};
 
-use crate::messages::{CODES, LC_COMMAND, LC_REQUEST, name};
+use crate::messages::{CODES, name};
 use commands::{Command, Terms};
+use packet_forms::message_ids::{LC_COMMAND, LC_REQUEST};
 use packet_forms::{Name, be16};
 
 /// What an accepted command asks for.

@@ -1,17 +1,10 @@
-//! LC's name, its message ids, the codes of its commands, and what a firing sends.
+//! LC's name, the codes of its commands, and what a firing sends.
 ghost use Rattle.std.specs.Prelude.{◌≡◌};
 ghost use Rattle.packet_forms.specs.Names.{is_name_text};
 ghost use Rattle.lc_watch.specs.Messages.{lc_name};
 
 use commands::{CodeRow, named};
 use packet_forms::Name;
-
-/// Commands of LC.
-pub(crate) const LC_COMMAND: u16 = 0x18A6;
-/// The request for the housekeeping of LC.
-pub(crate) const LC_REQUEST: u16 = 0x18A7;
-/// The housekeeping of LC.
-pub(crate) const LC_HOUSEKEEPING: u16 = 0x08A7;
 
 /// The event of an actionpoint that fires.
 pub(crate) const FIRING: u16 = 101;

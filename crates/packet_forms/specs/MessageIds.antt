@@ -59,6 +59,15 @@ md_housekeeping = 0x0890
 abbrev pub md_dwell : ℕ → ℕ
 md_dwell n = 0x0890 + n
 
+abbrev pub lc_command : ℕ
+lc_command = 0x18A6
+
+abbrev pub lc_request : ℕ
+lc_request = 0x18A7
+
+abbrev pub lc_housekeeping : ℕ
+lc_housekeeping = 0x08A7
+
 -- events of all applications
 abbrev pub event_id : ℕ
 event_id = 0x0808

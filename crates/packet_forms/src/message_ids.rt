@@ -43,5 +43,12 @@ pub const MD_HOUSEKEEPING: u16 = 0x0890;
 /// The packets of dwell table n, from 1 to 4, have this id plus n.
 pub const MD_DWELL: u16 = 0x0890;
 
+/// Commands of the Limit Checker.
+pub const LC_COMMAND: u16 = 0x18A6;
+/// The request for the housekeeping of the Limit Checker.
+pub const LC_REQUEST: u16 = 0x18A7;
+/// The housekeeping of the Limit Checker.
+pub const LC_HOUSEKEEPING: u16 = 0x08A7;
+
 /// Events of all applications.
 pub const EVENT: u16 = 0x0808;
