@@ -48,7 +48,7 @@ pub fn other_ids_go_nowhere()
 /// The depths of the pipes, and the ids that get sequence counts.
 pub fn worked_tables()
     ensures depths { map depth_of (PipeName.Hs ∷ PipeName.HsEv ∷ PipeName.Cs ∷ PipeName.Sc ∷ PipeName.Mm ∷ PipeName.Md ∷ []) ≡ 16 ∷ 32 ∷ 16 ∷ 16 ∷ 16 ∷ 16 ∷ [] }
-    ensures counted { counted_ids ≡ 0x0808 ∷ 0x08AD ∷ 0x08A4 ∷ 0x08AA ∷ 0x0887 ∷ 0x0890 ∷ 0x088A ∷ 0x088B ∷ 0x0891 ∷ 0x0892 ∷ 0x0893 ∷ 0x0894 ∷ 0x08A5 ∷ [] }
+    ensures counted { counted_ids ≡ 0x0808 ∷ 0x08AD ∷ 0x08A4 ∷ 0x08AA ∷ 0x0887 ∷ 0x0890 ∷ 0x088A ∷ 0x088B ∷ 0x0891 ∷ 0x0892 ∷ 0x0893 ∷ 0x0894 ∷ 0x08A5 ∷ 0x08A7 ∷ [] }
 {}
 
 /// Seventeen no-ops and a housekeeping request of MM: the seventeenth is dropped for the limit, the request for the depth.

@@ -20,7 +20,7 @@ passes_equal : (a b : ℕ) → (a == b) ≡ true → a ≡ b
 passes_equal a b h = grind (arith, nat_tests)
 
 -- a place is within the table
-pub place_within : (id k : ℕ) → place_of id ≡ Some k → k < 13
+pub place_within : (id k : ℕ) → place_of id ≡ Some k → k < 14
 unfolding place_of
 place_within id k h = (position-Some (λ (counted : ℕ). counted == id) counted_ids k 0 h).0
 
@@ -54,8 +54,8 @@ unfolding count_of count_of_id
 count_none id = refl
 
 -- nothing was stamped
-pub none_stamped : Stands [] (0 ∷ 0 ∷ 0 ∷ 0 ∷ 0 ∷ 0 ∷ 0 ∷ 0 ∷ 0 ∷ 0 ∷ 0 ∷ 0 ∷ 0 ∷ [])
-none_stamped = record { whole = refl; each = λ id k h. get_or-replicate 13 k 0 0 (place_within id k h) ∙ sym (count_none id) }
+pub none_stamped : Stands [] (0 ∷ 0 ∷ 0 ∷ 0 ∷ 0 ∷ 0 ∷ 0 ∷ 0 ∷ 0 ∷ 0 ∷ 0 ∷ 0 ∷ 0 ∷ 0 ∷ [])
+none_stamped = record { whole = refl; each = λ id k h. get_or-replicate 14 k 0 0 (place_within id k h) ∙ sym (count_none id) }
 
 -- one packet more of an id, and of another
 count_one : (p : List ℕ) (id : ℕ) → count_of_id id (p ∷ []) ≡ cond (message_id p == id) 1 0

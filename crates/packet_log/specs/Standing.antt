@@ -9,7 +9,7 @@ pub record AreSmall (counts : List ℕ) : Type 0 where
 
 -- the counts, by the places of their ids, are those of the packets that were stamped
 pub record Stands (made : List (List ℕ)) (counts : List ℕ) : Type 0 where
-  pub whole : length counts ≡ 13
+  pub whole : length counts ≡ 14
   pub each : (id k : ℕ) → place_of id ≡ Some k → slice_index counts k ≡ count_of made id
 
 -- what a block holds is within what was reserved for it, and the sink took no more than there is

@@ -15,14 +15,14 @@ use bus_pipes::Out;
 use fsw_outside::{Failed, Sink};
 use packet_forms::Packet;
 use packet_forms::message_ids::{
-    CS_BASELINE, CS_HOUSEKEEPING, EVENT, HS_HOUSEKEEPING, MD_DWELL, MD_HOUSEKEEPING, MM_DUMP,
-    MM_HOUSEKEEPING, MM_PEEK, SC_HOUSEKEEPING,
+    CS_BASELINE, CS_HOUSEKEEPING, EVENT, HS_HOUSEKEEPING, LC_HOUSEKEEPING, MD_DWELL,
+    MD_HOUSEKEEPING, MM_DUMP, MM_HOUSEKEEPING, MM_PEEK, SC_HOUSEKEEPING,
 };
 use std::marker::Model;
 
-/// The ids that get sequence counts: events, the housekeeping of the five applications, peek, dump, the four dwell
-/// tables, baseline.
-const COUNTED_IDS: [u16; 13] = [
+/// The ids that get sequence counts: events, the housekeeping of HS, CS, SC, MM and MD, peek, dump, the four dwell
+/// tables, baseline, the housekeeping of LC.
+const COUNTED_IDS: [u16; 14] = [
     EVENT,
     HS_HOUSEKEEPING,
     CS_HOUSEKEEPING,
@@ -36,12 +36,13 @@ const COUNTED_IDS: [u16; 13] = [
     MD_DWELL + 3,
     MD_DWELL + 4,
     CS_BASELINE,
+    LC_HOUSEKEEPING,
 ];
 
 /// The log of a run, seen as the counts of the packets that were stamped, each modulo 16,384.
 #[derive(Clone, Copy, Debug)]
 pub struct Log {
-    counts: [u16; 13],
+    counts: [u16; 14],
 }
 
 impl Model for Log {
@@ -62,7 +63,7 @@ impl Log {
     pub fn start() -> Log
         ensures { Stands [] result }
     {
-        Log { counts: [0; 13] }
+        Log { counts: [0; 14] }
     }
 
     /// A packet with its sequence count: the number of the packets of its id that were stamped before, modulo 16,384.
@@ -128,7 +129,7 @@ impl Log {
 fn place_of(id: u16) -> usize
     requires { is_counted id ≡ true }
     ensures place { place_of id ≡ Some result }
-    ensures bound { result < 13 }
+    ensures bound { result < 14 }
 {
     match find_place(id) {
         Some(place) => place,

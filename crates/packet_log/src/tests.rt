@@ -77,6 +77,7 @@ fn counts_go_by_id_and_wrap(rt: HostRuntime) -> Result<(), Fail> {
     let name = Name::from_text("MM").ok_or("MM is a name")?;
     let made = event(name, 16, 2, 1001);
     let answer = telemetry(0x0887, 1001, &[0; 4]);
+    let limits = telemetry(0x08A7, 1001, &[0; 16]);
     let mut log = Log::start();
     for count in 0..16384u16 {
         let stamped = log.stamp(&made);
@@ -86,6 +87,8 @@ fn counts_go_by_id_and_wrap(rt: HostRuntime) -> Result<(), Fail> {
     assert!(rt; log.stamp(&made) == made);
     assert!(rt; log.stamp(&made) == made.with_sequence(1));
     assert!(rt; log.stamp(&answer) == answer.with_sequence(1));
+    assert!(rt; log.stamp(&limits) == limits);
+    assert!(rt; log.stamp(&limits) == limits.with_sequence(1));
     Ok(())
 }
 
