@@ -10,3 +10,5 @@ pub mod Following
 pub mod Serving
 pub mod Showing
 pub mod Idling
+pub mod Stepping
+pub mod Ends

@@ -7,11 +7,11 @@ ghost use Rattle.commands.specs.Verdicts.{verdict_at};
 ghost use Rattle.commands.specs.declared.verdicts.Verdict.TheVariants.{Other, Request, Refused, Accepted};
 ghost use Rattle.lc_watch.specs.Watchpoints as watchpoints;
 ghost use Rattle.lc_watch.specs.Actionpoints as actionpoints;
-ghost use Rattle.lc_watch.specs.Actionpoints.{evaluation_of};
+ghost use Rattle.lc_watch.specs.Actionpoints.{act_at};
 ghost use Rattle.lc_watch.specs.Outcomes.{compares, reading, outcome_of};
 ghost use Rattle.lc_watch.specs.Expressions.{values_left, LeavesOne, is_one, word_of, value_of};
 ghost use Rattle.lc_watch.specs.Failing.{are_failing};
-ghost use Rattle.lc_watch.specs.Histories.{Input, Setup, ordered_at, switches_in};
+ghost use Rattle.lc_watch.specs.Histories.{Input, Setup, ordered_at, switches_in, evaluation_at, evaluations_of};
 ghost use Rattle.lc_watch.specs.Firing.{is_active, is_due, fires};
 ghost use Rattle.lc_watch.specs.Housekeeping.{results_of, housekeeping_of};
 ghost use Rattle.lc_watch.specs.Step.{start_of};
@@ -44,6 +44,17 @@ pub fn firing_makes_passive()
     ensures fires { (setup : Setup) (history : List Input) (input : Input) (place : ℕ) → fires setup history input place ≡ (is_active setup history (ordered_at setup input) place && is_due setup place history input) }
     ensures behind { (setup : Setup) (history : List Input) (input : Input) (place : ℕ)
         → is_active setup (history ++ input ∷ []) [] place ≡ (if fires setup history input place then false else is_active setup history (ordered_at setup input) place) }
+{}
+
+/// An actionpoint fires at an evaluation alone, and at one exactly where it was active once the commands were obeyed and this is the last of
+/// so many evaluations in a row that all fail: the list of its evaluations ends with so many that do.
+#[tactic(auto, using(crate::proofs::Ends::fires_without, crate::proofs::Ends::fires_at, crate::proofs::Ends::row_fails, crate::proofs::Ends::ends_with_row))]
+pub fn fires_at_the_last_of_a_row()
+    ensures without { (setup : Setup) (history : List Input) (input : Input) (place : ℕ) → evaluation_at setup place (history ++ input ∷ []) ≡ None → fires setup history input place ≡ false }
+    ensures at { (setup : Setup) (history : List Input) (input : Input) (place : ℕ) (fails : Bool) → evaluation_at setup place (history ++ input ∷ []) ≡ Some fails
+        → fires setup history input place ≡ (is_active setup history (ordered_at setup input) place && are_failing (act_at setup.actions place).failures (evaluations_of setup place (history ++ input ∷ []))) }
+    ensures row { (earlier : List Bool) (n : ℕ) → are_failing n (earlier ++ replicate n true) ≡ true }
+    ensures ends { (n : ℕ) (evaluations : List Bool) → are_failing n evaluations ≡ true → (earlier : List Bool) × (evaluations ≡ earlier ++ replicate n true) }
 {}
 
 /// A watchpoint of each table place, byte by byte, with fields that differ, and each reason to refuse one.

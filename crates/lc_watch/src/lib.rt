@@ -13,6 +13,7 @@ mod messages;
 mod outcomes;
 mod points;
 mod state;
+mod step;
 mod verdicts;
 mod watchpoints;
 
@@ -20,6 +21,7 @@ pub use actionpoints::{ActRow, Adt};
 pub use expressions::Word;
 pub use loading::{load_adt, load_wdt};
 pub use state::Lc;
+pub use step::MOST_ITEMS;
 pub use watchpoints::{Operator, WatchRow, Wdt};
 
 #[cfg(test)]

@@ -1,12 +1,13 @@
 //! Payloads of both tables and their faults, values that are compared, and wakeups.
 ghost use Rattle.std.specs.Prelude.{◌≡◌, ◌+◌, ◌≤◌, ◌<◌, length};
 
-use crate::limits::Limits;
-use crate::{Adt, Lc, Operator, Wdt, Word, laws, load_adt, load_wdt};
+use crate::{Adt, Lc, MOST_ITEMS, Operator, Wdt, Word, laws, load_adt, load_wdt};
 use bus_pipes::{Out, Outbox};
 use packet_forms::{Name, Packet, command, event, telemetry};
 use std::test::Fail;
 use table_files::EntryFault;
+
+const LC: u16 = 0x18A6;
 
 const PEEK: u16 = 0x088A;
 
@@ -85,20 +86,19 @@ fn fault(entry: u32, reason: u8) -> Option<EntryFault> {
 
 /// One wakeup without commands.
 fn frame(
-    limits: &Limits,
+    lc: &Lc,
     watch: &Wdt,
     actions: &Adt,
     telemetry: &[Packet],
     now: u32,
     out: &mut Outbox,
-) -> Limits
-    requires room { 48 ≤ out.old.room }
-    ensures room { out.new.room ≡ out.old.room }
+) -> Lc
+    requires { MOST_ITEMS ≤ out.old.room }
+    ensures { out.new.room ≡ out.old.room }
 {
     out.clear();
-    let mut next = *limits;
-    next.take(watch, telemetry);
-    next.fire(actions, now, out);
+    let mut next = *lc;
+    lc.step(watch, actions, &[], telemetry, now, &mut next, out);
     next
 }
 
@@ -123,6 +123,7 @@ fn definitions_give_the_rows() {
     laws::blank_tables();
     laws::expressions_leave_one();
     laws::firing_makes_passive();
+    laws::fires_at_the_last_of_a_row();
     laws::watchpoint_rows();
     laws::operator_rows();
     laws::outcome_rows();
@@ -223,7 +224,7 @@ fn trips(
     limit: u32,
     out: &mut Outbox,
 ) -> Option<bool>
-    requires { 48 ≤ out.old.room }
+    requires { MOST_ITEMS ≤ out.old.room }
     ensures { out.new.room ≡ out.old.room }
 {
     let packet = telemetry(PEEK, 1001, &[0x89, 0xAB, 0xCD, 0xEF]);
@@ -236,18 +237,11 @@ fn trips(
     let Ok(clear) = load_adt(&act_payload(0, 1, 1, 1, 2, &[0, 0x8004])) else {
         return None;
     };
-    let _ = frame(
-        &Limits::start(&tripped),
-        &watch,
-        &tripped,
-        &[packet],
-        1001,
-        out,
-    );
+    let _ = frame(&Lc::start(&tripped), &watch, &tripped, &[packet], 1001, out);
     if out.len() == 2 {
         return Some(true);
     }
-    let _ = frame(&Limits::start(&clear), &watch, &clear, &[packet], 1001, out);
+    let _ = frame(&Lc::start(&clear), &watch, &clear, &[packet], 1001, out);
     if out.len() == 2 { Some(false) } else { None }
 }
 
@@ -301,7 +295,7 @@ fn limit_starts_a_sequence(rt: HostRuntime) -> Result<(), Fail> {
     let (watch, actions) = over_five(0, 0, 2).ok_or("refused")?;
     assert!(rt; !Lc::start(&actions).is_idle(&[], &[]));
     assert!(rt; Lc::start(&Adt::blank()).is_idle(&[], &[]));
-    let lc = Limits::start(&actions);
+    let lc = Lc::start(&actions);
     let telemetry = [peek(1), peek(9)];
     let lc = frame(&lc, &watch, &actions, &telemetry, 1002, &mut out);
     assert!(rt; out.items().is_empty());
@@ -317,12 +311,11 @@ fn limit_starts_a_sequence(rt: HostRuntime) -> Result<(), Fail> {
 fn fires_at_the_last_of_65535(rt: HostRuntime) -> Result<(), Fail> {
     let mut out = Outbox::open(rt.alloc(), 48)?;
     let (watch, actions) = over_five(31, 15, 65535).ok_or("refused")?;
-    let start = Limits::start(&actions);
+    let start = Lc::start(&actions);
     let mut lc = frame(&start, &watch, &actions, &[peek(9)], 1000, &mut out);
     for _ in 0..65533 {
         out.clear();
-        lc.take(&watch, &[]);
-        lc.fire(&actions, 1001, &mut out);
+        lc.advance(&watch, &actions, &[], &[], 1001, &mut out);
     }
     assert!(rt; out.items().is_empty());
     let lc = frame(&lc, &watch, &actions, &[], 1002, &mut out);
@@ -330,5 +323,91 @@ fn fires_at_the_last_of_65535(rt: HostRuntime) -> Result<(), Fail> {
     assert_eq!(rt; out.items(), want.as_slice());
     let _ = frame(&lc, &watch, &actions, &[], 1003, &mut out);
     assert!(rt; out.items().is_empty());
+    Ok(())
+}
+
+/// The payload of a housekeeping packet of 16 bytes: accepted, errors, the active actionpoints, the firings and the results, the last four
+/// below 256.
+fn shown(accepted: u8, errors: u8, active: u8, fired: u8, results: u8, now: u32) -> Out {
+    let payload = [
+        accepted, errors, 0, 0, 0, active, 0, fired, 0, 0, 0, 0, 0, 0, 0, results,
+    ];
+    Out::Made(telemetry(0x08A7, now, &payload))
+}
+
+/// A command of LC that names an actionpoint.
+fn switch(code: u8, number: u8) -> Packet
+    requires { code < 128 }
+{
+    command(LC, code, &[0, number])
+}
+
+#[test]
+fn commands_come_before_telemetry(rt: HostRuntime) -> Result<(), Fail> {
+    let mut out = Outbox::open(rt.alloc(), 48)?;
+    let (watch, actions) = over_five(0, 0, 1).ok_or("refused")?;
+    let request = command(0x18A7, 0, &[]);
+    let commands = [
+        request,
+        switch(3, 1),
+        switch(2, 17),
+        switch(2, 2),
+        request,
+        switch(2, 1),
+    ];
+    let mut lc = Lc::start(&actions);
+    lc.advance(&watch, &actions, &commands, &[peek(9)], 1001, &mut out);
+    let want = [
+        shown(0, 0, 1, 0, 0, 1001),
+        made_event(19, 2, 1001),
+        made_event(4, 3, 1001),
+        made_event(5, 3, 1001),
+        shown(1, 2, 0, 0, 0, 1001),
+        made_event(18, 2, 1001),
+        start_of(2),
+        made_event(101, 3, 1001),
+    ];
+    assert_eq!(rt; out.items(), want.as_slice());
+    out.clear();
+    lc.advance(&watch, &actions, &[request], &[], 1002, &mut out);
+    assert_eq!(rt; out.items(), [shown(2, 2, 0, 1, 2, 1002)].as_slice());
+    Ok(())
+}
+
+/// Makes the entry in a place one that is active, starts sequence 2 at the first failure and names watchpoint 0 alone.
+fn put_act(bytes: &mut [u8; 640], place: usize)
+    requires { place < 16 }
+    ensures { length bytes.new ≡ 640 }
+{
+    bytes[40 * place + 1] = 1;
+    bytes[40 * place + 3] = 2;
+    bytes[40 * place + 5] = 1;
+    bytes[40 * place + 7] = 1;
+}
+
+/// The payload with sixteen such entries.
+fn all_acts() -> [u8; 640]
+    ensures { length result ≡ 640 }
+{
+    let mut bytes = [0; 640];
+    for place in 0..16 {
+        put_act(&mut bytes, place);
+    }
+    bytes
+}
+
+#[test]
+fn sixteen_answers_and_sixteen_firings(rt: HostRuntime) -> Result<(), Fail> {
+    let mut out = Outbox::open(rt.alloc(), 48)?;
+    let (watch, _) = over_five(0, 0, 1).ok_or("refused")?;
+    let actions = load_adt(&all_acts()).ok().ok_or("refused")?;
+    let commands = [command(LC, 0, &[]); 16];
+    let telemetry = [peek(9); 256];
+    let mut lc = Lc::start(&actions);
+    lc.advance(&watch, &actions, &commands, &telemetry, 1001, &mut out);
+    assert_eq!(rt; out.len(), 48);
+    assert_eq!(rt; out.items()[15], made_event(16, 2, 1001));
+    assert_eq!(rt; out.items()[46], start_of(2));
+    assert_eq!(rt; out.items()[47], made_event(101, 3, 1001));
     Ok(())
 }
