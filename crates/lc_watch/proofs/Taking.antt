@@ -1,8 +1,8 @@
--- Outcomes at one more packet.
-use Rattle.std.proofs.Common.{◌≡◌, ◌≢◌, ℕ, Bool, true, false, cond, List, [], ◌∷◌, ◌++◌, length, replicate, Some, None, refl, sym, ap, ◌∙◌, ne_eqb, eq-eqb, append-nil, inl, inr, arith}
+-- Outcomes at more packets.
+use Rattle.std.proofs.Common.{◌≡◌, ℕ, ◌+◌, ◌<◌, Bool, true, false, cond, List, [], ◌∷◌, ◌++◌, length, take, drop, get_or, replicate, Some, refl, sym, ap, ◌∙◌, eq-eqb, append-nil, append_assoc, inl, inr, arith}
 use Rattle.std.specs.Prelude.{filter_map}
 use Rattle.std.proofs.lemmas.Bool.{cases_lt}
-use Rattle.std.proofs.lemmas.List.{get_or-replicate, get_or_past}
+use Rattle.std.proofs.lemmas.List.{get_or-replicate, get_or_past, drop_more, take-append-drop}
 use Rattle.std.proofs.lemmas.List.Elements.{filter_map-append}
 use Rattle.histories.specs.Words.{last_or}
 use Rattle.histories.proofs.Lasts.{last_or_more}
@@ -14,32 +14,44 @@ use Rattle.lc_watch.specs.declared.outcomes.Outcome.{Outcome}
 use Rattle.lc_watch.specs.declared.outcomes.Outcome.TheVariants.{Unseen}
 use Rattle.lc_watch.proofs.Halves.{Half}
 
-module _ (row : WatchRow) (telemetry : List (List ℕ)) (p : List ℕ) where
-  -- another id
-  pub outcome_other : row.id ≢ message_id p → outcome_of row telemetry ≡ outcome_of row (telemetry ++ p ∷ [])
+module _ (row : WatchRow) where
+  -- packets of other ids
+  pub outcome_quiet : (seen rest : List (List ℕ)) → filter_map (reading_in row) rest ≡ [] → outcome_of row seen ≡ outcome_of row (seen ++ rest)
   unfolding outcome_of
-  outcome_other other =
-      let none : reading_in row p ≡ None = rw (ne_eqb (message_id p) row.id (λ same. other (sym same))) refl in
-      sym (ap (λ (seen : List Outcome). cond (is_used row) (last_or Unseen seen) Unseen) (filter_map-append (reading_in row) telemetry (p ∷ []) ∙ rw none (append-nil (filter_map (reading_in row) telemetry))))
+  outcome_quiet seen rest none =
+      sym (ap (λ (found : List Outcome). cond (is_used row) (last_or Unseen found) Unseen)
+      (filter_map-append (reading_in row) seen rest ∙ ap (λ (more : List Outcome). filter_map (reading_in row) seen ++ more) none ∙ append-nil (filter_map (reading_in row) seen)))
 
   -- a watchpoint that isn't used
-  pub outcome_unused : is_used row ≡ false → outcome_of row telemetry ≡ outcome_of row (telemetry ++ p ∷ [])
+  pub outcome_unused : (seen more : List (List ℕ)) → is_used row ≡ false → outcome_of row seen ≡ outcome_of row (seen ++ more)
   unfolding outcome_of
-  outcome_unused unused = rw unused refl
+  outcome_unused seen more unused = rw unused refl
 
   -- a packet of its id
-  pub outcome_seen : row.id ≡ message_id p → is_used row ≡ true → reading row p ≡ outcome_of row (telemetry ++ p ∷ [])
+  outcome_seen : (seen : List (List ℕ)) (p : List ℕ) → message_id p ≡ row.id → is_used row ≡ true → reading row p ≡ outcome_of row (seen ++ p ∷ [])
   unfolding outcome_of
-  outcome_seen same used =
-      let some : reading_in row p ≡ Some (reading row p) = rw (eq-eqb (message_id p) row.id (sym same)) refl in
-      sym (rw used (ap (last_or Unseen) (filter_map-append (reading_in row) telemetry (p ∷ []) ∙ rw some refl) ∙ last_or_more Unseen (filter_map (reading_in row) telemetry) (reading row p)))
+  outcome_seen seen p same used =
+      let some : reading_in row p ≡ Some (reading row p) = rw (eq-eqb (message_id p) row.id same) refl in
+      sym (rw used (ap (last_or Unseen) (filter_map-append (reading_in row) seen (p ∷ []) ∙ rw some refl) ∙ last_or_more Unseen (filter_map (reading_in row) seen) (reading row p)))
 
--- what holds of the places before and behind a packet
+  -- the last one of its id
+  pub outcome_last : (seen packets : List (List ℕ)) (i : ℕ) (p : List ℕ) → i < length packets → p ≡ get_or packets i p → message_id p ≡ row.id → is_used row ≡ true → filter_map (reading_in row) (drop (i + 1) packets) ≡ []
+      → reading row p ≡ outcome_of row (seen ++ packets)
+  outcome_last seen packets i p within is same used none =
+      let rest = drop (i + 1) packets in
+      outcome_seen (seen ++ take i packets) p same used
+      ∙ outcome_quiet ((seen ++ take i packets) ++ p ∷ []) rest none
+      ∙ ap (outcome_of row) (append_assoc (seen ++ take i packets) (p ∷ []) rest
+      ∙ append_assoc seen (take i packets) (p ∷ rest)
+      ∙ ap (λ (more : List (List ℕ)). seen ++ (take i packets ++ more)) (ap (λ (q : List ℕ). q ∷ rest) is ∙ sym (drop_more packets i p within))
+      ∙ ap (λ (all : List (List ℕ)). seen ++ all) (take-append-drop i packets))
+
+-- what holds of the places before and behind these packets
 abbrev pub IsOutcome : List WatchRow → List (List ℕ) → ℕ → Outcome → Type 0
 IsOutcome rows telemetry k outcome = outcome ≡ outcome_at rows telemetry k
 
-abbrev pub HalfTaken : List WatchRow → List (List ℕ) → List ℕ → ℕ → List Outcome → Type 0
-HalfTaken rows before p i outcomes = Half (IsOutcome rows before) (IsOutcome rows (before ++ p ∷ [])) 32 i Unseen outcomes
+abbrev pub HalfTaken : List WatchRow → List (List ℕ) → List (List ℕ) → ℕ → List Outcome → Type 0
+HalfTaken rows before more i outcomes = Half (IsOutcome rows before) (IsOutcome rows (before ++ more)) 32 i Unseen outcomes
 
 -- before the first packet
 none_seen : (row : WatchRow) → Unseen ≡ outcome_of row []

@@ -1,6 +1,6 @@
 //! What watchpoints make of packets.
-ghost use Rattle.std.specs.Prelude.{◌≡◌, ◌≤◌, ◌+◌, ◌++◌, List, ℕ, [], ◌∷◌, length};
-ghost use Rattle.packet_forms.specs.Packets.{message_id};
+ghost use Rattle.std.specs.Prelude.{◌≡◌, ◌≤◌, ◌+◌, ◌++◌, List, ℕ, length, true};
+ghost use Rattle.lc_watch.specs.Watchpoints.{is_used};
 ghost use Rattle.lc_watch.specs.Housekeeping.{code_of, codes_of};
 ghost use Rattle.lc_watch.specs.Outcomes.{size_of, value_at, compares, holds, reading, outcome_of, OutcomesStand};
 
@@ -28,34 +28,38 @@ pub(crate) fn take_all(
 )
     ensures { (before : List (List ℕ)) → OutcomesStand rows.now before outcomes.old → OutcomesStand rows.now (before ++ telemetry.now) outcomes.new }
 {
-    for packet in telemetry {
-        take_one(outcomes, rows, packet);
+    if telemetry.is_empty() {
+        return;
     }
-}
-
-fn take_one(outcomes: &mut [Outcome; WATCHPOINTS], rows: &[WatchRow; WATCHPOINTS], packet: &Packet)
-    ensures { (before : List (List ℕ)) → OutcomesStand rows.now before outcomes.old → OutcomesStand rows.now (before ++ packet.now ∷ []) outcomes.new }
-{
-    let id = packet.mid();
-    let bytes = packet.bytes();
     for place in 0..WATCHPOINTS {
-        outcomes[place] = outcome_after(&rows[place], id, bytes, outcomes[place]);
+        outcomes[place] = outcome_after(&rows[place], telemetry, outcomes[place]);
     }
 }
 
-/// The outcome of a watchpoint after a packet.
+/// The outcome of a watchpoint after these packets.
 #[inline(always)]
-fn outcome_after(row: &WatchRow, id: u16, bytes: &[u8], before: Outcome) -> Outcome
-    requires { id ≡ message_id bytes.now }
-    ensures { (telemetry : List (List ℕ)) → before ≡ outcome_of row.now telemetry → result ≡ outcome_of row.now (telemetry ++ bytes.now ∷ []) }
+fn outcome_after(row: &WatchRow, telemetry: &[Packet], before: Outcome) -> Outcome
+    ensures { (seen : List (List ℕ)) → before ≡ outcome_of row.now seen → result ≡ outcome_of row.now (seen ++ telemetry.now) }
 {
-    if row.id != id {
-        return before;
-    }
     if !row.is_used() {
         return before;
     }
-    reading(row, bytes)
+    last_outcome(row, telemetry, before)
+}
+
+/// The same of one that is used: the packets are looked at from the last one on, until one has its id.
+fn last_outcome(row: &WatchRow, telemetry: &[Packet], before: Outcome) -> Outcome
+    requires { is_used row.now ≡ true }
+    ensures { (seen : List (List ℕ)) → before ≡ outcome_of row.now seen → result ≡ outcome_of row.now (seen ++ telemetry.now) }
+{
+    let count = telemetry.len();
+    for back in 0..count {
+        let packet = &telemetry[count - 1 - back];
+        if packet.mid() == row.id {
+            return reading(row, packet.bytes());
+        }
+    }
+    before
 }
 
 /// The outcome of a watchpoint on a packet of its id.

@@ -1,19 +1,39 @@
-use Rattle.std.proofs.Common.{◌++◌, ◌∷◌, [], ℕ, List, take, sym, ap, subst, ◌∙◌, append_assoc}
-use Rattle.std.proofs.lemmas.List.{take_all}
-use Rattle.histories.proofs.Fronts.{front_more}
+use Rattle.std.proofs.Common.{◌<◌, ◌++◌, ℕ, List, length, sym, ap, subst, ◌∙◌, arith, append-nil}
+use Rattle.std.proofs.lemmas.List.{length-set}
+use Rattle.commands.proofs.Heard.{no_packets}
 use Rattle.lc_watch.specs.Outcomes.{OutcomesStand}
+use Rattle.lc_watch.specs.declared.outcomes.Outcome.TheVariants.{Unseen}
+use Rattle.lc_watch.proofs.Halves.{half_none, half_more, half_whole}
+use Rattle.lc_watch.proofs.Taking.{IsOutcome}
 use Rattle.lc_watch.proofs.outcomes.take_all.Goals as goal
 
-pub loop-packet-preserved : goal.loop-packet-preserved
-loop-packet-preserved c = λ before stood.
-    let packets = c.args.telemetry.now in
-    let i = c.loop-packet.packet-index in
-    let p = c.packet-item.result in
-    subst (λ (seen : List (List ℕ)). OutcomesStand c.args.rows.now seen c.take_one.new.outcomes)
-    (append_assoc before (take i packets) (p ∷ []) ∙ ap (λ (front : List (List ℕ)). before ++ front) (sym (front_more packets i p c.loop-packet-test.true c.packet-item.is)))
-    (c.take_one.ensures (before ++ take i packets) (c.loop-packet.invariant before stood))
+pub returns-then-is_empty : goal.returns-then-is_empty
+returns-then-is_empty c = λ before stood.
+    let none = no_packets c.args.telemetry.now (sym c.is_empty.ensures ∙ c.if-is_empty.true) in
+    subst (λ (seen : List (List ℕ)). OutcomesStand c.args.rows.now seen c.args.outcomes.now) (sym (ap (λ (more : List (List ℕ)). before ++ more) none ∙ append-nil before)) stood
+
+pub loop-place-init : goal.loop-place-init
+loop-place-init c = record {
+  long = c.told-outcomes;
+  half = λ before stood. half_none (IsOutcome c.args.rows.now before) (IsOutcome c.args.rows.now (before ++ c.args.telemetry.now)) 32 Unseen c.args.outcomes.now stood.each;
+}
+
+pub loop-place-preserved : goal.loop-place-preserved
+loop-place-preserved c =
+    let held = c.loop-place.invariant in
+    let place = c.loop-place.place in
+    let watch = c.args.rows.now in
+    let within : place < length c.loop-place.outcomes = omega (arith, held.long) in
+    record {
+      long = length-set c.loop-place.outcomes place c.outcome_after.result ∙ held.long;
+      half = λ before stood.
+          let half = held.half before stood in
+          half_more (IsOutcome watch before) (IsOutcome watch (before ++ c.args.telemetry.now)) 32 Unseen c.loop-place.outcomes place c.outcome_after.result within
+          (c.outcome_after.ensures before (half.left place (omega arith) c.loop-place-test.true)) half;
+    }
 
 pub returns : goal.returns
-returns c = λ before stood.
-    subst (λ (front : List (List ℕ)). OutcomesStand c.args.rows.now (before ++ front) c.loop-packet.outcomes) (take_all c.loop-packet.packet-index c.args.telemetry.now c.loop-packet-test.false)
-    (c.loop-packet.invariant before stood)
+returns c = λ before stood. record {
+  long = c.loop-place.invariant.long;
+  each = half_whole (IsOutcome c.args.rows.now before) (IsOutcome c.args.rows.now (before ++ c.args.telemetry.now)) 32 Unseen c.loop-place.outcomes c.loop-place.place c.loop-place-test.false (c.loop-place.invariant.half before stood);
+}

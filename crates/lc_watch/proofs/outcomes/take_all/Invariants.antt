@@ -1,7 +1,11 @@
-use Rattle.std.proofs.Common.{ℕ, List, ◌++◌, take}
+use Rattle.std.proofs.Common.{◌≡◌, ℕ, List, length}
 use Rattle.lc_watch.specs.Outcomes.{OutcomesStand}
+use Rattle.lc_watch.proofs.Taking.{HalfTaken}
 use Rattle.lc_watch.proofs.outcomes.take_all.Given as goal
 
--- the outcomes stand for the packets so far
-abbrev pub invariant-loop-packet : goal.invariant-loop-packet
-invariant-loop-packet l = (before : List (List ℕ)) → OutcomesStand l.rows before l.fn.outcomes → OutcomesStand l.rows (before ++ take l.packet-index l.telemetry) l.outcomes
+-- the outcomes so far have seen the packets
+abbrev pub invariant-loop-place : goal.invariant-loop-place
+invariant-loop-place l = record {
+  long : length l.outcomes ≡ 32;
+  half : (before : List (List ℕ)) → OutcomesStand l.rows before l.fn.outcomes → HalfTaken l.rows before l.telemetry l.place l.outcomes;
+}
