@@ -1,6 +1,6 @@
 //! The packets that a wakeup takes from a pipe.
 
-ghost use Rattle.std.specs.Prelude.{◌≡◌, ◌≤◌, [], length};
+ghost use Rattle.std.specs.Prelude.{◌≡◌, ◌≤◌, ◌+◌, ◌++◌, [], length, take};
 ghost use Rattle.circular_buffer.specs.Buffer.{buffer};
 
 use circular_buffer::HeapCircularBuffer;
@@ -50,7 +50,7 @@ impl Batch {
         self.count = 0;
     }
 
-    /// Takes all packets of a ring that has places for at most 32.
+    /// Takes all packets of a ring that has places for at most 32. They are copied one by one, since most are short.
     pub(crate) fn fill(&mut self, ring: &mut HeapCircularBuffer<Packet>)
         requires { ring.old.capacity ≤ 32 }
         ensures taken { self.new ≡ ring.old.items }
@@ -59,6 +59,21 @@ impl Batch {
     {
         let few = ring.len();
         prove!(few <= 32);
-        self.count = ring.read_into(&mut self.places);
+        let (front, back) = ring.as_slices();
+        copy_over(&mut self.places, 0, front);
+        copy_over(&mut self.places, front.len(), back);
+        self.count = front.len() + back.len();
+        ring.clear();
+    }
+}
+
+/// Writes packets over those from place `from` on.
+fn copy_over(places: &mut [Packet], from: usize, packets: &[Packet])
+    requires { from + length packets.now ≤ length places.old }
+    ensures written { take (from + length packets.now) places.new ≡ take from places.old ++ packets.now }
+    ensures size { length places.new ≡ length places.old }
+{
+    'packets: for i in 0..packets.len() {
+        places[from + i].copy_from(&packets[i]);
     }
 }
