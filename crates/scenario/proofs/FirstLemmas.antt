@@ -1,6 +1,8 @@
 -- The first place whose byte passes a test.
-use Rattle.std.proofs.Common.{◌≡◌, ℕ, zero, suc, ◌+◌, ◌<◌, Bool, true, false, List, [], ◌∷◌, length, get_or, Option, Some, None, refl, arith}
-use Rattle.std.specs.List.{position, position_or_len}
+use Rattle.std.proofs.Common.{◌≡◌, ℕ, zero, suc, ◌+◌, ◌<◌, ◌≤◌, Bool, true, false, not, List, [], ◌∷◌, length, take, get_or, Option, Some, None, refl, sym, subst, ◌∙◌, arith}
+use Rattle.std.specs.List.{position, position_or_len, prefix_len}
+use Rattle.std.proofs.lemmas.Simd.{run_in_chunk_fails, run_in_chunk_stops}
+use Rattle.std.proofs.lemmas.Bool.{false≢true}
 use Rattle.std.proofs.lemmas.Bool.Decides.{nat_tests}
 use Rattle.memchr.specs.Find.{IsFirstByte}
 
@@ -41,3 +43,11 @@ position_past p xs is = rw is (grind (arith, nat_tests))
 pub first_is : (p : ℕ → Bool) (xs : List ℕ) (found : Option ℕ) → IsFirstByte p xs found → found ≡ position p xs
 first_is p xs None none = position_past p xs (len_is p xs (λ j lt passes. none j (omega arith) lt passes))
 first_is p xs (Some k) is = position_at p xs k is.0.high (place_is p xs k is.0.high (λ j lt passes. is.0.before j (omega arith) lt passes) is.1)
+
+-- the first place that passes, where it is among the first n
+pub near_is : (p : ℕ → Bool) (xs : List ℕ) (n k : ℕ) → n ≤ length xs → k ≡ prefix_len (λ x. not (p x)) (take n xs) → k < n → Some k ≡ position p xs
+near_is p xs n k room counted near =
+    let fails = run_in_chunk_fails p xs 0 n k 0 (omega arith) counted in
+    let stops = run_in_chunk_stops p xs 0 n k 0 (omega arith) counted near in
+    let here : p (get_or xs k 0) ≡ true = subst (λ (i : ℕ). p (get_or xs i 0) ≡ true) (omega arith) stops in
+    position_at p xs k (omega arith) (place_is p xs k (omega arith) (λ j lt passes. false≢true (sym (fails j (omega arith) (omega arith)) ∙ passes)) here)

@@ -1,9 +1,13 @@
 //! The line that has begun.
-ghost use Rattle.std.specs.Prelude.{◌≡◌, ◌≤◌, ◌+◌, ◌*◌, ◌++◌, [], length};
+ghost use Rattle.std.specs.Prelude.{◌≡◌, ◌≤◌, ◌+◌, ◌*◌, ◌++◌, [], length, take};
 ghost use Rattle.scenario.specs.Drill.{upper_hex};
 
 use packet_forms::{place, place_hex};
 use std::marker::Model;
+use std::simd::prelude::*;
+
+/// How many bytes are looked at and copied at once; most lines have fewer.
+pub(crate) const NEAR: usize = 64;
 
 /// One byte more than the longest line.
 pub(crate) const LINE_ROOM: usize = 641;
@@ -57,6 +61,22 @@ impl LineBuffer {
         self.len += piece.len();
     }
 
+    /// Appends the first of these bytes. A short line that begins here is copied with what lies behind it, since that takes fewer
+    /// steps.
+    #[inline(always)]
+    pub(crate) fn append_front(&mut self, bytes: &[u8], count: usize)
+        requires within { count ≤ length bytes.now }
+        requires room { length self.old + count ≤ 641 }
+        ensures { self.new ≡ self.old ++ take count bytes.now }
+    {
+        if self.len == 0 && count <= NEAR && bytes.len() >= NEAR {
+            place_near(&mut self.places, bytes);
+            self.len = count;
+            return;
+        }
+        self.append(&bytes[..count]);
+    }
+
     /// Appends the bytes in hexadecimal digits.
     pub(crate) fn append_hex(&mut self, bytes: &[u8])
         requires { length self.old + 2 * length bytes.now ≤ 641 }
@@ -72,4 +92,15 @@ impl LineBuffer {
     {
         self.len = 0;
     }
+}
+
+/// Writes the first 64 bytes over those of other bytes.
+#[inline(always)]
+fn place_near(places: &mut [u8], bytes: &[u8])
+    requires places { NEAR ≤ length places.old }
+    requires bytes { NEAR ≤ length bytes.now }
+    ensures near { take NEAR places.new ≡ take NEAR bytes.now }
+    ensures size { length places.new ≡ length places.old }
+{
+    u8x64::from_slice(bytes).copy_to_slice(places);
 }

@@ -1,10 +1,11 @@
 //! The reader of a text that comes in pieces.
 ghost use Rattle.scenario.specs.Answers.{item_said};
-ghost use Rattle.std.specs.Prelude.{◌≡◌, ◌≤◌, ◌<◌, ◌+◌, ◌==◌, ◌++◌, ◌∷◌, [], ℕ, Bool, List, true, false, length, take, min, position, slice_index, IfOk, Some};
+ghost use Rattle.std.specs.Prelude.{◌≡◌, ◌≤◌, ◌<◌, ◌+◌, ◌==◌, ◌++◌, ◌∷◌, [], ℕ, Bool, List, true, false, length, not, take, min, position, slice_index, IfOk, Some};
+ghost use Rattle.std.specs.List.{prefix_len};
 
 use crate::frame::FrameInput;
 use crate::item::Item;
-use crate::line_buffer::{LINE_ROOM, LineBuffer};
+use crate::line_buffer::{LINE_ROOM, LineBuffer, NEAR};
 use crate::progress::{Header, Progress};
 use crate::reason::Reason;
 use crate::sentence::{Place, Sentence, is_tick};
@@ -12,6 +13,7 @@ use fsw_outside::NoMemory;
 use memchr::memchr;
 use packet_forms::PACKET_BYTES;
 use std::alloc::Global;
+use std::simd::prelude::*;
 
 /// Reads a scenario's text in pieces, and gives its header and its frames one after another.
 ///
@@ -44,7 +46,29 @@ fn front(bytes: &[u8], most: usize) -> &[u8]
 fn find_lf(bytes: &[u8]) -> Option<usize>
     ensures { result ≡ position (λ b. b == 10) bytes.now }
 {
+    if bytes.len() >= NEAR {
+        let at = near_lf(bytes);
+        if at < NEAR {
+            return Some(at);
+        }
+    }
     memchr(b'\n', bytes)
+}
+
+/// The place of the first LF among the first 64 bytes, and 64 where none stands there.
+#[inline(always)]
+fn near_lf(bytes: &[u8]) -> usize
+    requires { NEAR ≤ length bytes.now }
+    ensures { result ≡ prefix_len (λ b. not (b == 10)) (take NEAR bytes.now) }
+{
+    let hits = u8x64::from_slice(bytes)
+        .simd_eq(u8x64::splat(b'\n'))
+        .to_bitmask();
+    if hits == 0 {
+        NEAR
+    } else {
+        hits.trailing_zeros() as usize
+    }
 }
 
 /// What is answered at a line that gives an item.
@@ -116,7 +140,7 @@ impl Reader {
         let front = front(piece, LINE_ROOM - self.line.len());
         match find_lf(front) {
             Some(at) => {
-                self.append(&front[..at]);
+                self.append_front(front, at);
                 self.whole = true;
                 at + 1
             }
@@ -223,6 +247,15 @@ impl Reader {
         ensures line { self.new.line.value ≡ self.old.line.value ++ bytes.now }
     {
         self.line.append(bytes);
+    }
+
+    fn append_front(&mut self, bytes: &[u8], count: usize)
+        requires within { count ≤ length bytes.now }
+        requires room { length self.old.line.value + count ≤ 641 }
+        ensures others { self.new ≡ record self.old { line = self.new.line } }
+        ensures line { self.new.line.value ≡ self.old.line.value ++ take count bytes.now }
+    {
+        self.line.append_front(bytes, count);
     }
 
     /// What is answered where no line is left.
