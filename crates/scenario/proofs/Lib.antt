@@ -6,5 +6,6 @@ pub mod StandingLemmas
 pub mod NextLemmas
 pub mod SendLemmas
 pub mod BeginLemmas
+pub mod PassLemmas
 pub mod FirstLemmas
 pub mod DrillLemmas

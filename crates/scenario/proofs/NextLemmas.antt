@@ -3,6 +3,7 @@ use Rattle.std.proofs.Common.{◌≡◌, ℕ, ◌+◌, Bool, true, false, ◌&&�
 use Rattle.scenario.specs.declared.item.Item.{Item as Answer}
 use Rattle.scenario.specs.declared.item.Item.TheVariants as answers
 use Rattle.scenario.specs.declared.reader.Reader.{Reader}
+use Rattle.scenario.specs.declared.progress.Progress.{Progress}
 use Rattle.scenario.specs.declared.sentence.Sentence.{Sentence}
 use Rattle.scenario.specs.Sentences.{IsPlaced}
 use Rattle.scenario.specs.Frames.{frame_of}
@@ -22,6 +23,13 @@ pub record LooksGood (r q : Reader) (said : Option Sentence) (answer : Answer) :
 
 pub same_line : (a b : List ℕ) (m n : ℕ) → a ≡ b → m ≡ n → (let x : Line = record { bytes = a; takes = m } in x) ≡ record { bytes = b; takes = n }
 same_line a b m n e1 e2 = rw (e1, e2) refl
+
+-- what didn't change stands as before
+pub kept_follows : (p q k : Progress) → k ≡ q → ((old : Before) → Follows p old → Follows q old) → (old : Before) → Follows p old → Follows k old
+kept_follows p q k same follows old f = rw same (follows old f)
+
+pub kept_hidden : (q k : Progress) → k ≡ q → q.shown ≡ false → k.shown ≡ false
+kept_hidden q k same hidden = rw same hidden
 
 passed_on : (r q : Reader) (said : Option Sentence) (answer : Answer) → LooksGood r q said answer → (t : Text) (gave : List Given) (s : Stands r t gave) → Stands q t (gave ++ given s.before.sentences said)
 passed_on r q said answer l t gave s = stands_passed r q said answer l.passes l.hidden l.some l.placed l.good t gave s

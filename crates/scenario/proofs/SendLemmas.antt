@@ -1,5 +1,6 @@
 -- What the word behind `send` says.
-use Rattle.std.proofs.Common.{◌≡◌, ℕ, ◌<◌, true, false, nat_lt, List, [], ◌∷◌, length, Option, Some, None, Result, Ok, Err, refl, sym, ap, ◌∙◌, arith}
+use Rattle.std.proofs.Common.{◌≡◌, ℕ, ◌<◌, true, false, nat_lt, List, [], ◌∷◌, length, take, Option, Some, None, Result, Ok, Err, refl, sym, ap, ◌∙◌, arith}
+use Rattle.std.specs.Prelude.{option_map, IfSome}
 use Rattle.std.proofs.lemmas.Bool.Decides.{nat_tests}
 use Rattle.packet_forms.specs.declared.packet.PacketFault.{PacketFault}
 use Rattle.packet_forms.specs.declared.packet.PacketFault.TheVariants as faults
@@ -59,3 +60,14 @@ said_alone line (x ∷ word) what same e =
     let bytes = digits_said (x ∷ word) what e in
     let alone : words line ≡ (x ∷ word) ∷ [] = sym same ∙ hex_alone (x ∷ word) bytes.0 (omega arith) bytes.1 in
     ap as_said (said_by_word line (x ∷ word) (ap one alone)) ∙ e
+
+said_by_digits : (line word bytes : List ℕ) → words word ≡ words line → hex word ≡ Some bytes → packet_of bytes ≡ Ok bytes → as_said (send_line (words line)) ≡ Ok (Some (says.Send bytes))
+unfolding hex_said
+said_by_digits line word bytes same is good =
+    said_alone line word (Some (says.Send bytes)) same (rw is (ap (λ (r : Result (List ℕ) Reason). as_said (r >>= (λ packet. (let x : Result Sentence Reason = Ok (says.Send packet) in x)))) good))
+
+-- the bytes that are written by digits with which a line ends are said, where they are a packet
+pub bytes_said : (line word places : List ℕ) (count : Option ℕ) → words word ≡ words line → option_map (λ n. take n places) count ≡ hex word
+    → IfSome count (λ n. packet_of (take n places) ≡ Ok (take n places) → as_said (send_line (words line)) ≡ Ok (Some (says.Send (take n places))))
+bytes_said line word places None same e = tt
+bytes_said line word places (Some n) same e = λ good. said_by_digits line word (take n places) same (sym e) good

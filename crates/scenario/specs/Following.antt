@@ -1,12 +1,14 @@
 -- What the fields of the machine of one line are, after what stood before.
-use Rattle.std.specs.Prelude.{◌≡◌, ◌<◌, true, if◌then◌else◌, length, Option, Some, None}
+use Rattle.std.specs.Prelude.{◌≡◌, ◌<◌, ◌≤◌, ◌+◌, ℕ, List, true, false, if◌then◌else◌, length, Option, Some, None, Ok}
 use Rattle.memory_window.specs.Regions.{map_fault_of}
 use Rattle.scenario.specs.declared.sentence.Sentence.{Sentence}
 use Rattle.scenario.specs.declared.sentence.Sentence.TheVariants as says
 use Rattle.scenario.specs.declared.progress.Progress.{Progress}
 use Rattle.scenario.specs.FrameLists.{Frame, no_items, items_in}
 use Rattle.scenario.specs.Frames.{place_after, epoch_of, regions_of, frame_of, ticks_of, header_of}
-use Rattle.scenario.specs.Texts.{Before}
+use Rattle.scenario.specs.Sentences.{IsPlaced, stands_at}
+use Rattle.scenario.specs.Texts.{Before, is_too_long, reads, passed}
+use Rattle.scenario.specs.declared.sentence.Verb.TheVariants as verbs
 
 -- the frame that has begun
 abbrev pub begun : Progress → Frame
@@ -45,3 +47,18 @@ HasRoomFor p (Some s) = HasRoom p s
 pub record KeepsFrame (p : Progress) (said : Option Sentence) (q : Progress) : Type 0 where
   pub tick : said ≡ Some says.Tick → (q.shown ≡ true) × (q.frame.value ≡ p.frame.value)
   pub shown : q.shown ≡ true → said ≡ Some says.Tick
+
+-- one more packet may be sent by a line that takes so many bytes
+pub record CanSend (p : Progress) (line : List ℕ) (takes : ℕ) : Type 0 where
+  pub short : (old : Before) → Follows p old → is_too_long old (record { bytes = line; takes = takes }) ≡ false
+  pub small : p.bytes + takes ≤ 16777216
+  pub stands : stands_at p.place verbs.Send ≡ true
+  pub room : items_in p.frame.value < 64
+
+-- a good line that sends a packet was read and passed
+pub record PassesSend (p : Progress) (line : List ℕ) (takes : ℕ) (q : Progress) : Type 0 where
+  pub packet : List ℕ
+  pub placed : IsPlaced p.place (Some (says.Send packet))
+  pub good : (old : Before) → Follows p old → Ok (Some (says.Send packet)) ≡ reads old (record { bytes = line; takes = takes })
+  pub follows : (old : Before) (text : List ℕ) → Follows p old → Follows q (passed old (record { bytes = text; takes = takes }) (Some (says.Send packet)))
+  pub keeps : KeepsFrame p (Some (says.Send packet)) q

@@ -1,5 +1,6 @@
 //! What one frame is given.
-ghost use Rattle.std.specs.Prelude.{◌≡◌, ◌≤◌, ◌<◌, ◌++◌, ◌∷◌, []};
+ghost use Rattle.std.specs.Prelude.{◌≡◌, ◌≤◌, ◌<◌, ◌++◌, ◌∷◌, [], true, false, Ok};
+ghost use Rattle.scenario.specs.Sentences.{packet_of};
 ghost use Rattle.scenario.specs.FrameLists.{no_items, items_in};
 
 use crate::send_list::SendList;
@@ -132,6 +133,15 @@ impl FrameInput {
         ensures { self.new ≡ record self.old { sends = self.old.sends ++ packet.now ∷ [] } }
     {
         self.sends.push(packet);
+    }
+
+    /// Sends the packet of these bytes, and answers whether they are one. Where they aren't nothing changes.
+    pub(crate) fn send_bytes(&mut self, bytes: &[u8]) -> bool
+        requires { items_in self.old < 64 }
+        ensures sent { result ≡ true → (packet_of bytes.now ≡ Ok bytes.now) × (self.new ≡ record self.old { sends = self.old.sends ++ bytes.now ∷ [] }) }
+        ensures kept { result ≡ false → self.new ≡ self.old }
+    {
+        self.sends.push_bytes(bytes)
     }
 
     pub(crate) fn count(&mut self, counter: Counter)

@@ -1,10 +1,12 @@
 //! What the good lines so far come to, and what one more line is behind them.
-ghost use Rattle.std.specs.Prelude.{◌≡◌, ◌≤◌, ◌<◌, ◌+◌, ◌∷◌, [], false, if◌then◌else◌, is_none, ℕ, List, length, min, nat_lt, nat_le, ◌||◌, IfOk, Some, None};
+ghost use Rattle.std.specs.Prelude.{◌≡◌, ◌≤◌, ◌<◌, ◌+◌, ◌∷◌, [], true, false, if◌then◌else◌, is_none, ℕ, List, length, min, nat_lt, nat_le, ◌||◌, IfOk, Ok, Some, None};
 
 use crate::frame::FrameInput;
 use crate::reason::Reason;
 use crate::regions::RegionList;
-use crate::sentence::{Place, Sentence, Verb, line_says, tick_says};
+use crate::sentence::{
+    Place, Sentence, Verb, behind_send, bytes_sent, line_says, may_stand, tick_says,
+};
 use fsw_outside::NoMemory;
 use memory_window::{Map, is_mapped};
 use packet_forms::PACKET_BYTES;
@@ -54,9 +56,9 @@ impl Progress {
     ghost use Rattle.scenario.specs.Frames.{refusal, room_for_item};
     ghost use Rattle.scenario.specs.FrameLists.{items_in};
     ghost use Rattle.memory_window.specs.Regions.{map_fault_of};
-    ghost use Rattle.scenario.specs.Sentences.{Begins, Gives, IsPlaced};
+    ghost use Rattle.scenario.specs.Sentences.{Begins, Gives, IsPlaced, packet_of};
     ghost use Rattle.scenario.specs.Texts.{Before, nothing, reads, passed, is_too_long};
-    ghost use Rattle.scenario.specs.Following.{Follows, HasRoom, HasRoomFor, KeepsFrame};
+    ghost use Rattle.scenario.specs.Following.{Follows, HasRoom, HasRoomFor, KeepsFrame, CanSend, PassesSend};
 
     pub(crate) fn open(alloc: Global) -> Result<Progress, NoMemory>
         ensures follows { IfOk result (λ p. Follows p nothing) }
@@ -176,6 +178,64 @@ impl Progress {
             Some(reason) => Err(reason),
             None => Ok(()),
         }
+    }
+
+    /// Whether a line that takes so many bytes may send a packet.
+    fn may_send(&self, line: &[u8], takes: u32) -> bool
+        requires hidden { self.now.shown ≡ false }
+        requires takes { takes ≤ 1000 }
+        ensures { result ≡ true → CanSend self.now line.now takes }
+    {
+        !self.is_too_long(line, takes)
+            && may_stand(self.place, Verb::Send)
+            && self.frame.len() < FRAME_ITEMS
+    }
+
+    /// Passes a line that takes so many bytes where it is a good one of `send`, a space and digits with which it ends: its packet is
+    /// written where it lies in the frame. Of any other line it says so, and nothing changes.
+    pub(crate) fn pass_send(
+        &mut self,
+        line: &[u8],
+        takes: u32,
+        places: &mut [u8; PACKET_BYTES],
+    ) -> bool
+        requires hidden { self.old.shown ≡ false }
+        requires takes { takes ≤ 1000 }
+        requires some { 0 < takes }
+        ensures passes { result ≡ true → PassesSend self.old line.now takes self.new }
+        ensures kept { result ≡ false → self.new ≡ self.old }
+    {
+        let Some(rest) = behind_send(line) else {
+            return false;
+        };
+        if !self.may_send(line, takes) {
+            return false;
+        }
+        let Some(count) = bytes_sent(rest, places) else {
+            return false;
+        };
+        self.send_bytes(&places[..count], takes)
+    }
+
+    /// Passes a line that sends the packet of these bytes and takes so many of the text's, and answers whether they are one. Where
+    /// they aren't nothing changes.
+    fn send_bytes(&mut self, bytes: &[u8], takes: u32) -> bool
+        requires hidden { self.old.shown ≡ false }
+        requires room { items_in self.old.frame.value < 64 }
+        requires some { 0 < takes }
+        requires small { self.old.bytes + takes ≤ 16777216 }
+        ensures good { result ≡ true → packet_of bytes.now ≡ Ok bytes.now }
+        ensures follows { result ≡ true → (old : Before) (line : List ℕ) → Follows self.old old → Follows self.new (passed old (record { bytes = line; takes = takes }) (Some (Sentence.Send bytes.now))) }
+        ensures shows { result ≡ true → KeepsFrame self.old (Some (Sentence.Send bytes.now)) self.new }
+        ensures kept { result ≡ false → self.new ≡ self.old }
+    {
+        if !self.frame.send_bytes(bytes) {
+            return false;
+        }
+        self.bytes += takes;
+        self.lines += 1;
+        self.place = Place::Inside;
+        true
     }
 
     /// What a line says that takes so many bytes, or the first reason why it is bad. `places` are for the bytes of a packet.

@@ -197,6 +197,9 @@ impl Reader {
                 Err(reason) => self.bad(reason),
             };
         }
+        if self.progress.pass_send(line, takes, &mut self.places) {
+            return self.go_on();
+        }
         match self
             .progress
             .reads(line, takes, &mut self.places, &mut self.said)
@@ -297,6 +300,17 @@ impl Reader {
         self.line.clear();
         self.whole = false;
         Item::Frame
+    }
+
+    /// Answers what comes behind a line that was passed and gives no item.
+    fn go_on(&mut self) -> Item
+        ensures line { self.new.line.value ≡ [] }
+        ensures others { self.new ≡ record self.old { line = self.new.line; whole = false } }
+        ensures answer { result ≡ end_answer self.old.finished self.old.progress.place self.old.progress.lines }
+    {
+        self.line.clear();
+        self.whole = false;
+        self.at_end()
     }
 
     /// Passes a good line, and answers its item or what comes behind it.

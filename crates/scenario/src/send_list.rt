@@ -1,5 +1,6 @@
 //! The packets that a frame sends.
-ghost use Rattle.std.specs.Prelude.{◌≡◌, ◌≤◌, ◌<◌, ◌++◌, ◌∷◌, [], length};
+ghost use Rattle.std.specs.Prelude.{◌≡◌, ◌≤◌, ◌<◌, ◌++◌, ◌∷◌, [], true, false, length, Ok};
+ghost use Rattle.scenario.specs.Sentences.{packet_of};
 
 use packet_forms::Packet;
 use std::marker::Model;
@@ -52,6 +53,21 @@ impl SendList {
     {
         self.places[self.count].copy_from(packet);
         self.count += 1;
+    }
+
+    /// Puts the packet of these bytes behind the others, and answers whether they are one. Where they aren't nothing changes.
+    pub(crate) fn push_bytes(&mut self, bytes: &[u8]) -> bool
+        requires { length self.old < 64 }
+        ensures pushed { result ≡ true → (packet_of bytes.now ≡ Ok bytes.now) × (self.new ≡ self.old ++ bytes.now ∷ []) }
+        ensures kept { result ≡ false → self.new ≡ self.old }
+    {
+        match self.places[self.count].set_bytes(bytes) {
+            Ok(()) => {
+                self.count += 1;
+                true
+            }
+            Err(_) => false,
+        }
     }
 
     pub(crate) fn clear(&mut self)

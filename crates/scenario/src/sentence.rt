@@ -1,5 +1,5 @@
 //! What a line says by itself, where it stands.
-ghost use Rattle.std.specs.Prelude.{◌≡◌, ◌≤◌, ◌∷◌, ℕ, List, [], length, IfOk, IfSome, Some, None, true};
+ghost use Rattle.std.specs.Prelude.{◌≡◌, ◌≤◌, ◌∷◌, ℕ, List, [], length, take, IfOk, IfSome, Some, None, Ok, true};
 ghost use Rattle.scenario.specs.Words.{words};
 ghost use Rattle.scenario.specs.Sentences.{Gives, IsPlaced, IsOfVerb, as_said, verb_of, Begins, stands_at, none, one, two, three, number_or_bad, epoch_line, region_line, hex_said, send_line, app_line, upset_line, hold_line, activate_line, bare_line, sentence_of, line_says, packet_of, packet_said, verb_at};
 
@@ -77,7 +77,7 @@ fn known_verb(word: &[u8]) -> Option<Verb>
     }
 }
 
-fn may_stand(place: Place, verb: Verb) -> bool
+pub(crate) fn may_stand(place: Place, verb: Verb) -> bool
     ensures { result ≡ stands_at place verb }
 {
     match verb {
@@ -214,6 +214,19 @@ fn say_send(bytes: &[u8], said: &mut Option<Sentence>) -> Result<(), Reason>
     let packet = packet(bytes)?;
     *said = Some(Sentence::Send(packet));
     Ok(())
+}
+
+/// How many bytes the digits write that come behind `send` and end with their line, where they write any: they stand in the first
+/// of the places then, and are said where they are a packet.
+pub(crate) fn bytes_sent(rest: &[u8], places: &mut [u8; PACKET_BYTES]) -> Option<usize>
+    ensures said { IfSome result (λ count. packet_of (take count places.new) ≡ Ok (take count places.new) → as_said (send_line (words rest.now)) ≡ Ok (Some (Sentence.Send (take count places.new)))) }
+    ensures few { IfSome result (λ count. count ≤ PACKET_BYTES) }
+{
+    let word = behind_spaces(rest);
+    if word.len() > 2 * PACKET_BYTES {
+        return None;
+    }
+    hex(word, places)
 }
 
 /// `send HEX`
@@ -368,7 +381,7 @@ fn verb_at(place: Place, word: &[u8]) -> Result<Verb, Reason>
 }
 
 /// What comes behind the first word of a line that begins with `send` and a space: no word needs to be looked for there.
-fn behind_send(line: &[u8]) -> Option<&[u8]>
+pub(crate) fn behind_send(line: &[u8]) -> Option<&[u8]>
     ensures { IfSome result (λ rest. Begins line.now Verb.Send (words rest.now)) }
 {
     match line.strip_prefix(b"send ") {
