@@ -46,7 +46,8 @@ use Rattle.frame_exec.specs.Sending.{upset_by}
 use Rattle.frame_exec.specs.Runs.{Setup, State, time_at, active_in, beginning, runs_at, with_active, after_line, after_naming, after_activation, activated_at, after_wakeups, image_at, left_by, sent_at, offers_at, after_frame, run_of, frame_lines, lines_at, operations_at, resets_at, behind_reset, behind}
 use Rattle.frame_exec.specs.Standing.{AppsStand, Has, IsReady, Stands, CanRun}
 use Rattle.frame_exec.specs.Landable.{CanLand}
-use Rattle.frame_exec.specs.Stages.{KeepsApps, RunsIn, IsSameFrame, Lands, StartsAnew, loads_in}
+use Rattle.frame_exec.specs.Wakes.{joined}
+use Rattle.frame_exec.specs.Stages.{KeepsApps, RunsIn, IsSameFrame, Lands, StartsAnew, HasGiven, loads_in}
 
 -- what a run has come to, at one more frame
 pub run_more : (setup : Setup) (frames : List Frame) (frame : Frame) → run_of setup (frames ++ frame ∷ []) ≡ after_frame setup (run_of setup frames) frame
@@ -211,6 +212,14 @@ module _ (before middle b : Bench) (setup : Setup) (frames : List Frame) (frame 
 
   pub ready_next : IsReady before → IsReady b
   ready_next ready = ready_by before b (ap (λ (m : Memory). regions_of m.areas) landed ∙ regions-changed _ before.ram.areas) tables_same kept ready
+
+-- what the frame gave stays once its operations landed and a processor reset took effect
+pub has_given : (before middle b end : Bench) (setup : Setup) (frames : List Frame) (frame : Frame) → IsSameFrame before middle → Lands middle b → StartsAnew b end
+    → RunsIn setup (activated_at setup (run_of setup frames) frame) frame before → HasGiven end setup frames frame
+has_given before middle b end setup frames frame same lands anew ran = record {
+  items = ap (λ (lists : List (List Out)). joined lists) (anew.items ∙ lands.items ∙ same.items) ∙ ran.sent;
+  resets = anew.resets ∙ lands.resets ∙ same.resets ∙ ran.resets;
+}
 
 -- what can be landed on the frame's image can be once its lines were given away
 pub can_land_still : (before middle : Bench) → IsSameFrame before middle → CanLand (loads_in before) before.ram before.ops.value → CanLand (loads_in middle) middle.ram middle.ops.value

@@ -11,6 +11,8 @@ pub mod Waking
 pub mod Frames
 pub mod Stepping
 pub mod Behind
+pub mod Obeying
+pub mod Calling
 pub mod Taking
 pub mod Activating
 pub mod Naming

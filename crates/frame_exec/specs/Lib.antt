@@ -2,6 +2,7 @@ pub mod Tables
 pub mod Sending
 pub mod Activations
 pub mod Runs
+pub mod Crowds
 pub mod Standing
 pub mod Following
 pub mod Wakes

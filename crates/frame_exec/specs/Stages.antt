@@ -29,7 +29,7 @@ use Rattle.frame_exec.specs.Sending.{is_same, upset_by, sent_of, is_reset, offer
 use Rattle.packet_log.specs.Sent.{makes}
 use Rattle.frame_exec.specs.Wakes.{joined, unless, AreSendable, HasTaken, IsWoken, next_of}
 use Rattle.frame_exec.specs.Applications.{Active, cs_tables, hs_stands, cs_stands, sc_stands, mm_stands, md_stands, hs_gives, cs_gives, sc_gives, mm_gives, md_gives, hs_reads, cs_reads, sc_reads, mm_reads, md_reads}
-use Rattle.frame_exec.specs.Runs.{Setup, State, after_activation, table_events, image_at, items_at, operations_at, left_by, sent_at, resets_at, offers_at, after_wakeups, behind}
+use Rattle.frame_exec.specs.Runs.{Setup, State, after_activation, activated_at, run_of, table_events, image_at, items_at, operations_at, left_by, sent_at, resets_at, offers_at, after_wakeups, behind}
 use Rattle.frame_exec.specs.Landable.{CanLand}
 use Rattle.frame_exec.specs.declared.left.Left.{Left}
 use Rattle.frame_exec.specs.Jobs.{Gives, Operates}
@@ -233,6 +233,7 @@ pub record RunsIn (setup : Setup) (s : State) (frame : Frame) (b : Bench) : Type
 
 -- all that a frame makes of the bench stays, but for the lines that wait
 pub record IsSameFrame (old new : Bench) : Type 0 where
+  pub items : items_in new ≡ items_in old
   pub epoch : new.epoch ≡ old.epoch
   pub number : new.number ≡ old.number
   pub failed : new.failed ≡ old.failed
@@ -246,6 +247,7 @@ pub record IsSameFrame (old new : Bench) : Type 0 where
 
 -- the frame's operations have landed, and the next frame comes
 pub record Lands (old new : Bench) : Type 0 where
+  pub items : items_in new ≡ items_in old
   pub epoch : new.epoch ≡ old.epoch
   pub number : new.number ≡ old.number + 1
   pub failed : new.failed ≡ old.failed
@@ -260,9 +262,16 @@ pub record Lands (old new : Bench) : Type 0 where
 -- a processor reset took effect where one was asked for
 pub record StartsAnew (old new : Bench) : Type 0 where
   pub goes : GoesOn old new
+  pub items : items_in new ≡ items_in old
+  pub resets : new.resets ≡ old.resets
   pub memory : new.ram ≡ old.ram
   pub has : (setup : Setup) (s : State) → old.epoch ≡ setup.epoch → old.tables.files ≡ setup.files → Has old s → Has new (behind old.resets setup s)
 
 -- the lines of what was sent and dropped
 abbrev pub lines_in : Bench → List ℕ
 lines_in b = flat_map (item_line b.number) (joined (items_in b)) ++ flat_map (drop_line b.number) b.drops.items
+
+-- the bench has the items of a frame that was run behind these frames, as they were sent, and whether one asks for a processor reset
+pub record HasGiven (b : Bench) (setup : Setup) (frames : List Frame) (frame : Frame) : Type 0 where
+  pub items : joined (items_in b) ≡ sent_at setup (activated_at setup (run_of setup frames) frame) frame
+  pub resets : b.resets ≡ resets_at setup (activated_at setup (run_of setup frames) frame) frame

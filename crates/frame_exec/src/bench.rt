@@ -4,6 +4,7 @@ ghost use Rattle.std.specs.Prelude.{◌≡◌};
 ghost use Rattle.frame_exec.specs.declared.bench.TheConstants.{DROPS, ACTIVATIONS};
 
 use crate::activations::{Naming, hand_over, naming_of, tell};
+use crate::crowds::obey_frame;
 use crate::cs_slot::CsSlot;
 use crate::cut::Cut;
 use crate::giving::{OpenFault, refused_place};
@@ -33,6 +34,7 @@ use sc_sequences::Sc;
 use scenario::{App, FrameInput, Header, Upset};
 use std::alloc::Global;
 use std::thread::Threads;
+use subjects::{Crowd, Subject};
 use table_files::Files;
 
 /// How many packets are dropped in a frame at most: all that are sent and all that the applications give.
@@ -53,7 +55,7 @@ pub struct Bench<'f> {
     failed: bool,
     // whether a processor reset was asked for in the frame that was run
     resets: bool,
-    // how many threads may land operations at once
+    // how many threads may land operations, or cycle a crowd, at once
     workers: u32,
     tables: Tables<'f>,
     // the events of the frame's activations
@@ -82,7 +84,7 @@ pub struct Bench<'f> {
 }
 
 impl<'f> Bench<'f> {
-    ghost use Rattle.std.specs.Prelude.{ℕ, ◌+◌, ◌-◌, ◌<◌, ◌≤◌, List, [], ◌∷◌, ◌++◌, length, true, ◌||◌, All, IfOk, IfErr, OnOk, OnErr, is_err};
+    ghost use Rattle.std.specs.Prelude.{ℕ, ◌+◌, ◌-◌, ◌<◌, ◌≤◌, List, [], ◌∷◌, ◌++◌, map, length, true, ◌||◌, All, IfOk, IfErr, OnOk, OnErr, is_err};
     ghost use Rattle.fsw_outside.specs.Told.{WhereTold};
     ghost use Rattle.fsw_outside.specs.Causes.{HasCause};
     ghost use Rattle.fsw_outside.specs.Written.{WritesAll};
@@ -92,7 +94,9 @@ impl<'f> Bench<'f> {
     ghost use Rattle.scenario.specs.declared.frame.Upset.{Upset};
     ghost use Rattle.scenario.specs.declared.frame.App.{App};
     ghost use Rattle.scenario.specs.FrameLists.{Frame};
-    ghost use Rattle.frame_exec.specs.Runs.{Setup, State, activated_at, naming_at, frame_lines, log_of};
+    ghost use Rattle.frame_exec.specs.Runs.{Setup, State, activated_at, naming_at, frame_lines, log_of, run_of};
+    ghost use Rattle.frame_exec.specs.Crowds.{with_counters, beside, behind_items, crowd_after};
+    ghost use Rattle.subjects.specs.Crowds.{counter_of, all_cycled};
     ghost use Rattle.frame_exec.specs.Standing.{Has, has_failed, waiting_in, IsReady, Stands, IsInterrupted, CanRun, setup_in};
     ghost use Rattle.frame_exec.specs.Following.{Follows, IsCutAt, Adds};
     ghost use Rattle.frame_exec.specs.Tables.{AreGiven, AreLoaded, Opens, region_fault};
@@ -100,14 +104,13 @@ impl<'f> Bench<'f> {
     ghost use Rattle.std.specs.List.{AllPass, list_any};
     ghost use Rattle.bus_pipes.specs.Counted.{is_item_counted};
     ghost use Rattle.table_files.specs.Files.{kind_at};
-    ghost use Rattle.frame_exec.specs.Stages.{IsSameRun, GoesOn, NamesFile, Activates, IsUpset, Takes, IsClear, Steps, CanSend, AreWoken, TakesOver, Sends, RunsIn, IsSameFrame, Lands, StartsAnew, IsStamped, items_in, loads_in, lines_in};
+    ghost use Rattle.frame_exec.specs.Stages.{IsSameRun, GoesOn, NamesFile, Activates, IsUpset, Takes, IsClear, Steps, CanSend, AreWoken, TakesOver, Sends, RunsIn, IsSameFrame, Lands, StartsAnew, IsStamped, HasGiven, items_in, loads_in, lines_in};
     ghost use Rattle.frame_exec.specs.Sending.{is_reset};
     ghost use Rattle.frame_exec.specs.Wakes.{joined};
 
-    /// A bench with the tables that were loaded from these files and the memory of the header's map, which stands for no
-    /// frames; the number of workers is from 1 to 16. `Region` comes exactly where that memory refuses the read of a dwell
-    /// entry of another length than 0, or the bytes of a checksum entry whose state isn't 0, with the first such file and
-    /// its first such entry; it is asked before memory is.
+    /// A bench with the tables that were loaded from these files and the memory of the header's map, which stands for no frames; the number of
+    /// workers is from 1 to 16. `Region` comes exactly where that memory refuses the read of a dwell entry of another length than 0, or the bytes
+    /// of a checksum entry whose state isn't 0, with the first such file and its first such entry; it is asked before memory is.
     pub fn open(
         alloc: Global,
         tables: Tables<'f>,
@@ -193,7 +196,61 @@ impl<'f> Bench<'f> {
         ensures cause { HasCause (O.held sink.new) (O.faults sink.old) (O.faults sink.new) result }
         ensures failed { has_failed self.new ≡ is_err result }
     {
-        let silent = self.run(rt, gate, input);
+        self.frame_on(rt, input, input.counters(), gate, sink)
+    }
+
+    /// Cycles a crowd, and runs a frame on its readings in place of the frame's own execution counters, as `frame` does. Once its lines were
+    /// written the crowd obeys its items in their order, and a processor reset restarts each subject that is left.
+    pub fn frame_with<R: Threads + Sync, S: Subject + Send, G: Gate, O: Sink>(
+        &mut self,
+        rt: &R,
+        input: &FrameInput,
+        crowd: &mut Crowd<S>,
+        gate: &G,
+        sink: &mut O,
+    ) -> Result<(), Failed>
+        requires started { (setup : Setup) × (frames : List Frame) × Stands self.old setup frames × CanRun setup frames input.now }
+        ensures lines { (setup : Setup) (frames : List Frame) → Stands self.old setup frames
+            → WhereTold (O.held sink.old) (O.held sink.new) (WritesAll result (frame_lines setup frames (beside (map S.seen crowd.old.subjects) input.now))) }
+        ensures stands { (setup : Setup) (frames : List Frame) → Stands self.old setup frames → OnOk result (Stands self.new setup (frames ++ beside (map S.seen crowd.old.subjects) input.now ∷ [])) }
+        ensures interrupted { (setup : Setup) (frames : List Frame) → Stands self.old setup frames → OnErr result (IsInterrupted self.new setup frames (beside (map S.seen crowd.old.subjects) input.now)) }
+        ensures crowd { (setup : Setup) (frames : List Frame) → Stands self.old setup frames
+            → OnOk result (map S.seen crowd.new.subjects ≡ crowd_after setup (run_of setup frames) (beside (map S.seen crowd.old.subjects) input.now) (map S.seen crowd.old.subjects)) }
+        ensures cycled { OnErr result (map S.seen crowd.new.subjects ≡ all_cycled (map S.seen crowd.old.subjects)) }
+        ensures readings { crowd.new.readings ≡ map counter_of (map S.seen crowd.old.subjects) }
+        ensures cause { HasCause (O.held sink.new) (O.faults sink.old) (O.faults sink.new) result }
+        ensures failed { has_failed self.new ≡ is_err result }
+    {
+        crowd.cycle_on(rt, self.workers.max(1));
+        match self.frame_on(rt, input, crowd.readings(), gate, sink) {
+            Ok(()) => {
+                self.tell(crowd);
+                Ok(())
+            }
+            Err(failed) => Err(failed),
+        }
+    }
+
+    /// Runs a frame on these execution counters as `frame` does.
+    #[inline(always)]
+    fn frame_on<R: Threads + Sync, G: Gate, O: Sink>(
+        &mut self,
+        rt: &R,
+        input: &FrameInput,
+        counters: &[Counter],
+        gate: &G,
+        sink: &mut O,
+    ) -> Result<(), Failed>
+        requires started { (setup : Setup) × (frames : List Frame) × Stands self.old setup frames × CanRun setup frames input.now }
+        ensures lines { (setup : Setup) (frames : List Frame) → Stands self.old setup frames
+            → WhereTold (O.held sink.old) (O.held sink.new) (WritesAll result (frame_lines setup frames (with_counters counters.now input.now))) }
+        ensures stands { (setup : Setup) (frames : List Frame) → Stands self.old setup frames → OnOk result (Stands self.new setup (frames ++ with_counters counters.now input.now ∷ [])) }
+        ensures interrupted { (setup : Setup) (frames : List Frame) → Stands self.old setup frames → OnErr result (IsInterrupted self.new setup frames (with_counters counters.now input.now)) }
+        ensures given { (setup : Setup) (frames : List Frame) → Stands self.old setup frames → OnOk result (HasGiven self.new setup frames (with_counters counters.now input.now)) }
+        ensures cause { HasCause (O.held sink.new) (O.faults sink.old) (O.faults sink.new) result }
+        ensures failed { has_failed self.new ≡ is_err result }
+    {
+        let silent = self.run(rt, gate, input, counters);
         match self.write(sink, silent) {
             Ok(()) => {
                 self.land(rt, gate);
@@ -207,9 +264,8 @@ impl<'f> Bench<'f> {
         }
     }
 
-    /// Runs a frame, puts its lines behind those that wait, and lands its operations once all of them were put. Where they
-    /// don't fit, what waits is handed on first. Where that fails, the error says how many earlier frames weren't handed on
-    /// whole.
+    /// Runs a frame, puts its lines behind those that wait, and lands its operations once all of them were put. Where they don't fit, what waits
+    /// is handed on first. Where that fails, the error says how many earlier frames weren't handed on whole.
     pub fn add_frame<R: Threads + Sync, G: Gate, O: Sink>(
         &mut self,
         rt: &R,
@@ -227,7 +283,62 @@ impl<'f> Bench<'f> {
         ensures cause { HasCause (O.held sink.new) (O.faults sink.old) (O.faults sink.new) result }
         ensures failed { has_failed self.new ≡ is_err result }
     {
-        let silent = self.run(rt, gate, input);
+        self.add_on(rt, input, input.counters(), gate, sink)
+    }
+
+    /// Cycles a crowd, runs a frame on its readings as `frame_with` does, and puts its lines behind those that wait as `add_frame` does.
+    pub fn add_frame_with<R: Threads + Sync, S: Subject + Send, G: Gate, O: Sink>(
+        &mut self,
+        rt: &R,
+        input: &FrameInput,
+        crowd: &mut Crowd<S>,
+        gate: &G,
+        sink: &mut O,
+    ) -> Result<(), Cut>
+        requires started { (setup : Setup) × (earlier : List Frame) × (later : List Frame) × Follows self.old setup earlier later × CanRun setup (earlier ++ later) input.now }
+        ensures follows { (setup : Setup) (earlier later : List Frame) → Follows self.old setup earlier later → OnOk result (Follows self.new setup earlier (later ++ beside (map S.seen crowd.old.subjects) input.now ∷ [])) }
+        ensures told { (setup : Setup) (earlier later : List Frame) → Follows self.old setup earlier later
+            → OnOk result (WhereTold (tells (O.held sink.old) (waiting_in self.old)) (tells (O.held sink.new) (waiting_in self.new)) (λ before after. after ≡ before ++ frame_lines setup (earlier ++ later) (beside (map S.seen crowd.old.subjects) input.now))) }
+        ensures cut { (setup : Setup) (earlier later : List Frame) → Follows self.old setup earlier later
+            → IfErr result (λ cut. (cut.late ≤ length later) × WhereTold (tells (O.held sink.old) (waiting_in self.old)) (O.held sink.new) (λ before after. (start : List ℕ)
+            → before ≡ start ++ log_of setup (earlier ++ later) → IsCutAt setup ((earlier ++ later) ++ beside (map S.seen crowd.old.subjects) input.now ∷ []) (length (earlier ++ later) - cut.late) start after)) }
+        ensures crowd { (setup : Setup) (earlier later : List Frame) → Follows self.old setup earlier later
+            → OnOk result (map S.seen crowd.new.subjects ≡ crowd_after setup (run_of setup (earlier ++ later)) (beside (map S.seen crowd.old.subjects) input.now) (map S.seen crowd.old.subjects)) }
+        ensures cause { HasCause (O.held sink.new) (O.faults sink.old) (O.faults sink.new) result }
+        ensures failed { has_failed self.new ≡ is_err result }
+    {
+        crowd.cycle_on(rt, self.workers.max(1));
+        match self.add_on(rt, input, crowd.readings(), gate, sink) {
+            Ok(()) => {
+                self.tell(crowd);
+                Ok(())
+            }
+            Err(cut) => Err(cut),
+        }
+    }
+
+    /// Runs a frame on these execution counters as `add_frame` does.
+    #[inline(always)]
+    fn add_on<R: Threads + Sync, G: Gate, O: Sink>(
+        &mut self,
+        rt: &R,
+        input: &FrameInput,
+        counters: &[Counter],
+        gate: &G,
+        sink: &mut O,
+    ) -> Result<(), Cut>
+        requires started { (setup : Setup) × (earlier : List Frame) × (later : List Frame) × Follows self.old setup earlier later × CanRun setup (earlier ++ later) input.now }
+        ensures follows { (setup : Setup) (earlier later : List Frame) → Follows self.old setup earlier later → OnOk result (Follows self.new setup earlier (later ++ with_counters counters.now input.now ∷ [])) }
+        ensures told { (setup : Setup) (earlier later : List Frame) → Follows self.old setup earlier later
+            → OnOk result (WhereTold (tells (O.held sink.old) (waiting_in self.old)) (tells (O.held sink.new) (waiting_in self.new)) (λ before after. after ≡ before ++ frame_lines setup (earlier ++ later) (with_counters counters.now input.now))) }
+        ensures cut { (setup : Setup) (earlier later : List Frame) → Follows self.old setup earlier later
+            → IfErr result (λ cut. (cut.late ≤ length later) × WhereTold (tells (O.held sink.old) (waiting_in self.old)) (O.held sink.new) (λ before after. (start : List ℕ)
+            → before ≡ start ++ log_of setup (earlier ++ later) → IsCutAt setup ((earlier ++ later) ++ with_counters counters.now input.now ∷ []) (length (earlier ++ later) - cut.late) start after)) }
+        ensures given { (setup : Setup) (earlier later : List Frame) → Follows self.old setup earlier later → OnOk result (HasGiven self.new setup (earlier ++ later) (with_counters counters.now input.now)) }
+        ensures cause { HasCause (O.held sink.new) (O.faults sink.old) (O.faults sink.new) result }
+        ensures failed { has_failed self.new ≡ is_err result }
+    {
+        let silent = self.run(rt, gate, input, counters);
         match self.add_lines(sink, silent) {
             Ok(()) => {
                 self.land(rt, gate);
@@ -404,8 +515,7 @@ impl<'f> Bench<'f> {
         self.ops.clear();
     }
 
-    /// Wakes the applications on what they took, on the frame's execution counters, and on its image, takes over what they left, and
-    /// tells whether no item was given.
+    /// Wakes the applications on what they took, on execution counters and on the frame's image, and tells whether no item was given.
     #[inline(always)]
     fn step<R: Threads + Sync, G: Gate>(&mut self, rt: &R, gate: &G, counters: &[Counter]) -> bool
         requires time { self.old.epoch + self.old.number < 4294967296 }
@@ -490,8 +600,7 @@ impl<'f> Bench<'f> {
         told & hs & cs & sc & mm & md
     }
 
-    /// Gives the items their counts, offers the frame's packets and theirs to the pipes unless a processor reset is asked for, and tells
-    /// whether nothing was sent nor dropped.
+    /// Sends the items, unless nothing is to be sent, and tells whether nothing was sent nor dropped.
     #[inline(always)]
     fn send(&mut self, input: &FrameInput, none: bool) -> bool
         requires can { CanSend self.old }
@@ -509,8 +618,7 @@ impl<'f> Bench<'f> {
         self.is_silent()
     }
 
-    /// Gives the items their counts, and offers the frame's packets and theirs to the pipes, unless a processor reset is asked for. Nothing
-    /// was dropped yet.
+    /// Gives the items their counts, and offers the frame's packets and theirs to the pipes, unless a processor reset is asked for.
     #[inline(never)]
     fn send_all(&mut self, input: &FrameInput)
         requires can { CanSend self.old }
@@ -549,14 +657,21 @@ impl<'f> Bench<'f> {
         stamp_all(&mut self.log, &mut self.md.out);
     }
 
-    /// Runs a frame up to its lines: makes its tables active, writes its upsets, wakes the applications on its image, sends what they gave,
-    /// and tells whether there is no line.
+    /// Runs a frame up to its lines, on these execution counters: makes its tables active, writes its upsets, wakes the applications on its
+    /// image, sends what they gave, and tells whether there is no line.
     #[inline(always)]
-    fn run<R: Threads + Sync, G: Gate>(&mut self, rt: &R, gate: &G, input: &FrameInput) -> bool
+    fn run<R: Threads + Sync, G: Gate>(
+        &mut self,
+        rt: &R,
+        gate: &G,
+        input: &FrameInput,
+        counters: &[Counter],
+    ) -> bool
         requires time { self.old.epoch + self.old.number < 4294967296 }
         requires upsets { All (λ (u : Upset). is_mapped (regions_of self.old.ram.areas) u.at ≡ true) input.now.upsets }
         requires ready { IsReady self.old }
-        ensures runs { (setup : Setup) (s : State) → self.old.epoch ≡ setup.epoch → self.old.tables.files ≡ setup.files → Has self.old s → RunsIn setup (activated_at setup s input.now) input.now self.new }
+        ensures runs { (setup : Setup) (s : State) → self.old.epoch ≡ setup.epoch → self.old.tables.files ≡ setup.files → Has self.old s
+            → RunsIn setup (activated_at setup s (with_counters counters.now input.now)) (with_counters counters.now input.now) self.new }
         ensures run { GoesOn self.old self.new }
         ensures can_land { CanLand (loads_in self.new) self.new.ram self.new.ops.value }
         ensures ready { IsReady self.new }
@@ -565,7 +680,7 @@ impl<'f> Bench<'f> {
         self.activate(input.activations());
         self.upset(input.upsets());
         self.take(input.held());
-        let none = self.step(rt, gate, input.counters());
+        let none = self.step(rt, gate, counters);
         self.send(input, none)
     }
 
@@ -627,6 +742,26 @@ impl<'f> Bench<'f> {
             &lists,
             self.drops.items(),
         )
+    }
+
+    /// Lets a crowd obey the items of the frame that was run, in their order, and restart where a processor reset was asked for.
+    #[inline(always)]
+    fn tell<S: Subject + Send>(&self, crowd: &mut Crowd<S>)
+        ensures subjects { map S.seen crowd.new.subjects ≡ behind_items self.now.resets (joined (items_in self.now)) (map S.seen crowd.old.subjects) }
+        ensures readings { crowd.new.readings ≡ crowd.old.readings }
+    {
+        if !self.resets && self.gave_nothing() {
+            return;
+        }
+        let lists = in_order(
+            &self.activations,
+            &self.hs,
+            &self.cs,
+            &self.sc,
+            &self.mm,
+            &self.md,
+        );
+        obey_frame(crowd, self.resets, &lists);
     }
 
     /// Whether an item asks for a processor reset.

@@ -6,7 +6,10 @@ ghost use Rattle.memory_window.specs.declared.regions.Kind.TheVariants.{Ram};
 ghost use Rattle.scenario.specs.FrameLists.{Frame};
 ghost use Rattle.table_files.specs.Kinds.{IsKnown};
 ghost use Rattle.table_files.specs.declared.kinds.TableKind.{TableKind};
-ghost use Rattle.frame_exec.specs.Runs.{Setup, beginning, after_frame, run_of, frame_lines, log_of};
+ghost use Rattle.subjects.specs.Plans.{Simulated};
+ghost use Rattle.subjects.specs.Calls.{Call, after_calls};
+ghost use Rattle.frame_exec.specs.Runs.{Setup, State, beginning, activated_at, sent_at, resets_at, after_frame, run_of, frame_lines, log_of};
+ghost use Rattle.frame_exec.specs.Crowds.{crowd_after, calls_in, gone_on, course_of};
 ghost use Rattle.frame_exec.specs.Rows.{noop_sent, quiet, none_activated, noop_setup, noop_line, refused_line};
 ghost use Rattle.frame_exec.specs.Tables.{is_loaded};
 
@@ -17,6 +20,22 @@ pub fn runs_go_on()
     ensures start { (setup : Setup) → run_of setup [] ≡ beginning setup }
     ensures state { (setup : Setup) (frames : List Frame) (frame : Frame) → run_of setup (frames ++ frame ∷ []) ≡ after_frame setup (run_of setup frames) frame }
     ensures number { (setup : Setup) (frames : List Frame) → (run_of setup frames).number ≡ length frames }
+{}
+
+/// A run beside a crowd without frames, and at one frame more.
+pub fn courses_go_on()
+    ensures none { (setup : Setup) (subjects : List Simulated) → course_of setup subjects [] ≡ record { frames = []; subjects = subjects } }
+    ensures more { (setup : Setup) (subjects : List Simulated) (frames : List Frame) (frame : Frame) → course_of setup subjects (frames ++ frame ∷ []) ≡ gone_on setup (course_of setup subjects frames) frame }
+    ensures number { (setup : Setup) (subjects : List Simulated) (frames : List Frame) → length (course_of setup subjects frames).frames ≡ length frames }
+{}
+
+/// The subjects behind a frame are what its calls leave of those before it, and whatever frames follow, the subjects behind them are what a
+/// list of calls leaves: so by the laws of calls none that was deleted is in a later list.
+pub fn crowds_are_called()
+    ensures frame { (setup : Setup) (s : State) (frame : Frame) (subjects : List Simulated) → crowd_after setup s frame subjects
+        ≡ after_calls subjects (calls_in (resets_at setup (activated_at setup s frame) frame) (sent_at setup (activated_at setup s frame) frame)) }
+    ensures later { (setup : Setup) (subjects : List Simulated) (frames more : List Frame)
+        → (calls : List Call) × ((course_of setup subjects (frames ++ more)).subjects ≡ after_calls (course_of setup subjects frames).subjects calls) }
 {}
 
 /// Each kind of table that is known by a name has an application that loads it.

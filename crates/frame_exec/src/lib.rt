@@ -4,6 +4,7 @@
 mod activations;
 mod application;
 mod bench;
+mod crowds;
 mod cs_slot;
 mod cut;
 mod giving;

@@ -50,6 +50,7 @@ impl<S> Slot<S> {
     where
         S: Drop,
         ensures state { self.new.state.value ≡ state }
+        ensures out { self.new.out ≡ self.old.out }
     {
         *self.state = state;
     }

@@ -1,77 +1,23 @@
-use Rattle.std.proofs.Common.{ℕ, ◌+◌, List, ◌++◌, ◌∙◌, ap, subst, arith}
-use Rattle.frame_exec.specs.Tables.{Loaded}
-use Rattle.frame_exec.specs.Runs.{run_of}
-use Rattle.fsw_outside.specs.Written.{AppendsPart}
-use Rattle.fsw_outside.specs.TellingLaws.{told_map}
-use Rattle.frame_exec.proofs.Frames.{activated_image, lines_are, has_next, ready_next, can_land_still, upsets_mapped, time_fits}
+use Rattle.std.proofs.Common.{List, [], ◌∷◌, ◌++◌, subst}
+use Rattle.std.specs.Prelude.{OnOk, OnErr}
+use Rattle.fsw_outside.specs.Told.{WhereTold}
+use Rattle.fsw_outside.specs.Written.{WritesAll}
+use Rattle.packet_forms.specs.declared.name.Counter.{Counter}
+use Rattle.frame_exec.specs.Runs.{frame_lines}
+use Rattle.frame_exec.specs.Crowds.{with_counters}
+use Rattle.frame_exec.specs.Standing.{Stands, IsInterrupted}
 use Rattle.frame_exec.proofs.bench.Bench.frame.Goals as goal
 
-pub run-silent-requires-clause-time : goal.run-silent-requires-clause-time
-run-silent-requires-clause-time g c = λ _ _.
-    let s = c.requires.started in
-    let fits = time_fits c.args.self.now s.0 s.1 c.args.input.now s.2.epoch s.2.has s.3 in
-    omega (arith, fits)
+-- the frame's own counters are those that it was run on
+pub returns-clause-lines : goal.returns-clause-lines
+returns-clause-lines g c = λ setup frames stands.
+    subst (λ (counters : List Counter). WhereTold (g.O.Sink.held c.args.sink.now) (g.O.Sink.held c.frame_on.new.sink) (WritesAll c.frame_on.result (frame_lines setup frames (with_counters counters c.args.input.now)))) c.counters.ensures.value
+    (c.frame_on.ensures.lines setup frames stands)
 
-pub run-silent-requires-clause-upsets : goal.run-silent-requires-clause-upsets
-run-silent-requires-clause-upsets g c = λ _ _. let s = c.requires.started in upsets_mapped c.args.self.now s.0 s.1 c.args.input.now s.2.has s.3
+pub returns-clause-stands : goal.returns-clause-stands
+returns-clause-stands g c = λ setup frames stands.
+    subst (λ (counters : List Counter). OnOk c.frame_on.result (Stands c.frame_on.new.self setup (frames ++ with_counters counters c.args.input.now ∷ []))) c.counters.ensures.value (c.frame_on.ensures.stands setup frames stands)
 
-pub write-requires : goal.write-requires
-write-requires g c =
-    let s = c.requires.started in
-    let fits = time_fits c.args.self.now s.0 s.1 c.args.input.now s.2.epoch s.2.has s.3 in
-    let same = c.run-silent.ensures.run.number in
-    record { number = omega (arith, fits, same); none = c.run-silent.ensures.run.waits ∙ s.2.waits; silent = c.run-silent.ensures.silent }
-
-pub land-requires-clause-number : goal.land-requires-clause-number
-land-requires-clause-number g c =
-    let s = c.requires.started in
-    let fits = time_fits c.args.self.now s.0 s.1 c.args.input.now s.2.epoch s.2.has s.3 in
-    let number = c.in-Ok.ensures.same.number ∙ c.run-silent.ensures.run.number in
-    λ _ _. omega (arith, fits, number)
-
-pub land-requires-clause-can_land : goal.land-requires-clause-can_land
-land-requires-clause-can_land g c = λ _ _. can_land_still c.run-silent.new.self c.write.new.self c.in-Ok.ensures.same c.run-silent.ensures.can_land
-
-pub go_on-requires-clause-time : goal.go_on-requires-clause-time
-go_on-requires-clause-time g c =
-    let s = c.requires.started in
-    let fits = time_fits c.args.self.now s.0 s.1 c.args.input.now s.2.epoch s.2.has s.3 in
-    let same = c.in-Ok.ensures.same in
-    let epoch = c.land.ensures.epoch ∙ same.epoch ∙ c.run-silent.ensures.run.epoch in
-    let number = c.land.ensures.number ∙ ap (λ (n : ℕ). n + 1) (same.number ∙ c.run-silent.ensures.run.number) in
-    omega (arith, fits, epoch, number)
-
-pub go_on-requires-clause-ready : goal.go_on-requires-clause-ready
-go_on-requires-clause-ready g c =
-    let s = c.requires.started in
-    ready_next c.run-silent.new.self c.write.new.self c.land.new.self s.0 s.1 c.args.input.now c.in-Ok.ensures.same c.land.ensures c.run-silent.ensures.ready
-
-pub returns-in-Ok-clause-lines : goal.returns-in-Ok-clause-lines
-returns-in-Ok-clause-lines g c = λ setup frames stands.
-    let r = c.run-silent.ensures.runs setup (run_of setup frames) stands.epoch stands.files stands.has in
-    let lines = lines_are setup frames c.args.input.now c.run-silent.new.self.number _ c.run-silent.new.self.drops.items (c.run-silent.ensures.run.number ∙ stands.has.number) r.sent r.drops in
-    told_map c.in-Ok.ensures.content (λ before after written. written ∙ ap (λ (bytes : List ℕ). before ++ bytes) lines)
-
-pub returns-in-Ok-clause-stands : goal.returns-in-Ok-clause-stands
-returns-in-Ok-clause-stands g c = λ setup frames stands.
-    let run = c.run-silent.ensures.run in
-    let same = c.in-Ok.ensures.same in
-    let goes = c.go_on.ensures.anew.goes in
-    record {
-      epoch = goes.epoch ∙ c.land.ensures.epoch ∙ same.epoch ∙ run.epoch ∙ stands.epoch;
-      files = goes.files ∙ ap (λ (t : Loaded). t.files) (c.land.ensures.tables ∙ same.tables) ∙ run.files ∙ stands.files;
-      well = goes.failed ∙ c.land.ensures.failed ∙ same.failed ∙ run.failed ∙ stands.well;
-      waits = goes.waits ∙ c.land.ensures.waits ∙ c.in-Ok.ensures.handed;
-      has = has_next c.run-silent.new.self c.write.new.self c.land.new.self setup frames c.args.input.now same c.land.ensures c.go_on.new.self c.go_on.ensures.anew (run.epoch ∙ stands.epoch) (run.files ∙ stands.files) (run.number ∙ stands.has.number)
-          (c.run-silent.ensures.runs setup (run_of setup frames) stands.epoch stands.files stands.has);
-      ready = c.go_on.ensures.ready;
-    }
-
-pub returns-in-Err-clause-interrupted : goal.returns-in-Err-clause-interrupted
-returns-in-Err-clause-interrupted g c = λ setup frames stands. record { memory = c.in-Err.ensures.same.memory ∙ (c.run-silent.ensures.runs setup (run_of setup frames) stands.epoch stands.files stands.has).memory ∙ activated_image setup (run_of setup frames) c.args.input.now }
-
-pub returns-in-Err-clause-lines : goal.returns-in-Err-clause-lines
-returns-in-Err-clause-lines g c = λ setup frames stands.
-    let r = c.run-silent.ensures.runs setup (run_of setup frames) stands.epoch stands.files stands.has in
-    let lines = lines_are setup frames c.args.input.now c.run-silent.new.self.number _ c.run-silent.new.self.drops.items (c.run-silent.ensures.run.number ∙ stands.has.number) r.sent r.drops in
-    told_map c.in-Err.ensures.content (λ before after part. subst (λ (bytes : List ℕ). AppendsPart bytes before after) lines part)
+pub returns-clause-interrupted : goal.returns-clause-interrupted
+returns-clause-interrupted g c = λ setup frames stands.
+    subst (λ (counters : List Counter). OnErr c.frame_on.result (IsInterrupted c.frame_on.new.self setup frames (with_counters counters c.args.input.now))) c.counters.ensures.value (c.frame_on.ensures.interrupted setup frames stands)

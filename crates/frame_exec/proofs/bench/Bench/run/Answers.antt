@@ -9,10 +9,10 @@ use Rattle.bus_pipes.specs.Counted.{is_item_counted}
 use Rattle.bus_pipes.specs.declared.names.Out.{Out}
 use Rattle.packet_log.specs.Standing.{Stands as LogStands}
 use Rattle.scenario.specs.declared.frame.App.{App}
-use Rattle.packet_forms.specs.declared.name.Counter.{Counter}
 use Rattle.frame_exec.specs.Tables.{Loaded}
 use Rattle.frame_exec.specs.Runs.{activated_at}
-use Rattle.frame_exec.specs.Stages.{Takes, Steps}
+use Rattle.frame_exec.specs.Crowds.{with_counters}
+use Rattle.frame_exec.specs.Stages.{Takes}
 use Rattle.std.proofs.lemmas.List.Elements.{All-nil}
 use Rattle.frame_exec.proofs.Frames.{apps_kept, ready_by, regions_same}
 use Rattle.frame_exec.proofs.Naming.{activated_has, events_at}
@@ -65,15 +65,14 @@ returns-clause-run g c =
 
 pub returns-clause-runs : goal.returns-clause-runs
 returns-clause-runs g c = λ setup s epoch files has.
-    let frame = c.args.input.now in
+    let frame = with_counters c.args.counters.now c.args.input.now in
     let active = c.activate.ensures.activates in
     let now = c.activate.new.self in
     let t = activated_at setup s frame in
     let has_now = activated_has now setup s frame c.activations.result.now c.activations.ensures.value (active.has setup s files has) in
     let upset = c.upset.ensures in
-    let steps = subst (λ (counters : List Counter). Steps counters c.take.new.self c.step-none.new.self) c.counters.ensures.value c.step-none.ensures.steps in
     ran setup t frame c.upset.new.self c.take.new.self c.step-none.new.self (upset.run.epoch ∙ active.goes.epoch ∙ epoch) (ap (λ (l : Loaded). l.files) upset.run.tables ∙ active.goes.files ∙ files) (upset.run.number ∙ has_now.number)
     (ap (λ (l : Loaded). l.set) upset.run.tables ∙ has_now.tables) (upset.pipes ∙ has_now.pipes) (image_is t frame now.ram c.upset.new.self.ram c.upsets.result.now has_now.memory c.upsets.ensures.value upset.memory)
     (apps_kept now c.upset.new.self t upset.apps has_now.apps)
     (ap (λ (held : Held Out). held.items) upset.told ∙ events_at setup s frame now.activations.items c.activations.result.now c.activations.ensures.value (active.events setup s epoch files has))
-    (subst (λ (held : List App). Takes held c.upset.new.self c.take.new.self) c.held.ensures.value c.take.ensures) steps c.send.new.self (subst (LogStands t.made) (sym upset.log) has_now.made) c.send.ensures.sends
+    (subst (λ (held : List App). Takes held c.upset.new.self c.take.new.self) c.held.ensures.value c.take.ensures) c.step-none.ensures.steps c.send.new.self (subst (LogStands t.made) (sym upset.log) has_now.made) c.send.ensures.sends

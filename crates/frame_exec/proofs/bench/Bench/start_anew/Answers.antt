@@ -29,6 +29,8 @@ returns-clause-anew c =
     let time = old.epoch + old.number in
     record {
       goes = record { waits = refl; epoch = refl; number = refl; failed = refl; files = ap (λ (t : Loaded). t.files) c.load_again.ensures };
+      items = rw (c.begin.ensures.out, c.begin-2.ensures.out, c.begin-3.ensures.out, c.begin-4.ensures.out, c.begin-5.ensures.out) refl;
+      resets = refl;
       memory = refl;
       has = λ setup s epoch files has.
           let stood = subst (HsStands (hs_setup (active_in s)) s.hs) (sym c.deref.ensures) has.apps.hs.1 in
