@@ -48,21 +48,6 @@ send-requires-clause-few g c =
     let limit = c.activations.ensures.limit in
     omega (arith, told, many, named, limit)
 
-pub returns-clause-run : goal.returns-clause-run
-returns-clause-run g c =
-    let active = c.activate.ensures.activates.goes in
-    let upset = c.upset.ensures.run in
-    let take = c.take.ensures.run in
-    let step = c.step-none.ensures.steps.run in
-    let send = c.send.ensures.sends.run in
-    record {
-      waits = send.waits ∙ step.waits ∙ take.waits ∙ upset.waits ∙ active.waits;
-      epoch = send.epoch ∙ step.epoch ∙ take.epoch ∙ upset.epoch ∙ active.epoch;
-      number = send.number ∙ step.number ∙ take.number ∙ upset.number ∙ active.number;
-      failed = send.failed ∙ step.failed ∙ take.failed ∙ upset.failed ∙ active.failed;
-      files = ap (λ (t : Loaded). t.files) (send.tables ∙ step.tables ∙ take.tables ∙ upset.tables) ∙ active.files;
-    }
-
 pub returns-clause-runs : goal.returns-clause-runs
 returns-clause-runs g c = λ setup s epoch files has.
     let frame = with_counters c.args.counters.now c.args.input.now in
