@@ -1,5 +1,5 @@
 -- What matches ask for, and what the command's errors come to.
-use Rattle.std.proofs.Common.{◌≡◌, ◌≢◌, ◌⊎◌, inl, inr, ℕ, ◌<◌, ◌≤◌, true, false, List, [], ◌∷◌, length, codes, Option, Some, None, Result, Ok, Err, refl, sym, ◌∙◌, ap, ap₂, subst, arith}
+use Rattle.std.proofs.Common.{◌≡◌, ◌≢◌, ◌⊎◌, inl, inr, ℕ, ◌<◌, ◌≤◌, Bool, true, false, List, [], ◌∷◌, length, codes, Option, Some, None, Result, Ok, Err, refl, sym, ◌∙◌, ap, ap₂, subst, arith}
 use Rattle.std.specs.Prelude.{nat_le, unwrap_or, option_map, IfOk, MatchResult}
 use Rattle.std.proofs.lemmas.Bool.Decides.{nat_tests}
 use Rattle.clap.specs.Matches.{first_value, matched_of, raw_values}
@@ -12,11 +12,11 @@ use Rattle.clap.specs.declared.error.kind.ErrorKind.{ErrorKind}
 use Rattle.clap.specs.declared.error.kind.ErrorKind.TheVariants.{OutOfMemory}
 use Rattle.clap.proofs.WalkLemmas.{first_value-rows, raw_values-rows}
 use Rattle.fsw_outside.specs.declared.traits.NoMemory.{NoMemory}
-use Rattle.rehearsal.specs.Words.{Asked, workers_said, vigil_command, files_in, few_files, asked_with, asked_by, faults_at, matches_at, unless_faulty, accepted_words}
+use Rattle.rehearsal.specs.Words.{Asked, workers_said, is_said, vigil_command, files_in, few_files, asked_with, asked_by, faults_at, matches_at, unless_faulty, accepted_words}
 
 -- a scenario is given
 pub with_scenario : (f : Found) (given : Option (List ℕ)) → given ≡ first_value f (codes "scenario")
-    → asked_by (rows_of f) ≡ asked_with given (workers_said (first_of (codes "workers") (rows_of f))) (few_files (files_in (rows_of f)))
+    → asked_by (rows_of f) ≡ asked_with (is_said (first_of (codes "subjects") (rows_of f))) given (workers_said (first_of (codes "workers") (rows_of f))) (few_files (files_in (rows_of f)))
 unfolding asked_by
 with_scenario f given is = rw (is ∙ first_value-rows f (codes "scenario")) refl
 
@@ -24,6 +24,11 @@ with_scenario f given is = rw (is ∙ first_value-rows f (codes "scenario")) ref
 pub workers_are : (f : Found) (word : Option (List ℕ)) (said : Option ℕ) → word ≡ first_value f (codes "workers") → said ≡ workers_said word
     → workers_said (first_of (codes "workers") (rows_of f)) ≡ said
 workers_are f word said is value = ap workers_said (sym (is ∙ first_value-rows f (codes "workers"))) ∙ sym value
+
+-- whether the flag is given
+pub subjects_are : (f : Found) (word : Option (List ℕ)) (said : Bool) → word ≡ first_value f (codes "subjects") → said ≡ is_said word
+    → is_said (first_of (codes "subjects") (rows_of f)) ≡ said
+subjects_are f word said is value = ap is_said (sym (is ∙ first_value-rows f (codes "subjects"))) ∙ sym value
 
 -- the FILEs that were found
 pub files_are : (f : Found) (found : Option (List (List ℕ))) → found ≡ option_map raw_values (matched_of f (codes "files")) → files_in (rows_of f) ≡ unwrap_or found []

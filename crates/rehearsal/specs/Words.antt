@@ -1,5 +1,5 @@
 -- Which words the program accepts.
-use Rattle.std.specs.Prelude.{ℕ, List, [], ◌∷◌, ◌++◌, length, true, ◌&&◌, Option, Some, None, option_and_then, unwrap_or, nat_le, nat_eq, if◌then◌else◌, codes, drop}
+use Rattle.std.specs.Prelude.{ℕ, List, [], ◌∷◌, ◌++◌, length, Bool, true, false, ◌&&◌, Option, Some, None, option_and_then, unwrap_or, nat_le, nat_eq, bytes_eq, if◌then◌else◌, codes, drop}
 use Rattle.std.specs.List.{starts_with}
 use Rattle.clap.specs.Walk.{Row, Rule, first_of, all_of}
 use Rattle.clap.specs.Simple.{App, new_app, new_rule, with_rule, matches_of}
@@ -8,9 +8,11 @@ use Rattle.clap.specs.Kinds.{Kinds}
 use Rattle.clap.specs.declared.builder.action.ArgAction.TheVariants as actions
 use Rattle.scenario.specs.Words.{digits}
 
--- what accepted words ask for: a number of workers, the scenario's word, and the names of the FILEs
+-- what accepted words ask for: a number of workers, whether simulated applications give the execution counters, the scenario's word, and the
+-- names of the FILEs
 pub record Asked : Type 0 where
   pub workers : ℕ
+  pub subjects : Bool
   pub scenario : List ℕ
   pub files : List (List ℕ)
 
@@ -27,6 +29,11 @@ abbrev pub workers_said : Option (List ℕ) → Option ℕ
 workers_said None = Some 1
 workers_said (Some word) = workers_in word
 
+-- whether a flag is given, by its value
+abbrev pub is_said : Option (List ℕ) → Bool
+is_said None = false
+is_said (Some word) = bytes_eq word (codes "true")
+
 -- the number of the generated scenario that a word asks for: `drill:` and one to six decimal digits; any other word is a file's name
 unfoldable pub drill_in : List ℕ → Option ℕ
 drill_in word = if starts_with nat_eq word (codes "drill:") then digits 10 6 (drop 6 word) else None
@@ -34,6 +41,10 @@ drill_in word = if starts_with nat_eq word (codes "drill:") then digits 10 6 (dr
 -- the option with a value
 abbrev pub workers_rule : Rule
 workers_rule = record (new_rule (codes "workers")) { long = Some (codes "workers"); action = Some actions.Set }
+
+-- the flag
+abbrev pub subjects_rule : Rule
+subjects_rule = record (new_rule (codes "subjects")) { long = Some (codes "subjects"); action = Some actions.SetTrue }
 
 -- the first positional, which has to be there
 abbrev pub scenario_rule : Rule
@@ -43,9 +54,13 @@ scenario_rule = record (new_rule (codes "scenario")) { required = true }
 abbrev pub files_rule : Rule
 files_rule = record (new_rule (codes "files")) { action = Some actions.Append }
 
+-- the simple command that has the option and the flag alone
+abbrev pub option_command : App
+option_command = with_rule (with_rule (new_app (codes "vigil")) workers_rule) subjects_rule
+
 -- the simple command that reads the words
 abbrev pub vigil_command : App
-vigil_command = with_rule (with_rule (with_rule (new_app (codes "vigil")) workers_rule) scenario_rule) files_rule
+vigil_command = with_rule (with_rule option_command scenario_rule) files_rule
 
 -- the values of the FILEs
 abbrev pub files_in : List Row → List (List ℕ)
@@ -55,16 +70,17 @@ files_in rows = unwrap_or (all_of (codes "files") rows) []
 abbrev pub few_files : List (List ℕ) → Option (List (List ℕ))
 few_files files = if nat_le (length files) 100 then Some files else None
 
--- what a scenario, a number of workers and FILEs ask for
-abbrev pub asked_with : Option (List ℕ) → Option ℕ → Option (List (List ℕ)) → Option Asked
-asked_with None workers files = None
-asked_with (Some scenario) None files = None
-asked_with (Some scenario) (Some workers) None = None
-asked_with (Some scenario) (Some workers) (Some files) = Some (record { workers = workers; scenario = scenario; files = files })
+-- what a flag, a scenario, a number of workers and FILEs ask for
+abbrev pub asked_with : Bool → Option (List ℕ) → Option ℕ → Option (List (List ℕ)) → Option Asked
+asked_with subjects None workers files = None
+asked_with subjects (Some scenario) None files = None
+asked_with subjects (Some scenario) (Some workers) None = None
+asked_with subjects (Some scenario) (Some workers) (Some files) = Some (record { workers = workers; subjects = subjects; scenario = scenario; files = files })
 
--- what the matches of the three ask for
+-- what the matches of the four ask for
 unfoldable pub asked_by : List Row → Option Asked
-asked_by rows = asked_with (first_of (codes "scenario") rows) (workers_said (first_of (codes "workers") rows)) (few_files (files_in rows))
+asked_by rows =
+    asked_with (is_said (first_of (codes "subjects") rows)) (first_of (codes "scenario") rows) (workers_said (first_of (codes "workers") rows)) (few_files (files_in rows))
 
 -- what the command finds at the words, where it is handed the program's name before them: the kinds of error, and its matches
 unfoldable pub faults_at : List (List ℕ) → Kinds

@@ -1,6 +1,6 @@
 //! Laws of rehearsals: each function answers nothing, and its contract is the law.
 
-ghost use Rattle.std.specs.Prelude.{◌≡◌, ◌≢◌, ℕ, ◌+◌, ◌<◌, List, [], ◌∷◌, Option, Some, None, IsSome, codes};
+ghost use Rattle.std.specs.Prelude.{◌≡◌, ◌≢◌, ℕ, ◌+◌, ◌<◌, true, false, List, [], ◌∷◌, Option, Some, None, IsSome, codes};
 ghost use Rattle.fsw_outside.specs.Files.{Content};
 ghost use Rattle.scenario.specs.Texts.{Text, Ended, Open, reading};
 ghost use Rattle.frame_exec.specs.Tables.{tables_fault};
@@ -90,19 +90,28 @@ pub fn drill_is_decided()
         → seen.held_now ≡ Some new → GivesReads files (reading (drill_of k)) → wrote_now ≡ wrote_before → report.status ≡ statuses.Done }
 {}
 
-/// What some words ask for, computed from the definitions: the option anywhere before `--`, names behind it, the words that
-/// are refused.
+/// What some words ask for, computed from the definitions: the option and the flag anywhere before `--`, names behind
+/// it, the words that are refused.
 pub fn worked_words()
-    ensures plain { accepted_words (codes "s" ∷ []) ≡ Some (record { workers = 1; scenario = codes "s"; files = [] }) }
-    ensures by_hand { accepted_words (codes "--workers" ∷ codes "3" ∷ codes "s" ∷ codes "a" ∷ codes "b" ∷ []) ≡ Some (record { workers = 3; scenario = codes "s"; files = codes "a" ∷ codes "b" ∷ [] }) }
-    ensures equals { accepted_words (codes "--workers=3" ∷ codes "s" ∷ []) ≡ Some (record { workers = 3; scenario = codes "s"; files = [] }) }
-    ensures behind { accepted_words (codes "s" ∷ codes "--workers" ∷ codes "3" ∷ []) ≡ Some (record { workers = 3; scenario = codes "s"; files = [] }) }
-    ensures between { accepted_words (codes "s" ∷ codes "f1" ∷ codes "--workers" ∷ codes "3" ∷ codes "f2" ∷ []) ≡ Some (record { workers = 3; scenario = codes "s"; files = codes "f1" ∷ codes "f2" ∷ [] }) }
-    ensures dashes { accepted_words (codes "--" ∷ codes "--workers" ∷ codes "-x" ∷ []) ≡ Some (record { workers = 1; scenario = codes "--workers"; files = codes "-x" ∷ [] }) }
-    ensures dash { accepted_words (codes "-" ∷ [] ∷ []) ≡ Some (record { workers = 1; scenario = codes "-"; files = [] ∷ [] }) }
-    ensures one { accepted_words (codes "--workers" ∷ codes "01" ∷ codes "s" ∷ []) ≡ Some (record { workers = 1; scenario = codes "s"; files = [] }) }
-    ensures most { accepted_words (codes "--workers" ∷ codes "16" ∷ codes "s" ∷ []) ≡ Some (record { workers = 16; scenario = codes "s"; files = [] }) }
-    ensures drill_names { accepted_words (codes "drill:" ∷ codes "drill:1234567" ∷ []) ≡ Some (record { workers = 1; scenario = codes "drill:"; files = codes "drill:1234567" ∷ [] }) }
+    ensures plain { accepted_words (codes "s" ∷ []) ≡ Some (record { workers = 1; subjects = false; scenario = codes "s"; files = [] }) }
+    ensures by_hand { accepted_words (codes "--workers" ∷ codes "3" ∷ codes "s" ∷ codes "a" ∷ codes "b" ∷ []) ≡ Some (record { workers = 3; subjects = false; scenario = codes "s"; files = codes "a" ∷ codes "b" ∷ [] }) }
+    ensures equals { accepted_words (codes "--workers=3" ∷ codes "s" ∷ []) ≡ Some (record { workers = 3; subjects = false; scenario = codes "s"; files = [] }) }
+    ensures behind { accepted_words (codes "s" ∷ codes "--workers" ∷ codes "3" ∷ []) ≡ Some (record { workers = 3; subjects = false; scenario = codes "s"; files = [] }) }
+    ensures between { accepted_words (codes "s" ∷ codes "f1" ∷ codes "--workers" ∷ codes "3" ∷ codes "f2" ∷ []) ≡ Some (record { workers = 3; subjects = false; scenario = codes "s"; files = codes "f1" ∷ codes "f2" ∷ [] }) }
+    ensures dashes { accepted_words (codes "--" ∷ codes "--workers" ∷ codes "-x" ∷ []) ≡ Some (record { workers = 1; subjects = false; scenario = codes "--workers"; files = codes "-x" ∷ [] }) }
+    ensures dash { accepted_words (codes "-" ∷ [] ∷ []) ≡ Some (record { workers = 1; subjects = false; scenario = codes "-"; files = [] ∷ [] }) }
+    ensures one { accepted_words (codes "--workers" ∷ codes "01" ∷ codes "s" ∷ []) ≡ Some (record { workers = 1; subjects = false; scenario = codes "s"; files = [] }) }
+    ensures most { accepted_words (codes "--workers" ∷ codes "16" ∷ codes "s" ∷ []) ≡ Some (record { workers = 16; subjects = false; scenario = codes "s"; files = [] }) }
+    ensures drill_names { accepted_words (codes "drill:" ∷ codes "drill:1234567" ∷ []) ≡ Some (record { workers = 1; subjects = false; scenario = codes "drill:"; files = codes "drill:1234567" ∷ [] }) }
+    ensures flag { accepted_words (codes "--subjects" ∷ codes "s" ∷ []) ≡ Some (record { workers = 1; subjects = true; scenario = codes "s"; files = [] }) }
+    ensures flag_behind { accepted_words (codes "--workers" ∷ codes "3" ∷ codes "s" ∷ codes "a" ∷ codes "--subjects" ∷ codes "b" ∷ []) ≡ Some (record { workers = 3; subjects = true; scenario = codes "s"; files = codes "a" ∷ codes "b" ∷ [] }) }
+    ensures flag_drill { accepted_words (codes "drill:7" ∷ codes "--subjects" ∷ []) ≡ Some (record { workers = 1; subjects = true; scenario = codes "drill:7"; files = [] }) }
+    ensures flag_dashes { accepted_words (codes "--" ∷ codes "--subjects" ∷ codes "--subjects" ∷ []) ≡ Some (record { workers = 1; subjects = false; scenario = codes "--subjects"; files = codes "--subjects" ∷ [] }) }
+    ensures flag_dashed { accepted_words (codes "--subjects" ∷ codes "--" ∷ codes "--subjects" ∷ []) ≡ Some (record { workers = 1; subjects = true; scenario = codes "--subjects"; files = [] }) }
+    ensures flag_alone { accepted_words (codes "--subjects" ∷ []) ≡ None }
+    ensures flag_twice { accepted_words (codes "--subjects" ∷ codes "s" ∷ codes "--subjects" ∷ []) ≡ None }
+    ensures flag_value { accepted_words (codes "--subjects=true" ∷ codes "s" ∷ []) ≡ None }
+    ensures flag_abbreviated { accepted_words (codes "--subject" ∷ codes "s" ∷ []) ≡ None }
     ensures none { accepted_words ([]) ≡ None }
     ensures zero { accepted_words (codes "--workers" ∷ codes "0" ∷ codes "s" ∷ []) ≡ None }
     ensures many { accepted_words (codes "--workers" ∷ codes "17" ∷ codes "s" ∷ []) ≡ None }
@@ -115,7 +124,7 @@ pub fn worked_words()
     ensures help { accepted_words (codes "--help" ∷ []) ≡ None }
     ensures short_help { accepted_words (codes "s" ∷ codes "-h" ∷ []) ≡ None }
     ensures version { accepted_words (codes "--version" ∷ []) ≡ None }
-    ensures drill { accepted_words (codes "drill:000007" ∷ []) ≡ Some (record { workers = 1; scenario = codes "drill:000007"; files = [] }) }
+    ensures drill { accepted_words (codes "drill:000007" ∷ []) ≡ Some (record { workers = 1; subjects = false; scenario = codes "drill:000007"; files = [] }) }
     ensures drilled { drill_in (codes "drill:7") ≡ Some 7 }
     ensures drilled_zeros { drill_in (codes "drill:000007") ≡ Some 7 }
     ensures drilled_least { drill_in (codes "drill:0") ≡ Some 0 }

@@ -5,7 +5,7 @@ ghost use Rattle.clap.specs.Matches.{found_of};
 ghost use Rattle.clap.specs.Values.{kind_of};
 ghost use Rattle.clap.specs.Walk.{rows_of};
 ghost use Rattle.clap.specs.Simple.{app_of};
-ghost use Rattle.rehearsal.specs.Words.{workers_in, workers_said, drill_in, vigil_command, files_in, few_files, asked_by, accepted_words};
+ghost use Rattle.rehearsal.specs.Words.{workers_in, workers_said, is_said, drill_in, option_command, vigil_command, files_in, few_files, asked_by, accepted_words};
 
 use clap::error::ErrorKind;
 use clap::{Arg, ArgAction, ArgMatches, Command, Error};
@@ -69,11 +69,13 @@ impl Words {
 /// How many FILEs there may be.
 const MOST_FILES: usize = 100;
 
-/// What accepted words ask for: how many workers, the scenario's word, which is `drill:K` or the name of its file, and the
-/// names of the FILEs, of which there are at most 100. It is seen as what the words ask for.
+/// What accepted words ask for: how many workers, whether simulated applications give the execution counters, the scenario's
+/// word, which is `drill:K` or the name of its file, and the names of the FILEs, of which there are at most 100. It is seen as
+/// what the words ask for.
 #[derive(Drop)]
 pub struct Plan {
     workers: u32,
+    subjects: bool,
     scenario: String,
     files: Words,
 }
@@ -84,7 +86,7 @@ impl Model for Plan {
 
     ghost Value = { Asked };
 
-    ghost view = { λ p. record { workers = p.workers; scenario = string_bytes p.scenario; files = p.files } };
+    ghost view = { λ p. record { workers = p.workers; subjects = p.subjects; scenario = string_bytes p.scenario; files = p.files } };
 
     ghost invariant = { λ p. (1 ≤ p.workers) × (p.workers ≤ 16) × (length p.files ≤ 100) };
 }
@@ -96,6 +98,13 @@ impl Plan {
         ensures range { (1 ≤ result) × (result ≤ 16) }
     {
         self.workers
+    }
+
+    /// Whether simulated applications give the execution counters.
+    pub fn subjects(&self) -> bool
+        ensures { result ≡ self.now.subjects }
+    {
+        self.subjects
     }
 
     /// The scenario's word: the name of its file, unless it is generated.
@@ -137,19 +146,26 @@ pub fn accept(alloc: Global, words: &Words) -> Result<Option<Plan>, NoMemory>
     }
 }
 
-/// The simple command that reads the words: the option `workers`, SCENARIO and the FILEs.
-fn vigil_command<'a>(alloc: Global) -> Result<Command<'a>, AllocError>
-    ensures { IfOk result (λ command. app_of command ≡ vigil_command) }
+/// A simple command with the option `workers` and the flag `subjects`.
+fn option_command<'a>(alloc: Global) -> Result<Command<'a>, AllocError>
+    ensures { IfOk result (λ command. app_of command ≡ option_command) }
 {
     let workers = Arg::new(alloc, "workers")
         .long("workers")
         .action(ArgAction::Set);
+    let subjects = Arg::new(alloc, "subjects")
+        .long("subjects")
+        .action(ArgAction::SetTrue);
+    Command::new(alloc, NAME).arg(workers)?.arg(subjects)
+}
+
+/// The simple command that reads the words: the option and the flag, SCENARIO and the FILEs.
+fn vigil_command<'a>(alloc: Global) -> Result<Command<'a>, AllocError>
+    ensures { IfOk result (λ command. app_of command ≡ vigil_command) }
+{
     let scenario = Arg::new(alloc, "scenario").required(true);
     let files = Arg::new(alloc, "files").action(ArgAction::Append);
-    Command::new(alloc, NAME)
-        .arg(workers)?
-        .arg(scenario)?
-        .arg(files)
+    option_command(alloc)?.arg(scenario)?.arg(files)
 }
 
 /// The program's name and the words behind it.
@@ -184,6 +200,7 @@ fn plan_of(alloc: Global, matches: &ArgMatches<'_>) -> Result<Option<Plan>, NoMe
     let Some(workers) = workers_said(matches.get_str("workers")) else {
         return Ok(None);
     };
+    let subjects = is_said(matches.get_str("subjects"));
     let files = files_of(alloc, matches)?;
     let Some(files) = files else {
         return Ok(None);
@@ -191,6 +208,7 @@ fn plan_of(alloc: Global, matches: &ArgMatches<'_>) -> Result<Option<Plan>, NoMe
     let scenario = String::from_str(alloc, scenario)?;
     Ok(Some(Plan {
         workers,
+        subjects,
         scenario,
         files,
     }))
@@ -220,6 +238,16 @@ fn workers_said(word: Option<&str>) -> Option<u32>
     match word {
         None => Some(1),
         Some(word) => workers_in(word),
+    }
+}
+
+/// Whether a flag is given, by its value.
+fn is_said(word: Option<&str>) -> bool
+    ensures { result ≡ is_said (option_map (λ w. w.now) word.entry) }
+{
+    match word {
+        None => false,
+        Some(word) => word.as_bytes() == b"true".as_slice(),
     }
 }
 
