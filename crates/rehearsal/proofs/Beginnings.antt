@@ -6,6 +6,7 @@ use Rattle.memory_window.specs.declared.regions.Region.{Region}
 use Rattle.scenario.specs.declared.reader.Reader.{Reader}
 use Rattle.scenario.specs.Texts.{Text, Given, Head, Open, reading, read_bytes, read}
 use Rattle.scenario.specs.Standing.{Stands}
+use Rattle.subjects.specs.Plans.{Simulated}
 use Rattle.rehearsal.specs.Fed.{Fed, nothing_read}
 use Rattle.rehearsal.specs.Text.{Holds, IsRead}
 use Rattle.rehearsal.specs.declared.text.Next.{Next}
@@ -43,9 +44,9 @@ unfolding frames_of
 no_frames got none = rw none refl
 
 -- and no log is written
-pub no_log : (files : List (List ℕ)) (got : List Given) (held : List ℕ) → got ≡ [] → held ≡ held ++ log_in files got
+pub no_log : (files : List (List ℕ)) (crowd : Option (List Simulated)) (got : List Given) (held : List ℕ) → got ≡ [] → held ≡ held ++ log_in files crowd got
 unfolding frames_of
-no_log files got held none = rw none (sym (ap (λ (log : List ℕ). held ++ log) (log_in_none files [] refl) ∙ append-nil held))
+no_log files crowd got held none = rw none (sym (ap (λ (log : List ℕ). held ++ log) (log_in_none files crowd [] refl) ∙ append-nil held))
 
 -- what the header says, once it was given
 pub header_setup : (files : List (List ℕ)) (item : Given) (epoch : ℕ) (regions : List Region) (rest : List Given) → item ∷ [] ≡ Head epoch regions ∷ rest → setup_of files (item ∷ []) ≡ record { epoch = epoch; regions = regions; files = files }
@@ -68,9 +69,9 @@ header_refuses_whole files item rest more all whole first grown =
     ap (refused_read files) (parts_whole (item ∷ []) rest more all whole first grown) ∙ refused_append files (item ∷ []) (rest ++ more) some
 
 -- the map refuses the read of an entry
-pub read_refused : (files : List (List ℕ)) (report : Report) (whole : Text) (file entry : ℕ) (held : List ℕ) → report ≡ record { status = statuses.FileRefused; file = file; line = entry; reason = 10; frames = 0 }
-    → refused_read files (reading whole).items ≡ Some (file, entry) → Outcome report files whole held held
-read_refused files report whole file entry held is refused = rw is (record { is = refused; reason = refl; frames = refl }, refl)
+pub read_refused : (files : List (List ℕ)) (crowd : Option (List Simulated)) (report : Report) (whole : Text) (file entry : ℕ) (held : List ℕ) → report ≡ record { status = statuses.FileRefused; file = file; line = entry; reason = 10; frames = 0 }
+    → refused_read files (reading whole).items ≡ Some (file, entry) → Outcome report files crowd whole held held
+read_refused files crowd report whole file entry held is refused = rw is (record { is = refused; reason = refl; frames = refl }, refl)
 
 -- no frame is given with it
 pub header_alone : (item : Given) (epoch : ℕ) (regions : List Region) (rest : List Given) → item ∷ [] ≡ Head epoch regions ∷ rest → frames_of (item ∷ []) ≡ []
@@ -80,8 +81,8 @@ header_alone item epoch regions rest is =
     rw same refl
 
 -- memory ran out before the first frame
-pub out_of_memory : (files : List (List ℕ)) (report : Report) (whole : Text) (held : List ℕ) → report ≡ record { status = statuses.NoMemory; file = 0; line = 0; reason = 0; frames = 0 } → Outcome report files whole held held
-out_of_memory files report whole held is = rw is (record { file = refl; line = refl; reason = refl }, refl, refl)
+pub out_of_memory : (files : List (List ℕ)) (crowd : Option (List Simulated)) (report : Report) (whole : Text) (held : List ℕ) → report ≡ record { status = statuses.NoMemory; file = 0; line = 0; reason = 0; frames = 0 } → Outcome report files crowd whole held held
+out_of_memory files crowd report whole held is = rw is (record { file = refl; line = refl; reason = refl }, refl, refl)
 
 -- a text of which nothing was read gives nothing, and is open
 pub nothing_reads : reading unread ≡ record { items = []; ending = Open; stops = [] }
@@ -125,10 +126,10 @@ some_faulty [] fault is = let wrong : ⊥ = cc in absurd wrong
 some_faulty (file ∷ files) fault is = omega arith
 
 -- a bench isn't opened
-pub not_opened : (files : List (List ℕ)) (report : Report) (whole : Text) (fault : OpenFault) (refused : Option (ℕ × ℕ)) (held : List ℕ) → report ≡ fault_report fault → Opens {B = Bench} refused (Err fault)
-    → refused_read files (reading whole).items ≡ refused → Outcome report files whole held held
-not_opened files report whole (faults.Region file entry) refused held is opens all = read_refused files report whole file entry held is (all ∙ opens)
-not_opened files report whole faults.NoMemory refused held is opens all = out_of_memory files report whole held is
+pub not_opened : (files : List (List ℕ)) (crowd : Option (List Simulated)) (report : Report) (whole : Text) (fault : OpenFault) (refused : Option (ℕ × ℕ)) (held : List ℕ) → report ≡ fault_report fault → Opens {B = Bench} refused (Err fault)
+    → refused_read files (reading whole).items ≡ refused → Outcome report files crowd whole held held
+not_opened files crowd report whole (faults.Region file entry) refused held is opens all = read_refused files crowd report whole file entry held is (all ∙ opens)
+not_opened files crowd report whole faults.NoMemory refused held is opens all = out_of_memory files crowd report whole held is
 
 -- at most a piece was read past the header's end
 pub not_opened_ahead : (report : Report) (whole : Text) (fault : OpenFault) → report ≡ fault_report fault → length whole.bytes ≤ slice_index (reading whole).stops 0 + 4096 → ReadsAhead report whole

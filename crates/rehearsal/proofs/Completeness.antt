@@ -10,6 +10,7 @@ use Rattle.fsw_outside.specs.TellingLaws.{told_map}
 use Rattle.scenario.specs.declared.item.Item.TheVariants as answers
 use Rattle.scenario.specs.Texts.{Text, Reading, Ending, Ended, Open, reading}
 use Rattle.scenario.specs.Answers.{answer_at_end}
+use Rattle.subjects.specs.Plans.{Simulated}
 use Rattle.rehearsal.specs.declared.report.Status.{Status}
 use Rattle.rehearsal.specs.declared.report.Status.TheVariants as statuses
 use Rattle.rehearsal.specs.declared.report.Report.{Report}
@@ -70,20 +71,20 @@ refused_given files before faults bytes rest text file entry is refused given =
     cc
 
 -- what each status comes to
-by_status : (files : List (List ℕ)) (status : Status) (report : Report) (before faults : ℕ) (bytes rest : List ℕ) (text : Text) (old new : List ℕ) → report.status ≡ status → IsText true before faults (Some bytes) rest text
+by_status : (files : List (List ℕ)) (crowd : Option (List Simulated)) (status : Status) (report : Report) (before faults : ℕ) (bytes rest : List ℕ) (text : Text) (old new : List ℕ) → report.status ≡ status → IsText true before faults (Some bytes) rest text
     → (reading (record { bytes = bytes; closed = true })).ending ≡ Ended → GivesReads files (reading (record { bytes = bytes; closed = true })) → (status ≡ statuses.ReadFailed → ⊥) → (status ≡ statuses.WriteFailed → ⊥)
-    → OutcomeOf status report files (reading text) old new → Completes report files (record { bytes = bytes; closed = true }) old new
-by_status files statuses.Done report before faults bytes rest text old new same is ended given read write outcome =
+    → OutcomeOf status report files crowd (reading text) old new → Completes report files crowd (record { bytes = bytes; closed = true }) old new
+by_status files crowd statuses.Done report before faults bytes rest text old new same is ended given read write outcome =
     let not_open : (reading text).ending ≡ Open → ⊥ = λ open_now. cc (outcome.2) in
     inl (same, rw (file_reads before faults bytes rest text is not_open) outcome.3)
-by_status files statuses.WordsRefused report before faults bytes rest text old new same is ended given read write outcome = absurd outcome
-by_status files statuses.FileRefused report before faults bytes rest text old new same is ended given read write outcome = absurd (refused_given files before faults bytes rest text report.file report.line is outcome.0.is given)
-by_status files statuses.ScenarioRefused report before faults bytes rest text old new same is ended given read write outcome =
+by_status files crowd statuses.WordsRefused report before faults bytes rest text old new same is ended given read write outcome = absurd outcome
+by_status files crowd statuses.FileRefused report before faults bytes rest text old new same is ended given read write outcome = absurd (refused_given files before faults bytes rest text report.file report.line is outcome.0.is given)
+by_status files crowd statuses.ScenarioRefused report before faults bytes rest text old new same is ended given read write outcome =
     let not_open = not_open_at_bad (reading text).ending report.line report.reason (sym outcome.2) in
     absurd (ended_not_bad (reading text).ending report.line report.reason (ap (λ (r : Reading). r.ending) (sym (file_reads before faults bytes rest text is not_open)) ∙ ended) outcome.2)
-by_status files statuses.ReadFailed report before faults bytes rest text old new same is ended given read write outcome = absurd (read refl)
-by_status files statuses.WriteFailed report before faults bytes rest text old new same is ended given read write outcome = absurd (write refl)
-by_status files statuses.NoMemory report before faults bytes rest text old new same is ended given read write outcome = inr (same, outcome.1, outcome.2)
+by_status files crowd statuses.ReadFailed report before faults bytes rest text old new same is ended given read write outcome = absurd (read refl)
+by_status files crowd statuses.WriteFailed report before faults bytes rest text old new same is ended given read write outcome = absurd (write refl)
+by_status files crowd statuses.NoMemory report before faults bytes rest text old new same is ended given read write outcome = inr (same, outcome.1, outcome.2)
 
 -- no fault came, so none was told
 pub not_risen : {A : Type 0} (told : Option A) (after : A) (before now : ℕ) → told ≡ Some after → now ≡ before → HasRisen told before now → ⊥
@@ -92,26 +93,26 @@ not_risen told after before now tells same risen =
     omega (arith, rose, same)
 
 -- an outcome without faults of a file that is open is complete
-pub completes : (files : List (List ℕ)) (report : Report) (is_open : Bool) (before faults : ℕ) (bytes rest : List ℕ) (file : Option (List ℕ)) (text : Text) (old new : List ℕ) → file ≡ Some bytes
+pub completes : (files : List (List ℕ)) (crowd : Option (List Simulated)) (report : Report) (is_open : Bool) (before faults : ℕ) (bytes rest : List ℕ) (file : Option (List ℕ)) (text : Text) (old new : List ℕ) → file ≡ Some bytes
     → IsText is_open before faults file rest text → (reading (record { bytes = bytes; closed = true })).ending ≡ Ended → GivesReads files (reading (record { bytes = bytes; closed = true })) → (report.status ≡ statuses.ReadFailed → ⊥) → ((report.status ≡ statuses.ReadFailed → ⊥) → (report.status ≡ statuses.NoMemory → ⊥) → IsTrue is_open)
-    → (report.status ≡ statuses.WriteFailed → ⊥) → Outcome report files text old new → Completes report files (record { bytes = bytes; closed = true }) old new
-completes files report is_open before faults bytes rest file text old new same is ended given read opened write outcome = by_memory report.status refl
+    → (report.status ≡ statuses.WriteFailed → ⊥) → Outcome report files crowd text old new → Completes report files crowd (record { bytes = bytes; closed = true }) old new
+completes files crowd report is_open before faults bytes rest file text old new same is ended given read opened write outcome = by_memory report.status refl
   where
-    by_open : (report.status ≡ statuses.NoMemory → ⊥) → Completes report files (record { bytes = bytes; closed = true }) old new
+    by_open : (report.status ≡ statuses.NoMemory → ⊥) → Completes report files crowd (record { bytes = bytes; closed = true }) old new
     by_open some =
         let is_true : is_open ≡ true = opened read some in
         let at_bytes = subst (λ (f : Option (List ℕ)). IsText is_open before faults f rest text) same is in
         let at_open = subst (λ (b : Bool). IsText b before faults (Some bytes) rest text) is_true at_bytes in
-        by_status files report.status report before faults bytes rest text old new refl at_open ended given read write outcome
+        by_status files crowd report.status report before faults bytes rest text old new refl at_open ended given read write outcome
 
-    by_memory : (status : Status) → report.status ≡ status → Completes report files (record { bytes = bytes; closed = true }) old new
+    by_memory : (status : Status) → report.status ≡ status → Completes report files crowd (record { bytes = bytes; closed = true }) old new
     by_memory statuses.Done at = by_open (λ out. cc)
     by_memory statuses.WordsRefused at = by_open (λ out. cc)
     by_memory statuses.FileRefused at = by_open (λ out. cc)
     by_memory statuses.ScenarioRefused at = by_open (λ out. cc)
     by_memory statuses.ReadFailed at = by_open (λ out. cc)
     by_memory statuses.WriteFailed at = by_open (λ out. cc)
-    by_memory statuses.NoMemory at = let none = subst (λ (s : Status). OutcomeOf s report files (reading text) old new) at outcome in inr (at, none.1, none.2)
+    by_memory statuses.NoMemory at = let none = subst (λ (s : Status). OutcomeOf s report files crowd (reading text) old new) at outcome in inr (at, none.1, none.2)
 
 -- the same lists of contents
 same_contents : (xs ys : List (List ℕ)) → map Some xs ≡ map Some ys → xs ≡ ys
@@ -164,26 +165,26 @@ ends_complete statuses.WriteFailed report stored names files count is_open rest 
 ends_complete statuses.NoMemory report stored names files count is_open rest same ends taken read = (same, ends.frames)
 
 -- A rehearsal without faults of files that can be taken and of a scenario that ends well is complete.
-pub rehearses_complete : (report : Report) (asked : Asked) (seen : Seen) (start after : Content) (files : List (List ℕ)) (bytes : List ℕ)
-    → Rehearses report asked seen start after → drill_in asked.scenario ≡ None → AreTaken start.files asked.files files → file_named start.files asked.scenario ≡ Some bytes
+pub rehearses_complete : (report : Report) (asked : Asked) (crowd : Option (List Simulated)) (seen : Seen) (start after : Content) (files : List (List ℕ)) (bytes : List ℕ)
+    → Rehearses report asked crowd seen start after → drill_in asked.scenario ≡ None → AreTaken start.files asked.files files → file_named start.files asked.scenario ≡ Some bytes
     → tables_fault files ≡ None → (reading (record { bytes = bytes; closed = true })).ending ≡ Ended → GivesReads files (reading (record { bytes = bytes; closed = true })) → (report.status ≡ statuses.ReadFailed → ⊥)
     → ((report.status ≡ statuses.ReadFailed → ⊥) → (report.status ≡ statuses.NoMemory → ⊥) → IsTrue seen.is_open) → ((new : List ℕ) → seen.held_now ≡ Some new → report.status ≡ statuses.WriteFailed → ⊥)
-    → WhereTold seen.held_before seen.held_now (Completes report files (record { bytes = bytes; closed = true }))
-rehearses_complete report asked seen start after files bytes (inl ends) plain taken file loaded ended given read opened write =
+    → WhereTold seen.held_before seen.held_now (Completes report files crowd (record { bytes = bytes; closed = true }))
+rehearses_complete report asked crowd seen start after files bytes (inl ends) plain taken file loaded ended given read opened write =
     let out = ends_complete report.status report start.files asked.files files ends.count seen.is_open after.rest refl ends.ends taken read in
     told_map ends.unwritten (λ old new unwritten. inr (out.0, out.1, unwritten))
-rehearses_complete report asked seen start after files bytes (inr (inl ends)) plain taken file loaded ended given read opened write =
+rehearses_complete report asked crowd seen start after files bytes (inr (inl ends)) plain taken file loaded ended given read opened write =
     let same : ends.files ≡ files = same_named start.files asked.files ends.files files ends.taken.named taken.named in
     let none : tables_fault ends.files ≡ None = ap tables_fault same ∙ loaded in
     let is = ends.refuses.is in
     let wrong : ⊥ = cc in
     absurd wrong
-rehearses_complete report asked seen start after files bytes (inr (inr runs)) plain taken file loaded ended given read opened write = λ new tells.
-    let reads : ReadsScenario report asked seen start after = subst (λ (d : Option ℕ). RunsBy d report asked seen start after) plain runs in
+rehearses_complete report asked crowd seen start after files bytes (inr (inr runs)) plain taken file loaded ended given read opened write = λ new tells.
+    let reads : ReadsScenario report asked crowd seen start after = subst (λ (d : Option ℕ). RunsBy d report asked crowd seen start after) plain runs in
     let inner = reads.outcome new tells in
     let same : reads.files ≡ files = same_named start.files asked.files reads.files files reads.taken.named taken.named in (
       inner.0,
       inner.1,
-      subst (λ (fs : List (List ℕ)). Completes report fs (record { bytes = bytes; closed = true }) inner.0 new) same
-          (completes reads.files report seen.is_open seen.faults_before seen.faults_now bytes after.rest (file_named start.files asked.scenario) reads.text inner.0 new file reads.is_text ended (subst (λ (fs : List (List ℕ)). GivesReads fs (reading (record { bytes = bytes; closed = true }))) (sym same) given) read opened (write new tells) inner.2),
+      subst (λ (fs : List (List ℕ)). Completes report fs crowd (record { bytes = bytes; closed = true }) inner.0 new) same
+          (completes reads.files crowd report seen.is_open seen.faults_before seen.faults_now bytes after.rest (file_named start.files asked.scenario) reads.text inner.0 new file reads.is_text ended (subst (λ (fs : List (List ℕ)). GivesReads fs (reading (record { bytes = bytes; closed = true }))) (sym same) given) read opened (write new tells) inner.2),
     )

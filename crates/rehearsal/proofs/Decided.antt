@@ -5,6 +5,7 @@ use Rattle.std.proofs.lemmas.List.{take-take, take-append-drop, append_cancel_ri
 use Rattle.fsw_outside.specs.Files.{Stored, Content, file_named}
 use Rattle.scenario.specs.declared.item.Item.TheVariants as answers
 use Rattle.scenario.specs.Texts.{Text, Reading, Ended, Open}
+use Rattle.subjects.specs.Plans.{Simulated}
 use Rattle.frame_exec.specs.Tables.{tables_fault}
 use Rattle.frame_exec.specs.declared.loading.TablesFault.{TablesFault}
 use Rattle.rehearsal.specs.declared.report.Report.{Report}
@@ -14,7 +15,7 @@ use Rattle.rehearsal.specs.Words.{Asked, drill_in}
 use Rattle.rehearsal.specs.Files.{Refusal, refused_or, refusal_of, refused_from, first_refusal, AreTaken, EndsAtFileBy, RefusesFile, FailsAtFile}
 use Rattle.rehearsal.specs.Lines.{Rehearsed, FailsOn, Refuses, ReadsText, IsDrill}
 use Rattle.rehearsal.specs.Outcome.{frames_of, IsText, IsCut, refused_read, GivesReads, IsRefusedAt, OutcomeOf, Outcome, DrillOutcomeOf, DrillOutcome, Seen, RunsDrill, RunsBy, Rehearses}
-use Rattle.rehearsal.proofs.Outcomes.{refused_none}
+use Rattle.rehearsal.proofs.Outcomes.{refused_none, frames_in_none}
 use Rattle.rehearsal.proofs.Endings.{not_open_at_bad}
 use Rattle.rehearsal.proofs.Completeness.{ended_not_bad, same_bytes, same_named, front_named, none_of_front, refused_taken}
 
@@ -51,27 +52,27 @@ written_at statuses.WriteFailed report before now at well rose = at
 written_at statuses.NoMemory report before now at well rose = let kept = well (λ other. cc) in absurd (omega (arith, kept, rose))
 
 -- where the count stayed the output didn't fail
-pub not_written : (report : Report) (asked : Asked) (seen : Seen) (wrote_before wrote_now : ℕ) (before after : Content) → Rehearsed report asked seen wrote_before wrote_now before after → wrote_now ≡ wrote_before
+pub not_written : (report : Report) (asked : Asked) (crowd : Option (List Simulated)) (seen : Seen) (wrote_before wrote_now : ℕ) (before after : Content) → Rehearsed report asked crowd seen wrote_before wrote_now before after → wrote_now ≡ wrote_before
     → report.status ≡ statuses.WriteFailed → ⊥
-not_written report asked seen wrote_before wrote_now before after run kept failed =
+not_written report asked crowd seen wrote_before wrote_now before after run kept failed =
     let rose = run.write_failed failed in
     omega (arith, rose, kept)
 
 -- and where its count stayed the shelf didn't
-not_failed : (report : Report) (asked : Asked) (seen : Seen) (wrote_before wrote_now : ℕ) (before after : Content) → Rehearsed report asked seen wrote_before wrote_now before after → seen.faults_now ≡ seen.faults_before
+not_failed : (report : Report) (asked : Asked) (crowd : Option (List Simulated)) (seen : Seen) (wrote_before wrote_now : ℕ) (before after : Content) → Rehearsed report asked crowd seen wrote_before wrote_now before after → seen.faults_now ≡ seen.faults_before
     → report.status ≡ statuses.ReadFailed → ⊥
-not_failed report asked seen wrote_before wrote_now before after run well failed =
+not_failed report asked crowd seen wrote_before wrote_now before after run well failed =
     let rose = run.read_failed failed in
     omega (arith, rose, well)
 
 -- The shelf failed on a FILE.
-pub unread : (report : Report) (asked : Asked) (seen : Seen) (wrote_before wrote_now : ℕ) (before after : Content) (file : ℕ) → Rehearsed report asked seen wrote_before wrote_now before after → FailsOn file asked seen before after
+pub unread : (report : Report) (asked : Asked) (crowd : Option (List Simulated)) (seen : Seen) (wrote_before wrote_now : ℕ) (before after : Content) (file : ℕ) → Rehearsed report asked crowd seen wrote_before wrote_now before after → FailsOn file asked seen before after
     → (report.status ≡ statuses.ReadFailed) × (report.file ≡ file)
-unread report asked seen wrote_before wrote_now before after file run fails =
+unread report asked crowd seen wrote_before wrote_now before after file run fails =
     let failed = failed_at report.status report seen.faults_before seen.faults_now refl run.read_well fails.rose in
     (failed, by_stage failed run.rehearses)
   where
-    by_stage : report.status ≡ statuses.ReadFailed → Rehearses report asked seen before after → report.file ≡ file
+    by_stage : report.status ≡ statuses.ReadFailed → Rehearses report asked crowd seen before after → report.file ≡ file
     by_stage failed (inl ends) = elim (ends_by report.status report before.files asked.files ends.count seen.is_open after.rest refl (λ out. cc) ends.ends) [
       | inl refuses ↦ let wrong : ⊥ = cc (refuses.0) in absurd wrong
       | inr fails_at ↦ omega (arith, fails_at.2, fails.last, ends.asked.openings)
@@ -79,7 +80,7 @@ unread report asked seen wrote_before wrote_now before after file run fails =
     by_stage failed (inr (inl ends)) = let wrong : ⊥ = cc (ends.refuses.status) in absurd wrong
     by_stage failed (inr (inr runs)) = by_source (drill_in asked.scenario) runs
       where
-        by_source : (d : Option ℕ) → RunsBy d report asked seen before after → report.file ≡ file
+        by_source : (d : Option ℕ) → RunsBy d report asked crowd seen before after → report.file ≡ file
         by_source None reads = absurd (omega (arith, fails.last, fails.within, reads.asked.openings))
         by_source (Some k) drill = absurd (drill.well.0 failed)
 
@@ -127,45 +128,45 @@ none_refused asked seen before refusal files taken refuses =
     cc
 
 -- all FILEs were taken and their tables loaded, before the scenario was read or generated
-taken_by : (report : Report) (asked : Asked) (seen : Seen) (before after : Content) (d : Option ℕ) → RunsBy d report asked seen before after → (files : List (List ℕ)) × AreTaken before.files asked.files files × (tables_fault files ≡ None)
-taken_by report asked seen before after None reads = (reads.files, reads.taken, reads.loaded)
-taken_by report asked seen before after (Some k) drill = (drill.files, drill.taken, drill.loaded)
+taken_by : (report : Report) (asked : Asked) (crowd : Option (List Simulated)) (seen : Seen) (before after : Content) (d : Option ℕ) → RunsBy d report asked crowd seen before after → (files : List (List ℕ)) × AreTaken before.files asked.files files × (tables_fault files ≡ None)
+taken_by report asked crowd seen before after None reads = (reads.files, reads.taken, reads.loaded)
+taken_by report asked crowd seen before after (Some k) drill = (drill.files, drill.taken, drill.loaded)
 
 -- A FILE is refused.
-pub refused : (report : Report) (asked : Asked) (seen : Seen) (wrote_before wrote_now : ℕ) (before after : Content) (refusal : Refusal) → Rehearsed report asked seen wrote_before wrote_now before after
+pub refused : (report : Report) (asked : Asked) (crowd : Option (List Simulated)) (seen : Seen) (wrote_before wrote_now : ℕ) (before after : Content) (refusal : Refusal) → Rehearsed report asked crowd seen wrote_before wrote_now before after
     → (report.status ≡ statuses.NoMemory → ⊥) → Refuses refusal asked seen before → (report.status ≡ statuses.FileRefused) × (report.file ≡ refusal.file) × (report.line ≡ 0) × (report.reason ≡ refusal.reason)
-refused report asked seen wrote_before wrote_now before after refusal run some refuses = by_stage run.rehearses
+refused report asked crowd seen wrote_before wrote_now before after refusal run some refuses = by_stage run.rehearses
   where
-    by_stage : Rehearses report asked seen before after → (report.status ≡ statuses.FileRefused) × (report.file ≡ refusal.file) × (report.line ≡ 0) × (report.reason ≡ refusal.reason)
+    by_stage : Rehearses report asked crowd seen before after → (report.status ≡ statuses.FileRefused) × (report.file ≡ refusal.file) × (report.line ≡ 0) × (report.reason ≡ refusal.reason)
     by_stage (inl ends) = elim (ends_by report.status report before.files asked.files ends.count seen.is_open after.rest refl some ends.ends) [
       | inl is ↦
           let one = first_is_one before.files asked.files (is.1.before ++ is.1.bytes ∷ []) refuses.files report.file refuses.count (record { file = report.file; reason = report.reason }) refusal (in_order report.file refuses.count) is.1.named refuses.named is.1.refused refuses.refused in
           (is.0, ap (λ (r : Refusal). r.file) one, is.1.line, ap (λ (r : Refusal). r.reason) one)
-      | inr fails_at ↦ absurd (not_failed report asked seen wrote_before wrote_now before after run refuses.well fails_at.0)
+      | inr fails_at ↦ absurd (not_failed report asked crowd seen wrote_before wrote_now before after run refuses.well fails_at.0)
     ]
     by_stage (inr (inl ends)) = absurd (none_refused asked seen before refusal ends.files ends.taken refuses)
-    by_stage (inr (inr runs)) = let all = taken_by report asked seen before after (drill_in asked.scenario) runs in absurd (none_refused asked seen before refusal all.0 all.1 refuses)
+    by_stage (inr (inr runs)) = let all = taken_by report asked crowd seen before after (drill_in asked.scenario) runs in absurd (none_refused asked seen before refusal all.0 all.1 refuses)
 
 same_fault : (a b : TablesFault) → ◌≡◌ {A = Option TablesFault} (Some a) (Some b) → a ≡ b
 same_fault a b same = cc
 
 -- An entry of a table isn't in order.
-pub faulty : (report : Report) (asked : Asked) (seen : Seen) (wrote_before wrote_now : ℕ) (before after : Content) (files : List (List ℕ)) (fault : TablesFault) → Rehearsed report asked seen wrote_before wrote_now before after
+pub faulty : (report : Report) (asked : Asked) (crowd : Option (List Simulated)) (seen : Seen) (wrote_before wrote_now : ℕ) (before after : Content) (files : List (List ℕ)) (fault : TablesFault) → Rehearsed report asked crowd seen wrote_before wrote_now before after
     → (report.status ≡ statuses.NoMemory → ⊥) → seen.faults_now ≡ seen.faults_before → AreTaken before.files asked.files files → tables_fault files ≡ Some fault
     → (report.status ≡ statuses.FileRefused) × (report.file ≡ fault.file) × (report.line ≡ fault.entry) × (report.reason ≡ fault.reason + 10)
-faulty report asked seen wrote_before wrote_now before after files fault run some well taken is = by_stage run.rehearses
+faulty report asked crowd seen wrote_before wrote_now before after files fault run some well taken is = by_stage run.rehearses
   where
-    by_stage : Rehearses report asked seen before after → (report.status ≡ statuses.FileRefused) × (report.file ≡ fault.file) × (report.line ≡ fault.entry) × (report.reason ≡ fault.reason + 10)
+    by_stage : Rehearses report asked crowd seen before after → (report.status ≡ statuses.FileRefused) × (report.file ≡ fault.file) × (report.line ≡ fault.entry) × (report.reason ≡ fault.reason + 10)
     by_stage (inl ends) = elim (ends_by report.status report before.files asked.files ends.count seen.is_open after.rest refl some ends.ends) [
       | inl refuses ↦ absurd (refused_taken report before.files asked.files files after.rest refuses.1 taken)
-      | inr fails_at ↦ absurd (not_failed report asked seen wrote_before wrote_now before after run well fails_at.0)
+      | inr fails_at ↦ absurd (not_failed report asked crowd seen wrote_before wrote_now before after run well fails_at.0)
     ]
     by_stage (inr (inl ends)) =
         let same = same_named before.files asked.files ends.files files ends.taken.named taken.named in
         let one = same_fault ends.refuses.fault fault (sym ends.refuses.is ∙ ap tables_fault same ∙ is) in
         (ends.refuses.status, ends.refuses.file ∙ ap (λ (f : TablesFault). f.file) one, ends.refuses.line ∙ ap (λ (f : TablesFault). f.entry) one, ends.refuses.reason ∙ ap (λ (f : TablesFault). f.reason + 10) one)
     by_stage (inr (inr runs)) =
-        let all = taken_by report asked seen before after (drill_in asked.scenario) runs in
+        let all = taken_by report asked crowd seen before after (drill_in asked.scenario) runs in
         let same = same_named before.files asked.files all.0 files all.1.named taken.named in
         let none : tables_fault files ≡ None = ap tables_fault (sym same) ∙ all.2 in
         let wrong : ⊥ = cc in
@@ -180,11 +181,11 @@ text_is_one true before now file rest t u first second = text_same t u (append_c
 text_is_one false before now file rest t u first second = text_same t u (first.nothing refl ∙ sym (second.nothing refl)) (first.closed ∙ sym second.closed)
 
 -- what the report says of the text
-pub reads_it : (report : Report) (asked : Asked) (seen : Seen) (wrote_before wrote_now : ℕ) (before after : Content) (files : List (List ℕ)) (text : Text) (new : List ℕ) → Rehearsed report asked seen wrote_before wrote_now before after
-    → (report.status ≡ statuses.NoMemory → ⊥) → ReadsText files text asked seen before after → seen.held_now ≡ Some new → (old : List ℕ) × Outcome report files text old new
-reads_it report asked seen wrote_before wrote_now before after files text new run some reads_text tells = by_stage run.rehearses
+pub reads_it : (report : Report) (asked : Asked) (crowd : Option (List Simulated)) (seen : Seen) (wrote_before wrote_now : ℕ) (before after : Content) (files : List (List ℕ)) (text : Text) (new : List ℕ) → Rehearsed report asked crowd seen wrote_before wrote_now before after
+    → (report.status ≡ statuses.NoMemory → ⊥) → ReadsText files text asked seen before after → seen.held_now ≡ Some new → (old : List ℕ) × Outcome report files crowd text old new
+reads_it report asked crowd seen wrote_before wrote_now before after files text new run some reads_text tells = by_stage run.rehearses
   where
-    by_stage : Rehearses report asked seen before after → (old : List ℕ) × Outcome report files text old new
+    by_stage : Rehearses report asked crowd seen before after → (old : List ℕ) × Outcome report files crowd text old new
     by_stage (inl ends) = elim (ends_by report.status report before.files asked.files ends.count seen.is_open after.rest refl some ends.ends) [
       | inl refuses ↦ absurd (refused_taken report before.files asked.files files after.rest refuses.1 reads_text.taken)
       | inr fails_at ↦ absurd (omega (arith, fails_at.1.within, fails_at.2, ends.asked.openings, reads_text.last))
@@ -197,13 +198,13 @@ reads_it report asked seen wrote_before wrote_now before after files text new ru
         absurd wrong
     by_stage (inr (inr runs)) = by_source (drill_in asked.scenario) runs
       where
-        by_source : (d : Option ℕ) → RunsBy d report asked seen before after → (old : List ℕ) × Outcome report files text old new
+        by_source : (d : Option ℕ) → RunsBy d report asked crowd seen before after → (old : List ℕ) × Outcome report files crowd text old new
         by_source (Some k) drill = absurd (omega (arith, drill.asked.openings, reads_text.last))
         by_source None reads =
             let inner = reads.outcome new tells in
             let same : reads.files ≡ files = same_named before.files asked.files reads.files files reads.taken.named reads_text.taken.named in
             let one : reads.text ≡ text = text_is_one seen.is_open seen.faults_before seen.faults_now (file_named before.files asked.scenario) after.rest reads.text text reads.is_text reads_text.is_text in
-            (inner.0, subst (λ (t : Text). Outcome report files t inner.0 new) one (subst (λ (fs : List (List ℕ)). Outcome report fs reads.text inner.0 new) same inner.2))
+            (inner.0, subst (λ (t : Text). Outcome report files crowd t inner.0 new) one (subst (λ (fs : List (List ℕ)). Outcome report fs crowd reads.text inner.0 new) same inner.2))
 
 -- the same place
 bad_same : (a b c d : ℕ) → answers.Bad a b ≡ answers.Bad c d → (a ≡ c) × (b ≡ d)
@@ -218,10 +219,10 @@ entry_in None = 0
 entry_in (Some place) = place.1
 
 -- no frame is cut where there is none
-pub no_cut : (frames : ℕ) (files : List (List ℕ)) (read : Reading) (old new : List ℕ) → read.items ≡ [] → IsCut frames files read old new → ⊥
+pub no_cut : (frames : ℕ) (files : List (List ℕ)) (crowd : Option (List Simulated)) (read : Reading) (old new : List ℕ) → read.items ≡ [] → IsCut frames files crowd read old new → ⊥
 unfolding frames_of
-no_cut frames files read old new none cut =
-    let parts = ap length (sym (ap frames_of none) ∙ cut.parts) in
+no_cut frames files crowd read old new none cut =
+    let parts = ap length (sym (frames_in_none files crowd read.items (ap frames_of none)) ∙ cut.parts) in
     omega (arith, parts, length-append cut.front (cut.frame ∷ cut.more))
 
 -- nothing is refused where there is no header
@@ -229,61 +230,61 @@ pub gives_none : (files : List (List ℕ)) (read : Reading) → read.items ≡ [
 gives_none files read none = ap (refused_read files) none ∙ refused_none files
 
 -- The text ended well.
-pub by_ended : (status : Status) (report : Report) (files : List (List ℕ)) (read : Reading) (old new : List ℕ) → report.status ≡ status → (report.status ≡ statuses.NoMemory → ⊥) → OutcomeOf status report files read old new
-    → GivesReads files read → (report.status ≡ statuses.WriteFailed → IsCut report.frames files read old new → ⊥) → read.ending ≡ Ended → report.status ≡ statuses.Done
-by_ended statuses.Done report files read old new at some outcome given written ended = at
-by_ended statuses.WordsRefused report files read old new at some outcome given written ended = absurd outcome
-by_ended statuses.FileRefused report files read old new at some outcome given written ended = let is = outcome.0.is in let wrong : ⊥ = cc in absurd wrong
-by_ended statuses.ScenarioRefused report files read old new at some outcome given written ended = absurd (ended_not_bad read.ending report.line report.reason ended outcome.2)
-by_ended statuses.ReadFailed report files read old new at some outcome given written ended = let is = outcome.2 in let wrong : ⊥ = cc in absurd wrong
-by_ended statuses.WriteFailed report files read old new at some outcome given written ended = absurd (written at outcome.2)
-by_ended statuses.NoMemory report files read old new at some outcome given written ended = absurd (some at)
+pub by_ended : (status : Status) (report : Report) (files : List (List ℕ)) (crowd : Option (List Simulated)) (read : Reading) (old new : List ℕ) → report.status ≡ status → (report.status ≡ statuses.NoMemory → ⊥) → OutcomeOf status report files crowd read old new
+    → GivesReads files read → (report.status ≡ statuses.WriteFailed → IsCut report.frames files crowd read old new → ⊥) → read.ending ≡ Ended → report.status ≡ statuses.Done
+by_ended statuses.Done report files crowd read old new at some outcome given written ended = at
+by_ended statuses.WordsRefused report files crowd read old new at some outcome given written ended = absurd outcome
+by_ended statuses.FileRefused report files crowd read old new at some outcome given written ended = let is = outcome.0.is in let wrong : ⊥ = cc in absurd wrong
+by_ended statuses.ScenarioRefused report files crowd read old new at some outcome given written ended = absurd (ended_not_bad read.ending report.line report.reason ended outcome.2)
+by_ended statuses.ReadFailed report files crowd read old new at some outcome given written ended = let is = outcome.2 in let wrong : ⊥ = cc in absurd wrong
+by_ended statuses.WriteFailed report files crowd read old new at some outcome given written ended = absurd (written at outcome.2)
+by_ended statuses.NoMemory report files crowd read old new at some outcome given written ended = absurd (some at)
 
 -- It is bad or unended.
-pub by_bad : (status : Status) (report : Report) (files : List (List ℕ)) (read : Reading) (old new : List ℕ) (line reason : ℕ) → report.status ≡ status → (report.status ≡ statuses.NoMemory → ⊥) → OutcomeOf status report files read old new
-    → GivesReads files read → (report.status ≡ statuses.WriteFailed → IsCut report.frames files read old new → ⊥) → IsRefusedAt read line reason → (report.status ≡ statuses.ScenarioRefused) × (report.line ≡ line) × (report.reason ≡ reason)
-by_bad statuses.Done report files read old new line reason at some outcome given written bad = absurd (ended_not_bad read.ending line reason outcome.2 bad)
-by_bad statuses.WordsRefused report files read old new line reason at some outcome given written bad = absurd outcome
-by_bad statuses.FileRefused report files read old new line reason at some outcome given written bad = let is = outcome.0.is in let wrong : ⊥ = cc in absurd wrong
-by_bad statuses.ScenarioRefused report files read old new line reason at some outcome given written bad = let one = bad_same report.line report.reason line reason (sym outcome.2 ∙ bad) in (at, one.0, one.1)
-by_bad statuses.ReadFailed report files read old new line reason at some outcome given written bad = absurd (not_open_at_bad read.ending line reason (sym bad) outcome.2)
-by_bad statuses.WriteFailed report files read old new line reason at some outcome given written bad = absurd (written at outcome.2)
-by_bad statuses.NoMemory report files read old new line reason at some outcome given written bad = absurd (some at)
+pub by_bad : (status : Status) (report : Report) (files : List (List ℕ)) (crowd : Option (List Simulated)) (read : Reading) (old new : List ℕ) (line reason : ℕ) → report.status ≡ status → (report.status ≡ statuses.NoMemory → ⊥) → OutcomeOf status report files crowd read old new
+    → GivesReads files read → (report.status ≡ statuses.WriteFailed → IsCut report.frames files crowd read old new → ⊥) → IsRefusedAt read line reason → (report.status ≡ statuses.ScenarioRefused) × (report.line ≡ line) × (report.reason ≡ reason)
+by_bad statuses.Done report files crowd read old new line reason at some outcome given written bad = absurd (ended_not_bad read.ending line reason outcome.2 bad)
+by_bad statuses.WordsRefused report files crowd read old new line reason at some outcome given written bad = absurd outcome
+by_bad statuses.FileRefused report files crowd read old new line reason at some outcome given written bad = let is = outcome.0.is in let wrong : ⊥ = cc in absurd wrong
+by_bad statuses.ScenarioRefused report files crowd read old new line reason at some outcome given written bad = let one = bad_same report.line report.reason line reason (sym outcome.2 ∙ bad) in (at, one.0, one.1)
+by_bad statuses.ReadFailed report files crowd read old new line reason at some outcome given written bad = absurd (not_open_at_bad read.ending line reason (sym bad) outcome.2)
+by_bad statuses.WriteFailed report files crowd read old new line reason at some outcome given written bad = absurd (written at outcome.2)
+by_bad statuses.NoMemory report files crowd read old new line reason at some outcome given written bad = absurd (some at)
 
 -- It is open.
-pub by_open : (status : Status) (report : Report) (files : List (List ℕ)) (read : Reading) (old new : List ℕ) → report.status ≡ status → (report.status ≡ statuses.NoMemory → ⊥) → OutcomeOf status report files read old new
-    → GivesReads files read → (report.status ≡ statuses.WriteFailed → IsCut report.frames files read old new → ⊥) → read.ending ≡ Open → (report.status ≡ statuses.ReadFailed) × (report.file ≡ 0)
-by_open statuses.Done report files read old new at some outcome given written is_open = let is = outcome.2 in let wrong : ⊥ = cc in absurd wrong
-by_open statuses.WordsRefused report files read old new at some outcome given written is_open = absurd outcome
-by_open statuses.FileRefused report files read old new at some outcome given written is_open = let is = outcome.0.is in let wrong : ⊥ = cc in absurd wrong
-by_open statuses.ScenarioRefused report files read old new at some outcome given written is_open = absurd (not_open_at_bad read.ending report.line report.reason (sym outcome.2) is_open)
-by_open statuses.ReadFailed report files read old new at some outcome given written is_open = (at, outcome.0.file)
-by_open statuses.WriteFailed report files read old new at some outcome given written is_open = absurd (written at outcome.2)
-by_open statuses.NoMemory report files read old new at some outcome given written is_open = absurd (some at)
+pub by_open : (status : Status) (report : Report) (files : List (List ℕ)) (crowd : Option (List Simulated)) (read : Reading) (old new : List ℕ) → report.status ≡ status → (report.status ≡ statuses.NoMemory → ⊥) → OutcomeOf status report files crowd read old new
+    → GivesReads files read → (report.status ≡ statuses.WriteFailed → IsCut report.frames files crowd read old new → ⊥) → read.ending ≡ Open → (report.status ≡ statuses.ReadFailed) × (report.file ≡ 0)
+by_open statuses.Done report files crowd read old new at some outcome given written is_open = let is = outcome.2 in let wrong : ⊥ = cc in absurd wrong
+by_open statuses.WordsRefused report files crowd read old new at some outcome given written is_open = absurd outcome
+by_open statuses.FileRefused report files crowd read old new at some outcome given written is_open = let is = outcome.0.is in let wrong : ⊥ = cc in absurd wrong
+by_open statuses.ScenarioRefused report files crowd read old new at some outcome given written is_open = absurd (not_open_at_bad read.ending report.line report.reason (sym outcome.2) is_open)
+by_open statuses.ReadFailed report files crowd read old new at some outcome given written is_open = (at, outcome.0.file)
+by_open statuses.WriteFailed report files crowd read old new at some outcome given written is_open = absurd (written at outcome.2)
+by_open statuses.NoMemory report files crowd read old new at some outcome given written is_open = absurd (some at)
 
 -- The map refuses the read of an entry.
-pub by_unmapped : (status : Status) (report : Report) (files : List (List ℕ)) (read : Reading) (old new : List ℕ) (file entry : ℕ) → report.status ≡ status → (report.status ≡ statuses.NoMemory → ⊥) → OutcomeOf status report files read old new
+pub by_unmapped : (status : Status) (report : Report) (files : List (List ℕ)) (crowd : Option (List Simulated)) (read : Reading) (old new : List ℕ) (file entry : ℕ) → report.status ≡ status → (report.status ≡ statuses.NoMemory → ⊥) → OutcomeOf status report files crowd read old new
     → refused_read files read.items ≡ Some (file, entry) → (report.status ≡ statuses.FileRefused) × (report.file ≡ file) × (report.line ≡ entry) × (report.reason ≡ 10)
 unfolding file_in entry_in
-by_unmapped statuses.Done report files read old new file entry at some outcome is = let given = outcome.1 in let wrong : ⊥ = cc in absurd wrong
-by_unmapped statuses.WordsRefused report files read old new file entry at some outcome is = absurd outcome
-by_unmapped statuses.FileRefused report files read old new file entry at some outcome is = let same = sym outcome.0.is ∙ is in (at, ap file_in same, ap entry_in same, outcome.0.reason)
-by_unmapped statuses.ScenarioRefused report files read old new file entry at some outcome is = let given = outcome.1 in let wrong : ⊥ = cc in absurd wrong
-by_unmapped statuses.ReadFailed report files read old new file entry at some outcome is = let given = outcome.1 in let wrong : ⊥ = cc in absurd wrong
-by_unmapped statuses.WriteFailed report files read old new file entry at some outcome is = let given = outcome.1 in let wrong : ⊥ = cc in absurd wrong
-by_unmapped statuses.NoMemory report files read old new file entry at some outcome is = absurd (some at)
+by_unmapped statuses.Done report files crowd read old new file entry at some outcome is = let given = outcome.1 in let wrong : ⊥ = cc in absurd wrong
+by_unmapped statuses.WordsRefused report files crowd read old new file entry at some outcome is = absurd outcome
+by_unmapped statuses.FileRefused report files crowd read old new file entry at some outcome is = let same = sym outcome.0.is ∙ is in (at, ap file_in same, ap entry_in same, outcome.0.reason)
+by_unmapped statuses.ScenarioRefused report files crowd read old new file entry at some outcome is = let given = outcome.1 in let wrong : ⊥ = cc in absurd wrong
+by_unmapped statuses.ReadFailed report files crowd read old new file entry at some outcome is = let given = outcome.1 in let wrong : ⊥ = cc in absurd wrong
+by_unmapped statuses.WriteFailed report files crowd read old new file entry at some outcome is = let given = outcome.1 in let wrong : ⊥ = cc in absurd wrong
+by_unmapped statuses.NoMemory report files crowd read old new file entry at some outcome is = absurd (some at)
 
 -- ---- a generated scenario
 
 -- what the report says of it
-pub drills_it : (report : Report) (asked : Asked) (seen : Seen) (wrote_before wrote_now : ℕ) (before after : Content) (files : List (List ℕ)) (k : ℕ) (new : List ℕ) → Rehearsed report asked seen wrote_before wrote_now before after
-    → (report.status ≡ statuses.NoMemory → ⊥) → IsDrill k files asked seen before → seen.held_now ≡ Some new → (old : List ℕ) × DrillOutcome report files k old new
-drills_it report asked seen wrote_before wrote_now before after files k new run some drill tells = by_stage run.rehearses
+pub drills_it : (report : Report) (asked : Asked) (crowd : Option (List Simulated)) (seen : Seen) (wrote_before wrote_now : ℕ) (before after : Content) (files : List (List ℕ)) (k : ℕ) (new : List ℕ) → Rehearsed report asked crowd seen wrote_before wrote_now before after
+    → (report.status ≡ statuses.NoMemory → ⊥) → IsDrill k files asked seen before → seen.held_now ≡ Some new → (old : List ℕ) × DrillOutcome report files crowd k old new
+drills_it report asked crowd seen wrote_before wrote_now before after files k new run some drill tells = by_stage run.rehearses
   where
-    by_stage : Rehearses report asked seen before after → (old : List ℕ) × DrillOutcome report files k old new
+    by_stage : Rehearses report asked crowd seen before after → (old : List ℕ) × DrillOutcome report files crowd k old new
     by_stage (inl ends) = elim (ends_by report.status report before.files asked.files ends.count seen.is_open after.rest refl some ends.ends) [
       | inl refuses ↦ absurd (refused_taken report before.files asked.files files after.rest refuses.1 drill.taken)
-      | inr fails_at ↦ absurd (not_failed report asked seen wrote_before wrote_now before after run drill.well fails_at.0)
+      | inr fails_at ↦ absurd (not_failed report asked crowd seen wrote_before wrote_now before after run drill.well fails_at.0)
     ]
     by_stage (inr (inl ends)) =
         let same : ends.files ≡ files = same_named before.files asked.files ends.files files ends.taken.named drill.taken.named in
@@ -292,30 +293,30 @@ drills_it report asked seen wrote_before wrote_now before after files k new run 
         let wrong : ⊥ = cc in
         absurd wrong
     by_stage (inr (inr runs)) =
-        let ran : RunsDrill k report asked seen before after = subst (λ (d : Option ℕ). RunsBy d report asked seen before after) drill.drill runs in
+        let ran : RunsDrill k report asked crowd seen before after = subst (λ (d : Option ℕ). RunsBy d report asked crowd seen before after) drill.drill runs in
         let inner = ran.outcome new tells in
         let same : ran.files ≡ files = same_named before.files asked.files ran.files files ran.taken.named drill.taken.named in
-        (inner.0, subst (λ (fs : List (List ℕ)). DrillOutcome report fs k inner.0 new) same inner.2)
+        (inner.0, subst (λ (fs : List (List ℕ)). DrillOutcome report fs crowd k inner.0 new) same inner.2)
 
 -- The text ended well.
-pub drill_ended : (status : Status) (report : Report) (files : List (List ℕ)) (read : Reading) (old new : List ℕ) → report.status ≡ status → (report.status ≡ statuses.NoMemory → ⊥) → DrillOutcomeOf status report files read old new
+pub drill_ended : (status : Status) (report : Report) (files : List (List ℕ)) (crowd : Option (List Simulated)) (read : Reading) (old new : List ℕ) → report.status ≡ status → (report.status ≡ statuses.NoMemory → ⊥) → DrillOutcomeOf status report files crowd read old new
     → GivesReads files read → (report.status ≡ statuses.WriteFailed → ⊥) → report.status ≡ statuses.Done
-drill_ended statuses.Done report files read old new at some outcome given written = at
-drill_ended statuses.WordsRefused report files read old new at some outcome given written = absurd outcome
-drill_ended statuses.FileRefused report files read old new at some outcome given written = let is = outcome.0.is in let wrong : ⊥ = cc in absurd wrong
-drill_ended statuses.ScenarioRefused report files read old new at some outcome given written = absurd outcome
-drill_ended statuses.ReadFailed report files read old new at some outcome given written = absurd outcome
-drill_ended statuses.WriteFailed report files read old new at some outcome given written = absurd (written at)
-drill_ended statuses.NoMemory report files read old new at some outcome given written = absurd (some at)
+drill_ended statuses.Done report files crowd read old new at some outcome given written = at
+drill_ended statuses.WordsRefused report files crowd read old new at some outcome given written = absurd outcome
+drill_ended statuses.FileRefused report files crowd read old new at some outcome given written = let is = outcome.0.is in let wrong : ⊥ = cc in absurd wrong
+drill_ended statuses.ScenarioRefused report files crowd read old new at some outcome given written = absurd outcome
+drill_ended statuses.ReadFailed report files crowd read old new at some outcome given written = absurd outcome
+drill_ended statuses.WriteFailed report files crowd read old new at some outcome given written = absurd (written at)
+drill_ended statuses.NoMemory report files crowd read old new at some outcome given written = absurd (some at)
 
 -- The map refuses the read of an entry.
-pub drill_unmapped : (status : Status) (report : Report) (files : List (List ℕ)) (read : Reading) (old new : List ℕ) (file entry : ℕ) → report.status ≡ status → (report.status ≡ statuses.NoMemory → ⊥) → DrillOutcomeOf status report files read old new
+pub drill_unmapped : (status : Status) (report : Report) (files : List (List ℕ)) (crowd : Option (List Simulated)) (read : Reading) (old new : List ℕ) (file entry : ℕ) → report.status ≡ status → (report.status ≡ statuses.NoMemory → ⊥) → DrillOutcomeOf status report files crowd read old new
     → refused_read files read.items ≡ Some (file, entry) → (report.status ≡ statuses.FileRefused) × (report.file ≡ file) × (report.line ≡ entry) × (report.reason ≡ 10)
 unfolding file_in entry_in
-drill_unmapped statuses.Done report files read old new file entry at some outcome is = let given = outcome.1 in let wrong : ⊥ = cc in absurd wrong
-drill_unmapped statuses.WordsRefused report files read old new file entry at some outcome is = absurd outcome
-drill_unmapped statuses.FileRefused report files read old new file entry at some outcome is = let same = sym outcome.0.is ∙ is in (at, ap file_in same, ap entry_in same, outcome.0.reason)
-drill_unmapped statuses.ScenarioRefused report files read old new file entry at some outcome is = absurd outcome
-drill_unmapped statuses.ReadFailed report files read old new file entry at some outcome is = absurd outcome
-drill_unmapped statuses.WriteFailed report files read old new file entry at some outcome is = let given = outcome.1 in let wrong : ⊥ = cc in absurd wrong
-drill_unmapped statuses.NoMemory report files read old new file entry at some outcome is = absurd (some at)
+drill_unmapped statuses.Done report files crowd read old new file entry at some outcome is = let given = outcome.1 in let wrong : ⊥ = cc in absurd wrong
+drill_unmapped statuses.WordsRefused report files crowd read old new file entry at some outcome is = absurd outcome
+drill_unmapped statuses.FileRefused report files crowd read old new file entry at some outcome is = let same = sym outcome.0.is ∙ is in (at, ap file_in same, ap entry_in same, outcome.0.reason)
+drill_unmapped statuses.ScenarioRefused report files crowd read old new file entry at some outcome is = absurd outcome
+drill_unmapped statuses.ReadFailed report files crowd read old new file entry at some outcome is = absurd outcome
+drill_unmapped statuses.WriteFailed report files crowd read old new file entry at some outcome is = let given = outcome.1 in let wrong : ⊥ = cc in absurd wrong
+drill_unmapped statuses.NoMemory report files crowd read old new file entry at some outcome is = absurd (some at)

@@ -1,6 +1,7 @@
 pub mod TextFacts
 pub mod Endings
 pub mod Pieces
+pub mod Beside
 pub mod Outcomes
 pub mod Beginnings
 pub mod Matched

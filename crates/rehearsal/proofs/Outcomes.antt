@@ -7,6 +7,7 @@ use Rattle.fsw_outside.specs.Files.{Content}
 use Rattle.scenario.specs.declared.reader.Reader.{Reader}
 use Rattle.scenario.specs.declared.item.Item.TheVariants as answers
 use Rattle.scenario.specs.FrameLists.{Frame}
+use Rattle.subjects.specs.Plans.{Simulated}
 use Rattle.scenario.specs.Texts.{Text, Given, Head, Whole, Reading, Open, reading}
 use Rattle.scenario.specs.Answers.{answer_at_end}
 use Rattle.frame_exec.specs.Runs.{Setup, frame_lines}
@@ -14,13 +15,15 @@ use Rattle.frame_exec.specs.declared.bench.Bench.{Bench}
 use Rattle.frame_exec.specs.Following.{Follows}
 use Rattle.frame_exec.specs.Standing.{CanRun}
 use Rattle.frame_exec.specs.RunLaws.{log_more, log_none}
+use Rattle.frame_exec.specs.Crowds.{crowd_behind, frame_beside}
 use Rattle.rehearsal.specs.Fed.{Fed}
 use Rattle.rehearsal.specs.Text.{Holds, IsRead}
-use Rattle.rehearsal.specs.Outcome.{frame_in_item, frames_of, setup_of, refused_read, log_in, IsTextOf, IsWhole, Outcome}
+use Rattle.rehearsal.specs.Outcome.{frame_in_item, frames_of, setup_of, refused_read, frames_in, log_in, IsTextOf, IsWhole, Outcome}
 use Rattle.rehearsal.specs.declared.report.Status.TheVariants as statuses
 use Rattle.rehearsal.specs.declared.report.Report.{Report}
 use Rattle.scenario.specs.TextLaws.{texts_grow}
 use Rattle.rehearsal.proofs.Endings.{open_at_more, ended_at_end}
+use Rattle.rehearsal.proofs.Beside.{run_length, run_more, run_grows, run_none, can_run_beside}
 
 -- the text that was handed out: the bytes that were fed and those that are pending
 abbrev pub whole_of : Text → List ℕ → Bool → Text
@@ -77,9 +80,9 @@ items_whole now pending end same = by_closed now.bytes now.closed same
     by_closed bytes false same = elim (texts_grow bytes pending end) [ inl grown ↦ (grown.1.0.items, ap (λ (r : Reading). r.items) grown.1.1) | inr is ↦ ([], ap (λ (r : Reading). r.items) is ∙ sym (append-nil _)) ]
 
 -- the whole log was written
-pub whole_log : (files : List (List ℕ)) (frames : ℕ) (got : List Given) (read whole : Reading) (old new : List ℕ) → whole ≡ read → got ≡ read.items → frames ≡ length (frames_of got) → new ≡ old ++ log_in files got
-    → IsWhole frames files whole old new
-whole_log files frames got read whole old new same all number written = rw (same, ← all) (record { number = number; written = written })
+pub whole_log : (files : List (List ℕ)) (crowd : Option (List Simulated)) (frames : ℕ) (got : List Given) (read whole : Reading) (old new : List ℕ) → whole ≡ read → got ≡ read.items → frames ≡ length (frames_of got) → new ≡ old ++ log_in files crowd got
+    → IsWhole frames files crowd whole old new
+whole_log files crowd frames got read whole old new same all number written = rw (same, ← all) (record { number = number; written = written })
 
 -- the frames of two lists of items
 pub frames_append : (xs ys : List Given) → frames_of (xs ++ ys) ≡ frames_of xs ++ frames_of ys
@@ -120,53 +123,84 @@ refused_none files = refl
 refused_whole : (files : List (List ℕ)) (got : List Given) (read whole : Reading) → whole ≡ read → got ≡ read.items → refused_read files got ≡ None → refused_read files whole.items ≡ None
 refused_whole files got read whole same all given = ap (λ (r : Reading). refused_read files r.items) same ∙ sym (ap (refused_read files) all) ∙ given
 
+-- as many frames are run as the text has
+pub count_in : (files : List (List ℕ)) (crowd : Option (List Simulated)) (got : List Given) (run : List Frame) → frames_in files crowd got ≡ run → length (frames_of got) ≡ length run
+unfolding frames_in
+count_in files crowd got run are = sym (run_length (setup_of files got) crowd (frames_of got)) ∙ ap (length {A = Frame}) are
+
+-- a frame as it is run behind those of these items
+abbrev pub run_next : List (List ℕ) → Option (List Simulated) → List Given → Frame → Frame
+run_next files crowd got f = frame_beside (crowd_behind (setup_of files got) crowd (frames_of got)) f
+
+-- one frame more is run
+pub frames_in_more : (files : List (List ℕ)) (crowd : Option (List Simulated)) (got : List Given) (f : Frame) → 0 < length got
+    → frames_in files crowd (got ++ Whole f ∷ []) ≡ frames_in files crowd got ++ run_next files crowd got f ∷ []
+unfolding frames_in
+frames_in_more files crowd got f some = rw (setup_append files got (Whole f ∷ []) some, frames_more got f) (run_more (setup_of files got) crowd (frames_of got) f)
+
+-- the frames of more items
+pub frames_in_append : (files : List (List ℕ)) (crowd : Option (List Simulated)) (got rest : List Given) → 0 < length got
+    → (more : List Frame) × (frames_in files crowd (got ++ rest) ≡ frames_in files crowd got ++ more)
+unfolding frames_in
+frames_in_append files crowd got rest some =
+    let grown = run_grows (setup_of files got) crowd (frames_of got) (frames_of rest) in
+    (grown.0, rw (setup_append files got rest some, frames_append got rest) grown.1)
+
+-- no frames are run where there are none
+pub frames_in_none : (files : List (List ℕ)) (crowd : Option (List Simulated)) (got : List Given) → frames_of got ≡ [] → frames_in files crowd got ≡ []
+unfolding frames_in
+frames_in_none files crowd got none = rw none (run_none (setup_of files got) crowd)
+
 -- the log of one frame more
-pub log_in_more : (files : List (List ℕ)) (got : List Given) (f : Frame) → 0 < length got → log_in files (got ++ Whole f ∷ []) ≡ log_in files got ++ frame_lines (setup_of files got) (frames_of got) f
+pub log_in_more : (files : List (List ℕ)) (crowd : Option (List Simulated)) (got : List Given) (f : Frame) → 0 < length got
+    → log_in files crowd (got ++ Whole f ∷ []) ≡ log_in files crowd got ++ frame_lines (setup_of files got) (frames_in files crowd got) (run_next files crowd got f)
 unfolding log_in
-log_in_more files got f some = rw (setup_append files got (Whole f ∷ []) some, frames_more got f) (log_more (setup_of files got) (frames_of got) f)
+log_in_more files crowd got f some = rw (frames_in_more files crowd got f some, setup_append files got (Whole f ∷ []) some) (log_more (setup_of files got) (frames_in files crowd got) (run_next files crowd got f))
 
 -- the log of no frames
-pub log_in_none : (files : List (List ℕ)) (got : List Given) → frames_of got ≡ [] → log_in files got ≡ []
+pub log_in_none : (files : List (List ℕ)) (crowd : Option (List Simulated)) (got : List Given) → frames_of got ≡ [] → log_in files crowd got ≡ []
 unfolding log_in
-log_in_none files got none = rw none (log_none (setup_of files got))
+log_in_none files crowd got none = rw (frames_in_none files crowd got none) (log_none (setup_of files got))
 
 -- items that were read are a first part of those of the whole text
 pub parts_whole : (got : List Given) (rest more all whole : List Given) → all ≡ got ++ rest → whole ≡ all ++ more → whole ≡ got ++ (rest ++ more)
 parts_whole got rest more all whole first grown = grown ∙ ap (λ xs. xs ++ more) first ∙ append_assoc got rest more
 
 -- the shelf failed, and the log of all frames was written
-pub read_failed : (files : List (List ℕ)) (report : Report) (frames : ℕ) (now whole : Text) (got : List Given) (old new : List ℕ) → report ≡ record { status = statuses.ReadFailed; file = 0; line = 0; reason = 0; frames = frames } → refused_read files got ≡ None
-    → reading whole ≡ reading now → got ≡ (reading now).items → answers.More ≡ answer_at_end (reading now).ending → frames ≡ length (frames_of got) → new ≡ old ++ log_in files got
-    → Outcome report files whole old new
-read_failed files report frames now whole got old new is given same all more number written =
+pub read_failed : (files : List (List ℕ)) (crowd : Option (List Simulated)) (report : Report) (frames : ℕ) (now whole : Text) (got : List Given) (old new : List ℕ) → report ≡ record { status = statuses.ReadFailed; file = 0; line = 0; reason = 0; frames = frames } → refused_read files got ≡ None
+    → reading whole ≡ reading now → got ≡ (reading now).items → answers.More ≡ answer_at_end (reading now).ending → frames ≡ length (frames_of got) → new ≡ old ++ log_in files crowd got
+    → Outcome report files crowd whole old new
+read_failed files crowd report frames now whole got old new is given same all more number written =
     rw is (
       record { file = refl; line = refl; reason = refl },
       refused_whole files got (reading now) (reading whole) same all given,
       ap (λ (r : Reading). r.ending) same ∙ open_at_more (reading now).ending more,
-      whole_log files frames got (reading now) (reading whole) old new same all number written,
+      whole_log files crowd frames got (reading now) (reading whole) old new same all number written,
     )
 
 -- the scenario ended well, and the log of all frames was written
-pub done : (files : List (List ℕ)) (report : Report) (frames : ℕ) (now whole : Text) (got : List Given) (old new : List ℕ) → report ≡ record { status = statuses.Done; file = 0; line = 0; reason = 0; frames = frames } → refused_read files got ≡ None
-    → reading whole ≡ reading now → got ≡ (reading now).items → answers.End ≡ answer_at_end (reading now).ending → frames ≡ length (frames_of got) → new ≡ old ++ log_in files got
-    → Outcome report files whole old new
-done files report frames now whole got old new is given same all end number written =
+pub done : (files : List (List ℕ)) (crowd : Option (List Simulated)) (report : Report) (frames : ℕ) (now whole : Text) (got : List Given) (old new : List ℕ) → report ≡ record { status = statuses.Done; file = 0; line = 0; reason = 0; frames = frames } → refused_read files got ≡ None
+    → reading whole ≡ reading now → got ≡ (reading now).items → answers.End ≡ answer_at_end (reading now).ending → frames ≡ length (frames_of got) → new ≡ old ++ log_in files crowd got
+    → Outcome report files crowd whole old new
+done files crowd report frames now whole got old new is given same all end number written =
     rw is (
       record { file = refl; line = refl; reason = refl },
       refused_whole files got (reading now) (reading whole) same all given,
       ap (λ (r : Reading). r.ending) same ∙ ended_at_end (reading now).ending end,
-      whole_log files frames got (reading now) (reading whole) old new same all number written,
+      whole_log files crowd frames got (reading now) (reading whole) old new same all number written,
     )
 
 -- the scenario is refused, and the log of the frames before the bad line was written
-pub refused_at : (files : List (List ℕ)) (report : Report) (line reason frames : ℕ) (now whole : Text) (got : List Given) (old new : List ℕ)
+pub refused_at : (files : List (List ℕ)) (crowd : Option (List Simulated)) (report : Report) (line reason frames : ℕ) (now whole : Text) (got : List Given) (old new : List ℕ)
     → report ≡ record { status = statuses.ScenarioRefused; file = 0; line = line; reason = reason; frames = frames } → refused_read files got ≡ None
-    → reading whole ≡ reading now → got ≡ (reading now).items → answers.Bad line reason ≡ answer_at_end (reading now).ending → frames ≡ length (frames_of got) → new ≡ old ++ log_in files got
-    → Outcome report files whole old new
-refused_at files report line reason frames now whole got old new is given same all bad number written =
-    rw is (refl, refused_whole files got (reading now) (reading whole) same all given, ap (λ (r : Reading). answer_at_end r.ending) same ∙ sym bad, whole_log files frames got (reading now) (reading whole) old new same all number written)
+    → reading whole ≡ reading now → got ≡ (reading now).items → answers.Bad line reason ≡ answer_at_end (reading now).ending → frames ≡ length (frames_of got) → new ≡ old ++ log_in files crowd got
+    → Outcome report files crowd whole old new
+refused_at files crowd report line reason frames now whole got old new is given same all bad number written =
+    rw is (refl, refused_whole files got (reading now) (reading whole) same all given, ap (λ (r : Reading). answer_at_end r.ending) same ∙ sym bad, whole_log files crowd frames got (reading now) (reading whole) old new same all number written)
 
 -- the next frame can be run
-pub runs_next : (files : List (List ℕ)) (bench : Bench) (got : List Given) (earlier later : List Frame) (f : Frame) → Follows bench (setup_of files got) earlier later → frames_of got ≡ earlier ++ later
+pub runs_next : (files : List (List ℕ)) (crowd : Option (List Simulated)) (bench : Bench) (got : List Given) (earlier later : List Frame) (f : Frame) → Follows bench (setup_of files got) earlier later → frames_in files crowd got ≡ earlier ++ later
     → CanRun (setup_of files got) (frames_of got) f → (setup : Setup) × (earlier : List Frame) × (later : List Frame) × Follows bench setup earlier later × CanRun setup (earlier ++ later) f
-runs_next files bench got earlier later f follows are can = (setup_of files got, earlier, later, follows, subst (λ (frames : List Frame). CanRun (setup_of files got) frames f) are can)
+unfolding frames_in
+runs_next files crowd bench got earlier later f follows are can =
+    (setup_of files got, earlier, later, follows, subst (λ (frames : List Frame). CanRun (setup_of files got) frames f) are (can_run_beside (setup_of files got) crowd (frames_of got) f can))

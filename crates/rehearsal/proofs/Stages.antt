@@ -4,21 +4,23 @@ use Rattle.std.specs.Prelude.{None, ◌⊎◌}
 use Rattle.fsw_outside.specs.Told.{WhereTold}
 use Rattle.fsw_outside.specs.Files.{Content, file_named}
 use Rattle.scenario.specs.Texts.{Text}
+use Rattle.subjects.specs.Plans.{Simulated}
 use Rattle.rehearsal.specs.declared.report.Report.{Report}
 use Rattle.rehearsal.specs.declared.report.Status.{Status}
 use Rattle.rehearsal.specs.declared.report.Status.TheVariants as statuses
 use Rattle.frame_exec.specs.Tables.{tables_fault}
 use Rattle.frame_exec.specs.declared.loading.TablesFault.{TablesFault}
 use Rattle.rehearsal.specs.Words.{Asked, drill_in, file_unless, words_to_open}
+use Rattle.rehearsal.specs.Beside.{crowd_for}
 use Rattle.rehearsal.specs.Files.{AsksFor, OpensOnce, AreTaken, EndsAtFile}
 use Rattle.rehearsal.specs.Outcome.{IsText, ReadsAhead, Outcome, DrillOutcome, Seen, WritesNothing, RunsBy, Rehearses, MayAskNothing}
 use Rattle.rehearsal.proofs.Gathered.{asks_none, asks_front, asks_all}
 use Rattle.rehearsal.proofs.Beginnings.{text_by}
 
 -- memory ran out before a file was asked for
-pub runs_out : (asked : Asked) (report : Report) (seen : Seen) (content : Content) → report ≡ record { status = statuses.NoMemory; file = 0; line = 0; reason = 0; frames = 0 } → WritesNothing seen
-    → Rehearses report asked seen content content
-runs_out asked report seen content is unwritten = rw is (inl (record {
+pub runs_out : (asked : Asked) (crowd : Option (List Simulated)) (report : Report) (seen : Seen) (content : Content) → report ≡ record { status = statuses.NoMemory; file = 0; line = 0; reason = 0; frames = 0 } → WritesNothing seen
+    → Rehearses report asked crowd seen content content
+runs_out asked crowd report seen content is unwritten = rw is (inl (record {
   count = 0;
   asked = asks_none (words_to_open asked) [] content refl;
   ends = record { file = refl; line = refl; reason = refl; frames = refl };
@@ -53,10 +55,10 @@ opens_all asked names name before middle after plain is named asks opens =
     subst (λ (words : List (List ℕ)). AsksFor words (length asked.files + 1) before after) (sym (named_words asked plain)) (asks_all asked.files asked.scenario before middle after (rw (← is) asks) (rw (← named) opens))
 
 -- the rehearsal ended at a FILE
-pub ends_before : (asked : Asked) (names : List (List ℕ)) (count : ℕ) (report : Report) (seen : Seen) (before after : Content) → names ≡ asked.files → AsksFor names count before after
-    → EndsAtFile report before.files names count seen.is_open after.rest → WritesNothing seen → Rehearses report asked seen before after
+pub ends_before : (asked : Asked) (crowd : Option (List Simulated)) (names : List (List ℕ)) (count : ℕ) (report : Report) (seen : Seen) (before after : Content) → names ≡ asked.files → AsksFor names count before after
+    → EndsAtFile report before.files names count seen.is_open after.rest → WritesNothing seen → Rehearses report asked crowd seen before after
 unfolding words_to_open
-ends_before asked names count report seen before after is asks ends unwritten =
+ends_before asked crowd names count report seen before after is asks ends unwritten =
     inl (record { count = count; asked = asks_front asked.files (behind_files asked) count before after (rw (← is) asks); ends = rw (← is) ends; unwritten = unwritten })
 
 -- the report of a table that wasn't loaded
@@ -64,11 +66,11 @@ abbrev pub with_reason : TablesFault → ℕ → Report
 with_reason fault reason = record { status = statuses.FileRefused; file = fault.file; line = fault.entry; reason = reason; frames = 0 }
 
 -- all FILEs were taken, and a table wasn't loaded
-pub ends_at_tables : (asked : Asked) (names : List (List ℕ)) (report : Report) (fault : TablesFault) (files : List (List ℕ)) (seen : Seen) (before after : Content) → names ≡ asked.files → 0 < length names
+pub ends_at_tables : (asked : Asked) (crowd : Option (List Simulated)) (names : List (List ℕ)) (report : Report) (fault : TablesFault) (files : List (List ℕ)) (seen : Seen) (before after : Content) → names ≡ asked.files → 0 < length names
     → report ≡ with_reason fault (fault.reason + 10) → tables_fault files ≡ Some fault
-    → AsksFor names (length names) before after → AreTaken before.files names files → (0 < length names → after.rest ≡ []) → WritesNothing seen → Rehearses report asked seen before after
+    → AsksFor names (length names) before after → AreTaken before.files names files → (0 < length names → after.rest ≡ []) → WritesNothing seen → Rehearses report asked crowd seen before after
 unfolding words_to_open
-ends_at_tables asked names report fault files seen before after is some refused fails asks taken read unwritten = inr (inl (record {
+ends_at_tables asked crowd names report fault files seen before after is some refused fails asks taken read unwritten = inr (inl (record {
   some = rw (← is) some;
   asked = asks_front asked.files (behind_files asked) (length asked.files) before after (rw (← is) asks);
   read = read some;
@@ -79,11 +81,11 @@ ends_at_tables asked names report fault files seen before after is some refused 
 }))
 
 -- all FILEs were taken, and the scenario was asked for
-pub reads_scenario : (asked : Asked) (names : List (List ℕ)) (report : Report) (name : List ℕ) (files : List (List ℕ)) (seen : Seen) (between : ℕ) (before middle after : Content) → drill_in asked.scenario ≡ None → names ≡ asked.files → between ≡ seen.faults_before
+pub reads_scenario : (asked : Asked) (crowd : Option (List Simulated)) (names : List (List ℕ)) (report : Report) (name : List ℕ) (files : List (List ℕ)) (seen : Seen) (between : ℕ) (before middle after : Content) → drill_in asked.scenario ≡ None → names ≡ asked.files → between ≡ seen.faults_before
     → name ≡ asked.scenario → AsksFor names (length names) before middle → AreTaken before.files names files → tables_fault files ≡ None → OpensOnce name middle after
-    → (text : Text) × IsText seen.is_open between seen.faults_now (file_named middle.files name) after.rest text × ReadsAhead report text × WhereTold seen.held_before seen.held_now (Outcome report files text)
-    → Rehearses report asked seen before after
-reads_scenario asked names report name files seen between before middle after plain is same named asks taken loaded opens reads = inr (inr (subst (λ (d : Option ℕ). RunsBy d report asked seen before after) (sym plain) (record {
+    → (text : Text) × IsText seen.is_open between seen.faults_now (file_named middle.files name) after.rest text × ReadsAhead report text × WhereTold seen.held_before seen.held_now (Outcome report files crowd text)
+    → Rehearses report asked crowd seen before after
+reads_scenario asked crowd names report name files seen between before middle after plain is same named asks taken loaded opens reads = inr (inr (subst (λ (d : Option ℕ). RunsBy d report asked crowd seen before after) (sym plain) (record {
   asked = opens_all asked names name before middle after plain is named asks opens;
   files = files;
   taken = rw (← is) taken;
@@ -95,11 +97,11 @@ reads_scenario asked names report name files seen between before middle after pl
 })))
 
 -- all FILEs were taken, and the generated scenario was run
-pub runs_drill : (asked : Asked) (names : List (List ℕ)) (report : Report) (k : ℕ) (files : List (List ℕ)) (seen : Seen) (before after : Content) → drill_in asked.scenario ≡ Some k → names ≡ asked.files
+pub runs_drill : (asked : Asked) (crowd : Option (List Simulated)) (names : List (List ℕ)) (report : Report) (k : ℕ) (files : List (List ℕ)) (seen : Seen) (before after : Content) → drill_in asked.scenario ≡ Some k → names ≡ asked.files
     → AsksFor names (length names) before after → AreTaken before.files names files → (0 < length names → after.rest ≡ []) → tables_fault files ≡ None → (report.status ≡ statuses.ReadFailed → ⊥) × (report.status ≡ statuses.ScenarioRefused → ⊥)
-    → WhereTold seen.held_before seen.held_now (DrillOutcome report files k) → Rehearses report asked seen before after
+    → WhereTold seen.held_before seen.held_now (DrillOutcome report files crowd k) → Rehearses report asked crowd seen before after
 unfolding words_to_open
-runs_drill asked names report k files seen before after drilled is asks taken read loaded well outcome = inr (inr (subst (λ (d : Option ℕ). RunsBy d report asked seen before after) (sym drilled) (record {
+runs_drill asked crowd names report k files seen before after drilled is asks taken read loaded well outcome = inr (inr (subst (λ (d : Option ℕ). RunsBy d report asked crowd seen before after) (sym drilled) (record {
   asked = asks_front asked.files (behind_files asked) (length asked.files) before after (rw (← is) asks);
   read = rw (← is) read;
   files = files;
@@ -116,9 +118,15 @@ asked_once words plan asked by is = same_some plan asked (sym by ∙ is)
     same_some : (a b : Asked) → Some a ≡ Some b → a ≡ b
     same_some a b same = cc
 
+-- so is the crowd that they ask for
+pub beside_as : (plan asked : Asked) (subjects : List Simulated) (crowd : Option (List Simulated)) → plan ≡ asked → crowd ≡ crowd_for plan.subjects subjects → crowd ≡ crowd_for asked.subjects subjects
+beside_as plan asked subjects crowd same is = is ∙ ap (λ (a : Asked). crowd_for a.subjects subjects) same
+
 -- and what it comes to
-pub rehearses_as : (report : Report) (plan asked : Asked) (seen : Seen) (before after : Content) → plan ≡ asked → Rehearses report plan seen before after → Rehearses report asked seen before after
-rehearses_as report plan asked seen before after same rehearses = subst (λ (a : Asked). Rehearses report a seen before after) same rehearses
+pub rehearses_as : (report : Report) (plan asked : Asked) (crowd beside : Option (List Simulated)) (seen : Seen) (before after : Content) → plan ≡ asked → crowd ≡ beside
+    → Rehearses report plan crowd seen before after → Rehearses report asked beside seen before after
+rehearses_as report plan asked crowd beside seen before after same is rehearses =
+    subst (λ (c : Option (List Simulated)). Rehearses report asked c seen before after) is (subst (λ (a : Asked). Rehearses report a crowd seen before after) same rehearses)
 
 -- what holds of accepted words holds of the words asked for
 pub asks_nothing : {A : Type 0} (P : Type 0) (now old : A) (status : Status) (plan asked : Asked) → plan ≡ asked → P ⊎ ((now ≡ old) × (words_to_open plan ≡ [])) → P ⊎ ((now ≡ old) × MayAskNothing status asked)

@@ -1,7 +1,8 @@
 -- The lines of the headline's list, as conditions on the words, the files, the text and the counts of faults.
-use Rattle.std.specs.Prelude.{◌≡◌, ◌≢◌, ℕ, ◌+◌, ◌<◌, ◌≤◌, List, length, map, take, Some, None}
+use Rattle.std.specs.Prelude.{◌≡◌, ◌≢◌, ℕ, ◌+◌, ◌<◌, ◌≤◌, List, length, map, take, Option, Some, None}
 use Rattle.fsw_outside.specs.Files.{Content, file_named}
 use Rattle.scenario.specs.Texts.{Text}
+use Rattle.subjects.specs.Plans.{Simulated}
 use Rattle.frame_exec.specs.Tables.{tables_fault}
 use Rattle.rehearsal.specs.Words.{Asked, drill_in}
 use Rattle.rehearsal.specs.Files.{Refusal, first_refusal, AreTaken}
@@ -9,10 +10,10 @@ use Rattle.rehearsal.specs.Outcome.{IsText, Seen, Rehearses}
 use Rattle.rehearsal.specs.declared.report.Report.{Report}
 use Rattle.rehearsal.specs.declared.report.Status.TheVariants as statuses
 
--- A rehearsal of accepted words over a shelf and an output that tell, with the output's counts of faults before and now: its report,
--- and which of the two failed.
-pub record Rehearsed (report : Report) (asked : Asked) (seen : Seen) (wrote_before wrote_now : ℕ) (before after : Content) : Type 0 where
-  pub rehearses : Rehearses report asked seen before after
+-- A rehearsal of accepted words beside a crowd, if there is one, over a shelf and an output that tell, with the output's counts of faults
+-- before and now: its report, and which of the two failed.
+pub record Rehearsed (report : Report) (asked : Asked) (crowd : Option (List Simulated)) (seen : Seen) (wrote_before wrote_now : ℕ) (before after : Content) : Type 0 where
+  pub rehearses : Rehearses report asked crowd seen before after
   pub read_failed : report.status ≡ statuses.ReadFailed → seen.faults_before < seen.faults_now
   pub read_well : report.status ≢ statuses.ReadFailed → seen.faults_now ≡ seen.faults_before
   pub write_failed : report.status ≡ statuses.WriteFailed → wrote_before < wrote_now

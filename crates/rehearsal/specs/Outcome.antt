@@ -10,10 +10,12 @@ use Rattle.packet_log.specs.Summaries.{summary_text}
 use Rattle.scenario.specs.Drill.{drill_text}
 use Rattle.scenario.specs.declared.item.Item.TheVariants as answers
 use Rattle.scenario.specs.FrameLists.{Frame}
+use Rattle.subjects.specs.Plans.{Simulated}
 use Rattle.scenario.specs.declared.reason.Reason.{Reason}
 use Rattle.scenario.specs.Texts.{Text, Given, Head, Whole, Reading, Bad, Ended, Open, reading}
 use Rattle.scenario.specs.Answers.{answer_at_end}
 use Rattle.frame_exec.specs.Runs.{Setup, frame_lines, log_of}
+use Rattle.frame_exec.specs.Crowds.{frames_run}
 use Rattle.frame_exec.specs.Tables.{tables_fault, region_fault}
 use Rattle.frame_exec.specs.declared.loading.TablesFault.{TablesFault}
 use Rattle.frame_exec.specs.declared.giving.OpenFault.{OpenFault}
@@ -45,9 +47,14 @@ refused_read files [] = None
 refused_read files (Head epoch regions ∷ items) = region_fault regions files
 refused_read files (Whole frame ∷ items) = None
 
--- the log of the frames of a text, with the tables of these files
-unfoldable pub log_in : List (List ℕ) → List Given → List ℕ
-log_in files items = log_of (setup_of files items) (frames_of items)
+-- the frames of a text as they are run with the tables of these files, beside these subjects where there is a crowd: it gives their
+-- execution counters
+unfoldable pub frames_in : List (List ℕ) → Option (List Simulated) → List Given → List Frame
+frames_in files crowd items = frames_run (setup_of files items) crowd (frames_of items)
+
+-- the log of those frames
+unfoldable pub log_in : List (List ℕ) → Option (List Simulated) → List Given → List ℕ
+log_in files crowd items = log_of (setup_of files items) (frames_in files crowd items)
 
 -- The bytes of the scenario's file that were handed out: the file less the rest of the open one, and nothing where none is open.
 -- The text is closed where that rest is empty and no fault came.
@@ -63,16 +70,16 @@ pub record IsTextOf (faults_before faults_now : ℕ) (start after : Content) (te
   pub closed : text.closed ≡ ((length after.rest == 0) && (faults_now == faults_before))
 
 -- the whole log was written
-pub record IsWhole (frames : ℕ) (files : List (List ℕ)) (read : Reading) (old new : List ℕ) : Type 0 where
+pub record IsWhole (frames : ℕ) (files : List (List ℕ)) (crowd : Option (List Simulated)) (read : Reading) (old new : List ℕ) : Type 0 where
   pub number : frames ≡ length (frames_of read.items)
-  pub written : new ≡ old ++ log_in files read.items
+  pub written : new ≡ old ++ log_in files crowd read.items
 
 -- the log of the first frames was written, and a proper first part of the next frame's lines
-pub record IsCut (frames : ℕ) (files : List (List ℕ)) (read : Reading) (old new : List ℕ) : Type 0 where
+pub record IsCut (frames : ℕ) (files : List (List ℕ)) (crowd : Option (List Simulated)) (read : Reading) (old new : List ℕ) : Type 0 where
   pub front : List Frame
   pub frame : Frame
   pub more : List Frame
-  pub parts : frames_of read.items ≡ front ++ frame ∷ more
+  pub parts : frames_in files crowd read.items ≡ front ++ frame ∷ more
   pub number : frames ≡ length front
   pub written : AppendsPart (frame_lines (setup_of files read.items) front frame) (old ++ log_of (setup_of files read.items) front) new
 
@@ -111,51 +118,52 @@ fault_report faults.NoMemory = record { status = statuses.NoMemory; file = 0; li
 abbrev pub GivesReads : List (List ℕ) → Reading → Type 0
 GivesReads files read = refused_read files read.items ≡ None
 
--- what each status says of a text and of the bytes of the output, once the words are accepted, the FILEs were taken and their tables loaded
-abbrev pub OutcomeOf : Status → Report → List (List ℕ) → Reading → List ℕ → List ℕ → Type 0
-OutcomeOf statuses.Done report files read old new = HasNoPlace report × GivesReads files read × (read.ending ≡ Ended) × IsWhole report.frames files read old new
-OutcomeOf statuses.WordsRefused report files read old new = ⊥
-OutcomeOf statuses.FileRefused report files read old new = RefusesRead report files read × (new ≡ old)
-OutcomeOf statuses.ScenarioRefused report files read old new = (report.file ≡ 0) × GivesReads files read × IsRefusedAt read report.line report.reason × IsWhole report.frames files read old new
-OutcomeOf statuses.ReadFailed report files read old new = HasNoPlace report × GivesReads files read × (read.ending ≡ Open) × IsWhole report.frames files read old new
-OutcomeOf statuses.WriteFailed report files read old new = HasNoPlace report × GivesReads files read × IsCut report.frames files read old new
-OutcomeOf statuses.NoMemory report files read old new = HasNoPlace report × (report.frames ≡ 0) × (new ≡ old)
+-- what each status says of a text that is run beside a crowd, if there is one, and of the bytes of the output, once the words are accepted, the
+-- FILEs were taken and their tables loaded
+abbrev pub OutcomeOf : Status → Report → List (List ℕ) → Option (List Simulated) → Reading → List ℕ → List ℕ → Type 0
+OutcomeOf statuses.Done report files crowd read old new = HasNoPlace report × GivesReads files read × (read.ending ≡ Ended) × IsWhole report.frames files crowd read old new
+OutcomeOf statuses.WordsRefused report files crowd read old new = ⊥
+OutcomeOf statuses.FileRefused report files crowd read old new = RefusesRead report files read × (new ≡ old)
+OutcomeOf statuses.ScenarioRefused report files crowd read old new = (report.file ≡ 0) × GivesReads files read × IsRefusedAt read report.line report.reason × IsWhole report.frames files crowd read old new
+OutcomeOf statuses.ReadFailed report files crowd read old new = HasNoPlace report × GivesReads files read × (read.ending ≡ Open) × IsWhole report.frames files crowd read old new
+OutcomeOf statuses.WriteFailed report files crowd read old new = HasNoPlace report × GivesReads files read × IsCut report.frames files crowd read old new
+OutcomeOf statuses.NoMemory report files crowd read old new = HasNoPlace report × (report.frames ≡ 0) × (new ≡ old)
 
--- what a report says of the files that were taken, of a text, and of the bytes of the output
-abbrev pub Outcome : Report → List (List ℕ) → Text → List ℕ → List ℕ → Type 0
-Outcome report files text old new = OutcomeOf report.status report files (reading text) old new
+-- what a report says of the files that were taken, of a text that is run beside a crowd, if there is one, and of the bytes of the output
+abbrev pub Outcome : Report → List (List ℕ) → Option (List Simulated) → Text → List ℕ → List ℕ → Type 0
+Outcome report files crowd text old new = OutcomeOf report.status report files crowd (reading text) old new
 
 -- the whole text of the generated scenario that is drawn from k
 abbrev pub drill_of : ℕ → Text
 drill_of k = record { bytes = drill_text k; closed = true }
 
 -- the summary of the log of 2,000 frames, which a generated scenario has
-unfoldable pub summary_in : List (List ℕ) → List Given → List ℕ
-summary_in files items = summary_text 2000 (tally_of (log_in files items))
+unfoldable pub summary_in : List (List ℕ) → Option (List Simulated) → List Given → List ℕ
+summary_in files crowd items = summary_text 2000 (tally_of (log_in files crowd items))
 
 -- all frames were run, and the summary was written in place of their log
-pub record IsSummed (frames : ℕ) (files : List (List ℕ)) (read : Reading) (old new : List ℕ) : Type 0 where
+pub record IsSummed (frames : ℕ) (files : List (List ℕ)) (crowd : Option (List Simulated)) (read : Reading) (old new : List ℕ) : Type 0 where
   pub number : frames ≡ 2000
-  pub written : new ≡ old ++ summary_in files read.items
+  pub written : new ≡ old ++ summary_in files crowd read.items
 
 -- all frames were run, and a proper first part of the summary was written
-pub record IsCutSummary (frames : ℕ) (files : List (List ℕ)) (read : Reading) (old new : List ℕ) : Type 0 where
+pub record IsCutSummary (frames : ℕ) (files : List (List ℕ)) (crowd : Option (List Simulated)) (read : Reading) (old new : List ℕ) : Type 0 where
   pub number : frames ≡ 2000
-  pub written : AppendsPart (summary_in files read.items) old new
+  pub written : AppendsPart (summary_in files crowd read.items) old new
 
 -- what each status says of the text of a generated scenario, which always ends well, and of the bytes of the output; no read of that text fails
-abbrev pub DrillOutcomeOf : Status → Report → List (List ℕ) → Reading → List ℕ → List ℕ → Type 0
-DrillOutcomeOf statuses.Done report files read old new = HasNoPlace report × GivesReads files read × IsSummed report.frames files read old new
-DrillOutcomeOf statuses.WordsRefused report files read old new = ⊥
-DrillOutcomeOf statuses.FileRefused report files read old new = RefusesRead report files read × (new ≡ old)
-DrillOutcomeOf statuses.ScenarioRefused report files read old new = ⊥
-DrillOutcomeOf statuses.ReadFailed report files read old new = ⊥
-DrillOutcomeOf statuses.WriteFailed report files read old new = HasNoPlace report × GivesReads files read × IsCutSummary report.frames files read old new
-DrillOutcomeOf statuses.NoMemory report files read old new = HasNoPlace report × (report.frames ≡ 0) × (new ≡ old)
+abbrev pub DrillOutcomeOf : Status → Report → List (List ℕ) → Option (List Simulated) → Reading → List ℕ → List ℕ → Type 0
+DrillOutcomeOf statuses.Done report files crowd read old new = HasNoPlace report × GivesReads files read × IsSummed report.frames files crowd read old new
+DrillOutcomeOf statuses.WordsRefused report files crowd read old new = ⊥
+DrillOutcomeOf statuses.FileRefused report files crowd read old new = RefusesRead report files read × (new ≡ old)
+DrillOutcomeOf statuses.ScenarioRefused report files crowd read old new = ⊥
+DrillOutcomeOf statuses.ReadFailed report files crowd read old new = ⊥
+DrillOutcomeOf statuses.WriteFailed report files crowd read old new = HasNoPlace report × GivesReads files read × IsCutSummary report.frames files crowd read old new
+DrillOutcomeOf statuses.NoMemory report files crowd read old new = HasNoPlace report × (report.frames ≡ 0) × (new ≡ old)
 
 -- what a report says of the files that were taken, of the generated scenario that is drawn from k, and of the bytes of the output
-abbrev pub DrillOutcome : Report → List (List ℕ) → ℕ → List ℕ → List ℕ → Type 0
-DrillOutcome report files k old new = DrillOutcomeOf report.status report files (reading (drill_of k)) old new
+abbrev pub DrillOutcome : Report → List (List ℕ) → Option (List Simulated) → ℕ → List ℕ → List ℕ → Type 0
+DrillOutcome report files crowd k old new = DrillOutcomeOf report.status report files crowd (reading (drill_of k)) old new
 
 -- How far reading went ahead: where the output failed, at most 4,096 bytes past the end of the `tick` line of the frame whose lines were cut,
 -- where a line is bad, at most 4,096 bytes past the end of that line, and where a read is refused or memory ran out, at most as many past the header's end.
@@ -210,8 +218,9 @@ pub record EndsAtTables (report : Report) (asked_for : Asked) (seen : Seen) (bef
   pub refuses : RefusesEntry report files
   pub unwritten : WritesNothing seen
 
--- All FILEs were taken, their tables loaded, and the scenario was asked for, of whose file this text was handed out.
-pub record ReadsScenario (report : Report) (asked_for : Asked) (seen : Seen) (before after : Content) : Type 0 where
+-- All FILEs were taken, their tables loaded, and the scenario was asked for, of whose file this text was handed out and run beside a crowd, if
+-- there is one.
+pub record ReadsScenario (report : Report) (asked_for : Asked) (crowd : Option (List Simulated)) (seen : Seen) (before after : Content) : Type 0 where
   pub asked : AsksFor (words_to_open asked_for) (length asked_for.files + 1) before after
   pub files : List (List ℕ)
   pub taken : AreTaken before.files asked_for.files files
@@ -219,36 +228,37 @@ pub record ReadsScenario (report : Report) (asked_for : Asked) (seen : Seen) (be
   pub text : Text
   pub is_text : IsText seen.is_open seen.faults_before seen.faults_now (file_named before.files asked_for.scenario) after.rest text
   pub ahead : ReadsAhead report text
-  pub outcome : WhereTold seen.held_before seen.held_now (Outcome report files text)
+  pub outcome : WhereTold seen.held_before seen.held_now (Outcome report files crowd text)
 
 -- All FILEs were taken and their tables loaded, the scenario is generated, and the shelf was asked for nothing else.
-pub record RunsDrill (k : ℕ) (report : Report) (asked_for : Asked) (seen : Seen) (before after : Content) : Type 0 where
+pub record RunsDrill (k : ℕ) (report : Report) (asked_for : Asked) (crowd : Option (List Simulated)) (seen : Seen) (before after : Content) : Type 0 where
   pub asked : AsksFor (words_to_open asked_for) (length asked_for.files) before after
   pub read : 0 < length asked_for.files → after.rest ≡ []
   pub files : List (List ℕ)
   pub taken : AreTaken before.files asked_for.files files
   pub loaded : tables_fault files ≡ None
   pub well : (report.status ≢ statuses.ReadFailed) × (report.status ≢ statuses.ScenarioRefused)
-  pub outcome : WhereTold seen.held_before seen.held_now (DrillOutcome report files k)
+  pub outcome : WhereTold seen.held_before seen.held_now (DrillOutcome report files crowd k)
 
 -- the scenario is read from its file, or it is generated
-abbrev pub RunsBy : Option ℕ → Report → Asked → Seen → Content → Content → Type 0
-RunsBy None report asked seen before after = ReadsScenario report asked seen before after
-RunsBy (Some k) report asked seen before after = RunsDrill k report asked seen before after
+abbrev pub RunsBy : Option ℕ → Report → Asked → Option (List Simulated) → Seen → Content → Content → Type 0
+RunsBy None report asked crowd seen before after = ReadsScenario report asked crowd seen before after
+RunsBy (Some k) report asked crowd seen before after = RunsDrill k report asked crowd seen before after
 
--- what a rehearsal comes to, by what its words ask for, what was seen of the outside, and what the shelf told before and after
-abbrev pub Rehearses : Report → Asked → Seen → Content → Content → Type 0
-Rehearses report asked seen before after = EndsBefore report asked seen before after ⊎ EndsAtTables report asked seen before after ⊎ RunsBy (drill_in asked.scenario) report asked seen before after
+-- what a rehearsal comes to, by what its words ask for, the crowd beside which it runs, if there is one, what was seen of the outside, and what the shelf told before and after
+abbrev pub Rehearses : Report → Asked → Option (List Simulated) → Seen → Content → Content → Type 0
+Rehearses report asked crowd seen before after =
+    EndsBefore report asked seen before after ⊎ EndsAtTables report asked seen before after ⊎ RunsBy (drill_in asked.scenario) report asked crowd seen before after
 
 -- the whole log of a text was written, or memory ran out before the first frame
-abbrev pub Completes : Report → List (List ℕ) → Text → List ℕ → List ℕ → Type 0
-Completes report files text old new =
-    ((report.status ≡ statuses.Done) × IsWhole report.frames files (reading text) old new) ⊎ ((report.status ≡ statuses.NoMemory) × (report.frames ≡ 0) × (new ≡ old))
+abbrev pub Completes : Report → List (List ℕ) → Option (List Simulated) → Text → List ℕ → List ℕ → Type 0
+Completes report files crowd text old new =
+    ((report.status ≡ statuses.Done) × IsWhole report.frames files crowd (reading text) old new) ⊎ ((report.status ≡ statuses.NoMemory) × (report.frames ≡ 0) × (new ≡ old))
 
 -- the summary of the whole log of a generated scenario was written, or memory ran out before the first frame
-abbrev pub SumsUp : Report → List (List ℕ) → ℕ → List ℕ → List ℕ → Type 0
-SumsUp report files k old new =
-    ((report.status ≡ statuses.Done) × IsSummed report.frames files (reading (drill_of k)) old new) ⊎ ((report.status ≡ statuses.NoMemory) × (report.frames ≡ 0) × (new ≡ old))
+abbrev pub SumsUp : Report → List (List ℕ) → Option (List Simulated) → ℕ → List ℕ → List ℕ → Type 0
+SumsUp report files crowd k old new =
+    ((report.status ≡ statuses.Done) × IsSummed report.frames files crowd (reading (drill_of k)) old new) ⊎ ((report.status ≡ statuses.NoMemory) × (report.frames ≡ 0) × (new ≡ old))
 
 -- there was no word to open, or memory ran out before the first
 abbrev pub MayAskNothing : Status → Asked → Type 0

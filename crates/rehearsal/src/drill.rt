@@ -7,6 +7,7 @@ ghost use Rattle.fsw_outside.specs.Tally.{tally_of};
 ghost use Rattle.packet_log.specs.Summaries.{summary_text};
 ghost use Rattle.packet_log.specs.Logged.{logged};
 ghost use Rattle.frame_exec.specs.Tables.{AreLoaded};
+ghost use Rattle.rehearsal.specs.Beside.{crowd_in};
 ghost use Rattle.rehearsal.specs.Outcome.{DrillOutcome};
 ghost use Rattle.rehearsal.specs.Run.{failed_at, Sums};
 
@@ -19,6 +20,7 @@ use packet_log::{Summary, put_text};
 use scenario::Drill;
 use std::alloc::Global;
 use std::thread::Threads;
+use subjects::{Crowd, Subject};
 use table_files::Files;
 
 /// The text of a generated scenario, as what is still to come of it.
@@ -58,14 +60,16 @@ fn write_summary<O: Sink>(summary: &Summary, out: &mut O, report: Report) -> Rep
     }
 }
 
-/// Runs the generated scenario of this number, which is at most 999,999, with these tables. The summary of its log is
-/// written behind the last frame, and nothing else is. Its text ends well and no read of it fails.
-pub fn run_drill<'f, R: Threads + Sync, O: Sink, G: Gate>(
+/// Runs the generated scenario of this number, which is at most 999,999, with these tables, beside the crowd where there is
+/// one. The summary of its log is written behind the last frame, and nothing else is. Its text ends well and no read of it
+/// fails.
+pub fn run_drill<'f, R: Threads + Sync, C: Subject + Send, O: Sink, G: Gate>(
     rt: &R,
     alloc: Global,
     workers: u32,
     tables: Tables<'f>,
     files: &'f Files,
+    crowd: &mut Option<Crowd<C>>,
     k: u32,
     out: &mut O,
     gate: &G,
@@ -73,7 +77,7 @@ pub fn run_drill<'f, R: Threads + Sync, O: Sink, G: Gate>(
     requires workers { (1 ≤ workers) × (workers ≤ 16) }
     requires loaded { AreLoaded files.now tables }
     requires number { k ≤ 999999 }
-    ensures outcome { WhereTold (O.held out.old) (O.held out.new) (DrillOutcome result files.now k) }
+    ensures outcome { WhereTold (O.held out.old) (O.held out.new) (DrillOutcome result files.now (crowd_in C.seen crowd.old) k) }
     ensures well { (result.status ≢ Status.WordsRefused) × (result.status ≢ Status.ReadFailed) × (result.status ≢ Status.ScenarioRefused) }
     ensures file_refused { result.status ≡ Status.FileRefused → out.new ≡ out.old }
     ensures no_memory { result.status ≡ Status.NoMemory → (out.new ≡ out.old) × (result.frames ≡ 0) }
@@ -90,6 +94,7 @@ pub fn run_drill<'f, R: Threads + Sync, O: Sink, G: Gate>(
         workers,
         tables,
         files,
+        crowd,
         &mut text,
         &mut summary,
         gate,

@@ -3,6 +3,7 @@
 ghost use Rattle.std.specs.Prelude.{◌≡◌, ◌≢◌, ℕ, ◌+◌, ◌<◌, true, false, List, [], ◌∷◌, Option, Some, None, IsSome, codes};
 ghost use Rattle.fsw_outside.specs.Files.{Content};
 ghost use Rattle.scenario.specs.Texts.{Text, Ended, Open, reading};
+ghost use Rattle.subjects.specs.Plans.{Simulated};
 ghost use Rattle.frame_exec.specs.Tables.{tables_fault};
 ghost use Rattle.frame_exec.specs.declared.loading.TablesFault.{TablesFault};
 ghost use Rattle.rehearsal.specs.Words.{Asked, drill_in, accepted_words};
@@ -14,63 +15,63 @@ ghost use Rattle.rehearsal.specs.declared.report.Status.TheVariants as statuses;
 
 /// What `vigil`'s clauses outcome and causes say of accepted words is `Rehearsed`, where both objects tell.
 pub fn rehearsals_are_told()
-    ensures { (report : Report) (asked : Asked) (seen : Seen) (wrote_before wrote_now : ℕ) (told : Option Content) (held : Option (List ℕ)) (before after : Content)
-        → Rehearses report asked seen before after → HasCauses report.status told seen.faults_before seen.faults_now held wrote_before wrote_now → IsSome told → IsSome held
-        → Rehearsed report asked seen wrote_before wrote_now before after }
+    ensures { (report : Report) (asked : Asked) (crowd : Option (List Simulated)) (seen : Seen) (wrote_before wrote_now : ℕ) (told : Option Content) (held : Option (List ℕ)) (before after : Content)
+        → Rehearses report asked crowd seen before after → HasCauses report.status told seen.faults_before seen.faults_now held wrote_before wrote_now → IsSome told → IsSome held
+        → Rehearsed report asked crowd seen wrote_before wrote_now before after }
 {}
 
 /// The first line of this list that holds decides how a rehearsal of accepted words ends over a shelf and an output that
 /// tell, unless memory ran out: from each line's condition to the report. Words that aren't accepted are refused by `vigil`'s own clause.
 pub fn first_line_decides()
     // The shelf failed on a FILE.
-    ensures unread { (report : Report) (asked : Asked) (seen : Seen) (wrote_before wrote_now : ℕ) (before after : Content) (file : ℕ)
-        → Rehearsed report asked seen wrote_before wrote_now before after → FailsOn file asked seen before after
+    ensures unread { (report : Report) (asked : Asked) (crowd : Option (List Simulated)) (seen : Seen) (wrote_before wrote_now : ℕ) (before after : Content) (file : ℕ)
+        → Rehearsed report asked crowd seen wrote_before wrote_now before after → FailsOn file asked seen before after
         → (report.status ≡ statuses.ReadFailed) × (report.file ≡ file) }
 
     // A FILE is too long, isn't in order, or its table was there.
-    ensures refused { (report : Report) (asked : Asked) (seen : Seen) (wrote_before wrote_now : ℕ) (before after : Content) (refusal : Refusal)
-        → Rehearsed report asked seen wrote_before wrote_now before after → report.status ≢ statuses.NoMemory → Refuses refusal asked seen before
+    ensures refused { (report : Report) (asked : Asked) (crowd : Option (List Simulated)) (seen : Seen) (wrote_before wrote_now : ℕ) (before after : Content) (refusal : Refusal)
+        → Rehearsed report asked crowd seen wrote_before wrote_now before after → report.status ≢ statuses.NoMemory → Refuses refusal asked seen before
         → (report.status ≡ statuses.FileRefused) × (report.file ≡ refusal.file) × (report.line ≡ 0) × (report.reason ≡ refusal.reason) }
 
     // An entry of a table isn't in order.
-    ensures faulty { (report : Report) (asked : Asked) (seen : Seen) (wrote_before wrote_now : ℕ) (before after : Content) (files : List (List ℕ)) (fault : TablesFault)
-        → Rehearsed report asked seen wrote_before wrote_now before after → report.status ≢ statuses.NoMemory → seen.faults_now ≡ seen.faults_before
+    ensures faulty { (report : Report) (asked : Asked) (crowd : Option (List Simulated)) (seen : Seen) (wrote_before wrote_now : ℕ) (before after : Content) (files : List (List ℕ)) (fault : TablesFault)
+        → Rehearsed report asked crowd seen wrote_before wrote_now before after → report.status ≢ statuses.NoMemory → seen.faults_now ≡ seen.faults_before
         → AreTaken before.files asked.files files → tables_fault files ≡ Some fault
         → (report.status ≡ statuses.FileRefused) × (report.file ≡ fault.file) × (report.line ≡ fault.entry) × (report.reason ≡ fault.reason + 10) }
 
     // The text has no header: it is bad or unended, or reading failed.
-    ensures headless { (report : Report) (asked : Asked) (seen : Seen) (wrote_before wrote_now : ℕ) (before after : Content) (files : List (List ℕ)) (text : Text) (new : List ℕ)
-        (line reason : ℕ) → Rehearsed report asked seen wrote_before wrote_now before after → report.status ≢ statuses.NoMemory → ReadsText files text asked seen before after
+    ensures headless { (report : Report) (asked : Asked) (crowd : Option (List Simulated)) (seen : Seen) (wrote_before wrote_now : ℕ) (before after : Content) (files : List (List ℕ)) (text : Text) (new : List ℕ)
+        (line reason : ℕ) → Rehearsed report asked crowd seen wrote_before wrote_now before after → report.status ≢ statuses.NoMemory → ReadsText files text asked seen before after
         → seen.held_now ≡ Some new → (reading text).items ≡ [] → IsRefusedAt (reading text) line reason
         → (report.status ≡ statuses.ScenarioRefused) × (report.line ≡ line) × (report.reason ≡ reason) }
-    ensures headless_open { (report : Report) (asked : Asked) (seen : Seen) (wrote_before wrote_now : ℕ) (before after : Content) (files : List (List ℕ)) (text : Text) (new : List ℕ)
-        → Rehearsed report asked seen wrote_before wrote_now before after → report.status ≢ statuses.NoMemory → ReadsText files text asked seen before after
+    ensures headless_open { (report : Report) (asked : Asked) (crowd : Option (List Simulated)) (seen : Seen) (wrote_before wrote_now : ℕ) (before after : Content) (files : List (List ℕ)) (text : Text) (new : List ℕ)
+        → Rehearsed report asked crowd seen wrote_before wrote_now before after → report.status ≢ statuses.NoMemory → ReadsText files text asked seen before after
         → seen.held_now ≡ Some new → (reading text).items ≡ [] → (reading text).ending ≡ Open → (report.status ≡ statuses.ReadFailed) × (report.file ≡ 0) }
 
     // The map refuses the read of an entry.
-    ensures unmapped { (report : Report) (asked : Asked) (seen : Seen) (wrote_before wrote_now : ℕ) (before after : Content) (files : List (List ℕ)) (text : Text) (new : List ℕ)
-        (file entry : ℕ) → Rehearsed report asked seen wrote_before wrote_now before after → report.status ≢ statuses.NoMemory → ReadsText files text asked seen before after
+    ensures unmapped { (report : Report) (asked : Asked) (crowd : Option (List Simulated)) (seen : Seen) (wrote_before wrote_now : ℕ) (before after : Content) (files : List (List ℕ)) (text : Text) (new : List ℕ)
+        (file entry : ℕ) → Rehearsed report asked crowd seen wrote_before wrote_now before after → report.status ≢ statuses.NoMemory → ReadsText files text asked seen before after
         → seen.held_now ≡ Some new → refused_read files (reading text).items ≡ Some (file, entry)
         → (report.status ≡ statuses.FileRefused) × (report.file ≡ file) × (report.line ≡ entry) × (report.reason ≡ 10) }
 
     // The output failed.
-    ensures unwritten { (report : Report) (asked : Asked) (seen : Seen) (wrote_before wrote_now : ℕ) (before after : Content)
-        → Rehearsed report asked seen wrote_before wrote_now before after → wrote_before < wrote_now → report.status ≡ statuses.WriteFailed }
+    ensures unwritten { (report : Report) (asked : Asked) (crowd : Option (List Simulated)) (seen : Seen) (wrote_before wrote_now : ℕ) (before after : Content)
+        → Rehearsed report asked crowd seen wrote_before wrote_now before after → wrote_before < wrote_now → report.status ≡ statuses.WriteFailed }
 
     // The text ended well.
-    ensures ended { (report : Report) (asked : Asked) (seen : Seen) (wrote_before wrote_now : ℕ) (before after : Content) (files : List (List ℕ)) (text : Text) (new : List ℕ)
-        → Rehearsed report asked seen wrote_before wrote_now before after → report.status ≢ statuses.NoMemory → ReadsText files text asked seen before after
+    ensures ended { (report : Report) (asked : Asked) (crowd : Option (List Simulated)) (seen : Seen) (wrote_before wrote_now : ℕ) (before after : Content) (files : List (List ℕ)) (text : Text) (new : List ℕ)
+        → Rehearsed report asked crowd seen wrote_before wrote_now before after → report.status ≢ statuses.NoMemory → ReadsText files text asked seen before after
         → seen.held_now ≡ Some new → GivesReads files (reading text) → wrote_now ≡ wrote_before → (reading text).ending ≡ Ended → report.status ≡ statuses.Done }
 
     // It is bad or unended.
-    ensures bad { (report : Report) (asked : Asked) (seen : Seen) (wrote_before wrote_now : ℕ) (before after : Content) (files : List (List ℕ)) (text : Text) (new : List ℕ)
-        (line reason : ℕ) → Rehearsed report asked seen wrote_before wrote_now before after → report.status ≢ statuses.NoMemory → ReadsText files text asked seen before after
+    ensures bad { (report : Report) (asked : Asked) (crowd : Option (List Simulated)) (seen : Seen) (wrote_before wrote_now : ℕ) (before after : Content) (files : List (List ℕ)) (text : Text) (new : List ℕ)
+        (line reason : ℕ) → Rehearsed report asked crowd seen wrote_before wrote_now before after → report.status ≢ statuses.NoMemory → ReadsText files text asked seen before after
         → seen.held_now ≡ Some new → GivesReads files (reading text) → wrote_now ≡ wrote_before → IsRefusedAt (reading text) line reason
         → (report.status ≡ statuses.ScenarioRefused) × (report.line ≡ line) × (report.reason ≡ reason) }
 
     // It is open.
-    ensures cut_off { (report : Report) (asked : Asked) (seen : Seen) (wrote_before wrote_now : ℕ) (before after : Content) (files : List (List ℕ)) (text : Text) (new : List ℕ)
-        → Rehearsed report asked seen wrote_before wrote_now before after → report.status ≢ statuses.NoMemory → ReadsText files text asked seen before after
+    ensures cut_off { (report : Report) (asked : Asked) (crowd : Option (List Simulated)) (seen : Seen) (wrote_before wrote_now : ℕ) (before after : Content) (files : List (List ℕ)) (text : Text) (new : List ℕ)
+        → Rehearsed report asked crowd seen wrote_before wrote_now before after → report.status ≢ statuses.NoMemory → ReadsText files text asked seen before after
         → seen.held_now ≡ Some new → GivesReads files (reading text) → wrote_now ≡ wrote_before → (reading text).ending ≡ Open
         → (report.status ≡ statuses.ReadFailed) × (report.file ≡ 0) }
 {}
@@ -79,14 +80,14 @@ pub fn first_line_decides()
 /// behind those of the FILEs and of their tables, and that of the output, which are said above of both kinds of scenario.
 pub fn drill_is_decided()
     // The map refuses the read of an entry.
-    ensures unmapped { (report : Report) (asked : Asked) (seen : Seen) (wrote_before wrote_now : ℕ) (before after : Content) (files : List (List ℕ)) (k : ℕ) (new : List ℕ)
-        (file entry : ℕ) → Rehearsed report asked seen wrote_before wrote_now before after → report.status ≢ statuses.NoMemory → IsDrill k files asked seen before
+    ensures unmapped { (report : Report) (asked : Asked) (crowd : Option (List Simulated)) (seen : Seen) (wrote_before wrote_now : ℕ) (before after : Content) (files : List (List ℕ)) (k : ℕ) (new : List ℕ)
+        (file entry : ℕ) → Rehearsed report asked crowd seen wrote_before wrote_now before after → report.status ≢ statuses.NoMemory → IsDrill k files asked seen before
         → seen.held_now ≡ Some new → refused_read files (reading (drill_of k)).items ≡ Some (file, entry)
         → (report.status ≡ statuses.FileRefused) × (report.file ≡ file) × (report.line ≡ entry) × (report.reason ≡ 10) }
 
     // All went well.
-    ensures ended { (report : Report) (asked : Asked) (seen : Seen) (wrote_before wrote_now : ℕ) (before after : Content) (files : List (List ℕ)) (k : ℕ) (new : List ℕ)
-        → Rehearsed report asked seen wrote_before wrote_now before after → report.status ≢ statuses.NoMemory → IsDrill k files asked seen before
+    ensures ended { (report : Report) (asked : Asked) (crowd : Option (List Simulated)) (seen : Seen) (wrote_before wrote_now : ℕ) (before after : Content) (files : List (List ℕ)) (k : ℕ) (new : List ℕ)
+        → Rehearsed report asked crowd seen wrote_before wrote_now before after → report.status ≢ statuses.NoMemory → IsDrill k files asked seen before
         → seen.held_now ≡ Some new → GivesReads files (reading (drill_of k)) → wrote_now ≡ wrote_before → report.status ≡ statuses.Done }
 {}
 

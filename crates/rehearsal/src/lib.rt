@@ -11,7 +11,7 @@ mod source;
 mod text;
 mod words;
 
-pub use rehearsing::vigil;
+pub use rehearsing::{vigil, vigil_with};
 pub use report::{ErrorLine, Report, Status, line_of, tell};
 pub use source::Source;
 pub use words::{Plan, Words, accept};

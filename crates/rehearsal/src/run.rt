@@ -1,29 +1,32 @@
 //! The run of one scenario, from its name to its report.
 
-ghost use Rattle.std.specs.Prelude.{◌≡◌, ◌≢◌, ℕ, ◌<◌, ◌≤◌, ◌⊎◌, List, [], ◌++◌, length, IsTrue};
+ghost use Rattle.std.specs.Prelude.{◌≡◌, ◌≢◌, ℕ, ◌-◌, ◌<◌, ◌≤◌, ◌⊎◌, List, [], ◌∷◌, ◌++◌, length, IsTrue, OnOk, IfErr};
 ghost use Rattle.fsw_outside.specs.Told.{WhereTold};
-ghost use Rattle.fsw_outside.specs.Causes.{HasRisen};
+ghost use Rattle.fsw_outside.specs.Causes.{HasCause, HasRisen};
 ghost use Rattle.fsw_outside.specs.Files.{Content, file_named};
 ghost use Rattle.packet_log.specs.Blocks.{tells};
 ghost use Rattle.scenario.specs.Texts.{Text, Given};
 ghost use Rattle.scenario.specs.FrameLists.{Frame};
-ghost use Rattle.frame_exec.specs.Runs.{Setup};
-ghost use Rattle.frame_exec.specs.Following.{Follows};
-ghost use Rattle.frame_exec.specs.Standing.{waiting_in};
+ghost use Rattle.frame_exec.specs.Runs.{Setup, frame_lines, log_of};
+ghost use Rattle.frame_exec.specs.Crowds.{frame_beside};
+ghost use Rattle.frame_exec.specs.Following.{Follows, IsCutAt};
+ghost use Rattle.frame_exec.specs.Standing.{CanRun, waiting_in};
 ghost use Rattle.frame_exec.specs.Tables.{AreLoaded};
 ghost use Rattle.rehearsal.specs.Files.{OpensOnce};
 ghost use Rattle.rehearsal.specs.Text.{IsRead, Holds};
+ghost use Rattle.rehearsal.specs.Beside.{crowd_in, crowd_then};
 ghost use Rattle.rehearsal.specs.Outcome.{fault_report, HasCauses, IsText, IsTextOf, ReadsAhead, Outcome};
 ghost use Rattle.rehearsal.specs.Run.{Begins, HandsOn};
 
 use crate::report::{Report, Status};
 use crate::source::Source;
 use crate::text::{Feed, Next, fetch, next_item, read_on};
-use frame_exec::{Bench, OpenFault, Tables};
+use frame_exec::{Bench, Cut, OpenFault, Tables};
 use fsw_outside::{Gate, Shelf, Sink};
-use scenario::Reader;
+use scenario::{FrameInput, Reader};
 use std::alloc::Global;
 use std::thread::Threads;
+use subjects::{Crowd, Subject};
 use table_files::Files;
 
 /// Hands on what waits behind the frames that were run, and answers the report of them; where that fails the output failed.
@@ -42,11 +45,39 @@ fn hand_on<O: Sink>(bench: &mut Bench<'_>, out: &mut O, report: Report) -> Repor
     }
 }
 
-/// Runs the frames that the reader gives from here on. Their lines are handed on before more of the text is read, and where
-/// the block of the bench is full.
-pub fn run_frames<R: Threads + Sync, S: Source, O: Sink, G: Gate>(
+/// Runs a frame, beside the crowd where there is one, and puts its lines behind those that wait.
+fn add_frame<R: Threads + Sync, C: Subject + Send, O: Sink, G: Gate>(
     rt: &R,
     bench: &mut Bench<'_>,
+    input: &FrameInput,
+    crowd: &mut Option<Crowd<C>>,
+    gate: &G,
+    out: &mut O,
+) -> Result<(), Cut>
+    requires started { (setup : Setup) × (earlier : List Frame) × (later : List Frame) × Follows bench.old setup earlier later × CanRun setup (earlier ++ later) input.now }
+    ensures follows { (setup : Setup) (earlier later : List Frame) → Follows bench.old setup earlier later
+        → OnOk result (Follows bench.new setup earlier (later ++ frame_beside (crowd_in C.seen crowd.old) input.now ∷ [])) }
+    ensures told { (setup : Setup) (earlier later : List Frame) → Follows bench.old setup earlier later
+        → OnOk result (WhereTold (tells (O.held out.old) (waiting_in bench.old)) (tells (O.held out.new) (waiting_in bench.new)) (λ before after. after ≡ before ++ frame_lines setup (earlier ++ later) (frame_beside (crowd_in C.seen crowd.old) input.now))) }
+    ensures cut { (setup : Setup) (earlier later : List Frame) → Follows bench.old setup earlier later
+        → IfErr result (λ cut. (cut.late ≤ length later) × WhereTold (tells (O.held out.old) (waiting_in bench.old)) (O.held out.new) (λ before after. (start : List ℕ)
+        → before ≡ start ++ log_of setup (earlier ++ later) → IsCutAt setup ((earlier ++ later) ++ frame_beside (crowd_in C.seen crowd.old) input.now ∷ []) (length (earlier ++ later) - cut.late) start after)) }
+    ensures crowd { (setup : Setup) (earlier later : List Frame) → Follows bench.old setup earlier later
+        → OnOk result (crowd_in C.seen crowd.new ≡ crowd_then setup (earlier ++ later) (frame_beside (crowd_in C.seen crowd.old) input.now) (crowd_in C.seen crowd.old)) }
+    ensures cause { HasCause (O.held out.new) (O.faults out.old) (O.faults out.new) result }
+{
+    match crowd {
+        None => bench.add_frame(rt, input, gate, out),
+        Some(crowd) => bench.add_frame_with(rt, input, crowd, gate, out),
+    }
+}
+
+/// Runs the frames that the reader gives from here on, beside the crowd where there is one. Their lines are handed on before more of the text is read, and where
+/// the block of the bench is full.
+pub fn run_frames<R: Threads + Sync, C: Subject + Send, S: Source, O: Sink, G: Gate>(
+    rt: &R,
+    bench: &mut Bench<'_>,
+    crowd: &mut Option<Crowd<C>>,
     source: &mut S,
     reader: &mut Reader,
     feed: &mut Feed,
@@ -58,7 +89,7 @@ pub fn run_frames<R: Threads + Sync, S: Source, O: Sink, G: Gate>(
     ensures outcome { (files : List (List ℕ)) (text : Text) (gave : List Given) → Holds reader.old feed.old text gave → Begins bench.old files gave
         → WhereTold (S.told source.old) (S.told source.new) (λ before after. (start : Content) → IsRead text feed.old.pending start before
         → (whole : Text) × IsTextOf (S.faults source.old) (S.faults source.new) start after whole × ReadsAhead result whole
-        × WhereTold (O.held out.old) (O.held out.new) (Outcome result files whole)) }
+        × WhereTold (O.held out.old) (O.held out.new) (Outcome result files (crowd_in C.seen crowd.old) whole)) }
     ensures is_open { IsTrue (S.is_open source.new) }
     ensures mark { S.mark source.new ≡ S.mark source.old }
     ensures causes { HasCauses result.status (S.told source.new) (S.faults source.old) (S.faults source.new) (O.held out.new) (O.faults out.old) (O.faults out.new) }
@@ -68,7 +99,7 @@ pub fn run_frames<R: Threads + Sync, S: Source, O: Sink, G: Gate>(
     'frames: loop {
         match next_item(reader, feed) {
             Next::Header => {}
-            Next::Frame => match bench.add_frame(rt, reader.frame(), gate, out) {
+            Next::Frame => match add_frame(rt, bench, reader.frame(), crowd, gate, out) {
                 Ok(()) => frames += 1,
                 Err(cut) => return Report::at(Status::WriteFailed, frames - cut.late),
             },
@@ -98,13 +129,14 @@ fn report_of(fault: OpenFault) -> Report
     }
 }
 
-/// Reads the header of the text, and runs the frames behind it.
-pub fn run_open<'f, R: Threads + Sync, S: Source, O: Sink, G: Gate>(
+/// Reads the header of the text, and runs the frames behind it, beside the crowd where there is one.
+pub fn run_open<'f, R: Threads + Sync, C: Subject + Send, S: Source, O: Sink, G: Gate>(
     rt: &R,
     alloc: Global,
     workers: u32,
     tables: Tables<'f>,
     files: &'f Files,
+    crowd: &mut Option<Crowd<C>>,
     source: &mut S,
     out: &mut O,
     gate: &G,
@@ -114,7 +146,7 @@ pub fn run_open<'f, R: Threads + Sync, S: Source, O: Sink, G: Gate>(
     requires loaded { AreLoaded files.now tables }
     ensures outcome { WhereTold (S.told source.old) (S.told source.new) (λ start after.
         (whole : Text) × IsTextOf (S.faults source.old) (S.faults source.new) start after whole × ReadsAhead result whole
-        × WhereTold (O.held out.old) (O.held out.new) (Outcome result files.now whole)) }
+        × WhereTold (O.held out.old) (O.held out.new) (Outcome result files.now (crowd_in C.seen crowd.old) whole)) }
     ensures is_open { IsTrue (S.is_open source.new) }
     ensures mark { S.mark source.new ≡ S.mark source.old }
     ensures causes { HasCauses result.status (S.told source.new) (S.faults source.old) (S.faults source.new) (O.held out.new) (O.faults out.old) (O.faults out.new) }
@@ -137,16 +169,26 @@ pub fn run_open<'f, R: Threads + Sync, S: Source, O: Sink, G: Gate>(
         Ok(bench) => bench,
         Err(fault) => return report_of(fault),
     };
-    run_frames(rt, &mut bench, source, &mut reader, &mut feed, out, gate)
+    run_frames(
+        rt,
+        &mut bench,
+        crowd,
+        source,
+        &mut reader,
+        &mut feed,
+        out,
+        gate,
+    )
 }
 
-/// Opens the scenario of this name, and runs it.
-pub fn run_scenario<'f, R: Threads + Sync, S: Shelf, O: Sink, G: Gate>(
+/// Opens the scenario of this name, and runs it, beside the crowd where there is one.
+pub fn run_scenario<'f, R: Threads + Sync, C: Subject + Send, S: Shelf, O: Sink, G: Gate>(
     rt: &R,
     alloc: Global,
     workers: u32,
     tables: Tables<'f>,
     files: &'f Files,
+    crowd: &mut Option<Crowd<C>>,
     name: &str,
     shelf: &mut S,
     out: &mut O,
@@ -156,7 +198,7 @@ pub fn run_scenario<'f, R: Threads + Sync, S: Shelf, O: Sink, G: Gate>(
     requires loaded { AreLoaded files.now tables }
     ensures outcome { WhereTold (S.told shelf.old) (S.told shelf.new) (λ before after.
         (text : Text) × IsText (S.is_open shelf.new) (S.faults shelf.old) (S.faults shelf.new) (file_named before.files name.now) after.rest text × ReadsAhead result text
-        × WhereTold (O.held out.old) (O.held out.new) (Outcome result files.now text)) }
+        × WhereTold (O.held out.old) (O.held out.new) (Outcome result files.now (crowd_in C.seen crowd.old) text)) }
     ensures opening { WhereTold (S.told shelf.old) (S.told shelf.new) (OpensOnce name.now) }
     ensures mark { S.mark shelf.new ≡ S.faults shelf.old }
     ensures causes { HasCauses result.status (S.told shelf.new) (S.faults shelf.old) (S.faults shelf.new) (O.held out.new) (O.faults out.old) (O.faults out.new) }
@@ -168,5 +210,5 @@ pub fn run_scenario<'f, R: Threads + Sync, S: Shelf, O: Sink, G: Gate>(
     let Ok(()) = shelf.open(name) else {
         return Report::at(Status::ReadFailed, 0);
     };
-    run_open(rt, alloc, workers, tables, files, shelf, out, gate)
+    run_open(rt, alloc, workers, tables, files, crowd, shelf, out, gate)
 }

@@ -8,17 +8,19 @@ use Rattle.scenario.specs.Answers.{answer_at_end}
 use Rattle.scenario.specs.Standing.{Stands}
 use Rattle.packet_log.specs.Blocks.{tells}
 use Rattle.frame_exec.specs.Runs.{Setup, frame_lines}
+use Rattle.frame_exec.specs.Crowds.{frame_beside}
 use Rattle.rehearsal.specs.declared.report.Report.{Report}
 use Rattle.rehearsal.specs.Fed.{Fed}
 use Rattle.rehearsal.specs.Run.{IsCutShort}
 use Rattle.rehearsal.specs.Text.{IsRead, Holds}
-use Rattle.rehearsal.specs.Outcome.{frames_of, setup_of, log_in}
+use Rattle.rehearsal.specs.Beside.{crowd_in}
+use Rattle.rehearsal.specs.Outcome.{frames_of, setup_of, frames_in, log_in}
 use Rattle.scenario.specs.TextLaws.{given_first}
 use Rattle.rehearsal.proofs.TextFacts.{no_later_head, can_run, few_frames}
 use Rattle.rehearsal.proofs.Endings.{not_open_at_end, not_open_at_bad}
-use Rattle.rehearsal.proofs.Outcomes.{whole_of, is_closed, text_of, closed_same, open_after, tells_some, reading_same, reading_whole, frames_more, setup_append, refused_append, log_in_more, log_in_none, read_failed, done, refused_at, runs_next}
+use Rattle.rehearsal.proofs.Outcomes.{whole_of, is_closed, text_of, closed_same, open_after, tells_some, reading_same, reading_whole, count_in, run_next, frames_more, setup_append, refused_append, log_in_more, log_in_none, read_failed, done, refused_at, runs_next}
 use Rattle.rehearsal.proofs.Ahead.{ahead_by, bad_ahead, one_more}
-use Rattle.rehearsal.proofs.Running.{IsNear, has_begun, near_fed, near_more, none_near, read_still, cut_short, log_by, cut_ends, ends, tells_alone, told_alone}
+use Rattle.rehearsal.proofs.Running.{IsNear, has_begun, run_after, left_after, near_fed, near_more, none_near, read_still, cut_short, log_by, cut_ends, ends, tells_alone, told_alone}
 use Rattle.rehearsal.proofs.run.run_frames.Goals as goal
 
 pub frames-init : goal.frames-init
@@ -27,10 +29,10 @@ frames-init g c = record {
   ran = λ files text gave h b. (
     text,
     gave,
-    has_begun files c.args.bench.now c.args.reader.now c.args.feed.now text gave h b,
+    has_begun files (crowd_in g.C.Subject.seen c.args.crowd.now) c.args.bench.now c.args.reader.now c.args.feed.now text gave h b,
     told_nothing _ _ (λ a start r. r),
-    subst (λ (held : Option (List ℕ)). WhereTold (g.O.Sink.held c.args.out.now) held (λ old new. new ≡ old ++ log_in files gave)) (sym (tells_alone (g.O.Sink.held c.args.out.now) c.args.bench.now.block b.waits))
-        (told_nothing _ _ (λ held. sym (ap (λ (log : List ℕ). held ++ log) (log_in_none files gave b.none) ∙ append-nil held))),
+    subst (λ (held : Option (List ℕ)). WhereTold (g.O.Sink.held c.args.out.now) held (λ old new. new ≡ old ++ log_in files (crowd_in g.C.Subject.seen c.args.crowd.now) gave)) (sym (tells_alone (g.O.Sink.held c.args.out.now) c.args.bench.now.block b.waits))
+        (told_nothing _ _ (λ held. sym (ap (λ (log : List ℕ). held ++ log) (log_in_none files (crowd_in g.C.Subject.seen c.args.crowd.now) gave b.none) ∙ append-nil held))),
   );
   read_well = refl;
   wrote_well = refl;
@@ -43,7 +45,7 @@ add_frame-requires-clause-started g c =
     let i = c.frames.invariant.ran s.0 s.1 s.2 s.3 s.4 in
     let n = c.in-Frame.ensures.gives i.0 i.1 i.2.holds in
     let stands = subst (λ (item : Given). Stands c.next_item.new.reader n.0 (i.1 ++ item ∷ [])) (sym c.frame.ensures) n.1.0.stands in
-    let held = runs_next s.0 c.frames.bench i.1 i.2.earlier i.2.later c.frame.result.now i.2.follows i.2.are (can_run s.0 c.next_item.new.reader n.0 i.1 c.frame.result.now stands) in
+    let held = runs_next s.0 (crowd_in g.C.Subject.seen c.args.crowd.now) c.frames.bench i.1 i.2.earlier i.2.later c.frame.result.now i.2.follows i.2.are (can_run s.0 c.next_item.new.reader n.0 i.1 c.frame.result.now stands) in
     search (rules, held)
 
 pub returns-in-Err-clause-outcome : goal.returns-in-Err-clause-outcome
@@ -54,11 +56,12 @@ returns-in-Err-clause-outcome g c = λ files text gave h b.
     let stands = subst (λ (item : Given). Stands c.next_item.new.reader n.0 (i.1 ++ item ∷ [])) (sym c.frame.ensures) n.1.0.stands in
     let first = given_first c.next_item.new.reader n.0 (i.1 ++ Whole f ∷ []) stands in
     let cut = c.in-Err.ensures.cut (setup_of files i.1) i.2.earlier i.2.later i.2.follows in
-    let frames : List Frame = (i.2.earlier ++ i.2.later) ++ f ∷ [] in
-    let size = length-append (i.2.earlier ++ i.2.later) (f ∷ []) in
-    let number = i.2.number ∙ ap (length {A = Frame}) i.2.are in
+    let run : Frame = frame_beside (crowd_in g.C.Subject.seen c.frames.crowd) f in
+    let frames : List Frame = (i.2.earlier ++ i.2.later) ++ run ∷ [] in
+    let size = length-append (i.2.earlier ++ i.2.later) (run ∷ []) in
+    let number = i.2.number ∙ count_in files (crowd_in g.C.Subject.seen c.args.crowd.now) i.1 _ i.2.are in
     let setup = setup_append files i.1 (Whole f ∷ []) i.2.some in
-    let are = frames_more i.1 f ∙ ap (λ (fs : List Frame). fs ++ f ∷ []) i.2.are in
+    let are = run_after files (crowd_in g.C.Subject.seen c.args.crowd.now) _ i.1 f _ i.2.some i.2.are i.2.left in
     let short = cut_short c.at.result (setup_of files i.1) i.2.earlier i.2.later frames c.in-Err.cut.late c.frames.frames _ _ c.at.ensures number cut.0 (omega (arith, size, number)) cut.1 in
     let near : IsNear n.0 c.next_item.new.feed.pending (length i.2.earlier) (c.frames.frames + 1) =
     near_more n.0 i.1 first.0 f c.next_item.new.feed.pending (length i.2.earlier) c.frames.frames first.1 (one_more c.frames.reader i.0 i.1 i.2.holds.stands i.2.some) i.2.number n.1.1 n.1.0.few
@@ -68,11 +71,11 @@ returns-in-Err-clause-outcome g c = λ files text gave h b.
     let there = read_still i.0 n.0 c.frames.feed.pending c.next_item.new.feed.pending start after n.2 (read start r) in
     let end : Bool = is_closed after.rest (g.S.Source.faults c.args.source.now) (g.S.Source.faults c.frames.source) in
     let closed = closed_same c.next_item.new.reader c.next_item.new.feed n.0 _ start after (g.S.Source.faults c.args.source.now) (g.S.Source.faults c.frames.source) n.1.0 there c.frames.invariant.read_well in
-    let ends = cut_ends files c.at.result n.0 (i.1 ++ Whole f ∷ []) first.0 (i.2.earlier ++ i.2.later) frames c.next_item.new.feed.pending end (length i.2.earlier) _ _ _
+    let ends = cut_ends files (crowd_in g.C.Subject.seen c.args.crowd.now) c.at.result n.0 (i.1 ++ Whole f ∷ []) first.0 (i.2.earlier ++ i.2.later) frames c.next_item.new.feed.pending end (length i.2.earlier) _ _ _
     (refused_append files i.1 (Whole f ∷ []) i.2.some ∙ i.2.given) (omega (arith, i.2.some, length-append i.1 (Whole f ∷ []))) first.1 closed are
     (subst (IsNear n.0 c.next_item.new.feed.pending (length i.2.earlier)) count near)
-    (told_map i.4 (λ old new written. written ∙ ap (λ (log : List ℕ). old ++ log) (log_by files i.1 _ _ (sym setup) i.2.are)))
-    (subst (λ (s : Setup). IsCutShort c.at.result s (i.2.earlier ++ i.2.later) frames (length i.2.earlier) (tells (g.O.Sink.held c.frames.out) c.frames.bench.block) (g.O.Sink.held c.add_frame.new.sink)) (sym setup) short) in (
+    (told_map i.4 (λ old new written. written ∙ ap (λ (log : List ℕ). old ++ log) (log_by files (crowd_in g.C.Subject.seen c.args.crowd.now) i.1 _ _ (sym setup) i.2.are)))
+    (subst (λ (s : Setup). IsCutShort c.at.result s (i.2.earlier ++ i.2.later) frames (length i.2.earlier) (tells (g.O.Sink.held c.frames.out) c.frames.bench.block) (g.O.Sink.held c.add_frame.new.out)) (sym setup) short) in (
       whole_of n.0 c.next_item.new.feed.pending end,
       text_of n.0 c.next_item.new.feed.pending start after (g.S.Source.faults c.args.source.now) (g.S.Source.faults c.frames.source) there,
       ends.0,
@@ -107,6 +110,7 @@ frames-preserved-in-Ok g c = record {
       let i = c.frames.invariant.ran files text gave h b in
       let n = c.in-Frame.ensures.gives i.0 i.1 i.2.holds in
       let f = c.frame.result.now in
+      let run : Frame = frame_beside (crowd_in g.C.Subject.seen c.frames.crowd) f in
       let got : List Given = i.1 ++ Whole f ∷ [] in
       let holds = subst (λ (item : Given). Holds c.next_item.new.reader c.next_item.new.feed n.0 (i.1 ++ item ∷ [])) (sym c.frame.ensures) n.1.0 in
       let first = given_first c.next_item.new.reader n.0 got holds.stands in
@@ -117,10 +121,11 @@ frames-preserved-in-Ok g c = record {
         got,
         record {
           earlier = i.2.earlier;
-          later = i.2.later ++ f ∷ [];
+          later = i.2.later ++ run ∷ [];
           holds = holds;
           follows = rw setup follows;
-          are = frames ∙ ap (λ (fs : List Frame). fs ++ f ∷ []) i.2.are ∙ append_assoc i.2.earlier i.2.later (f ∷ []);
+          are = run_after files (crowd_in g.C.Subject.seen c.args.crowd.now) _ i.1 f _ i.2.some i.2.are i.2.left ∙ append_assoc i.2.earlier i.2.later (run ∷ []);
+          left = left_after files (crowd_in g.C.Subject.seen c.args.crowd.now) _ _ i.1 f _ i.2.some i.2.are i.2.left (c.in-Ok.ensures.crowd (setup_of files i.1) i.2.earlier i.2.later i.2.follows);
           given = refused_append files i.1 (Whole f ∷ []) i.2.some ∙ i.2.given;
           some = simp length-append (omega (arith, i.2.some));
           number = ap (λ (k : ℕ). k + 1) i.2.number ∙ sym (ap (length {A = Frame}) frames ∙ length-append (frames_of i.1) (f ∷ []));
@@ -129,9 +134,9 @@ frames-preserved-in-Ok g c = record {
         },
         told_map i.3 (λ before after read start r. read_still i.0 n.0 c.frames.feed.pending c.next_item.new.feed.pending start after n.2 (read start r)),
         told_then i.4 (c.in-Ok.ensures.told (setup_of files i.1) i.2.earlier i.2.later i.2.follows) (λ old middle new written appended.
-            rw (log_in_more files i.1 f i.2.some)
-            (appends_more (log_in files i.1) (frame_lines (setup_of files i.1) (frames_of i.1) f) old middle new written
-            (appended ∙ ap (λ (fs : List Frame). middle ++ frame_lines (setup_of files i.1) fs f) (sym i.2.are)))),
+            rw (log_in_more files (crowd_in g.C.Subject.seen c.args.crowd.now) i.1 f i.2.some)
+            (appends_more (log_in files (crowd_in g.C.Subject.seen c.args.crowd.now) i.1) (frame_lines (setup_of files i.1) (frames_in files (crowd_in g.C.Subject.seen c.args.crowd.now) i.1) (run_next files (crowd_in g.C.Subject.seen c.args.crowd.now) i.1 f)) old middle new written
+            (appended ∙ (λ j. middle ++ frame_lines (setup_of files i.1) (sym i.2.are j) (frame_beside (i.2.left j) f))))),
       );
   read_well = c.frames.invariant.read_well;
   wrote_well = c.in-Ok.ensures.cause.kept ∙ c.frames.invariant.wrote_well;
@@ -172,10 +177,11 @@ frames-preserved g c = record {
           holds = a.1;
           follows = follows;
           are = are;
+          left = i.2.left;
           given = i.2.given;
           some = i.2.some;
           number = i.2.number;
-          near = subst (λ (k : ℕ). IsNear a.0 c.fetch.new.feed.pending k c.frames.frames) (i.2.number ∙ ap (length {A = Frame}) i.2.are) (none_near a.0 c.fetch.new.feed.pending c.frames.frames);
+          near = subst (λ (k : ℕ). IsNear a.0 c.fetch.new.feed.pending k c.frames.frames) (i.2.number ∙ count_in files (crowd_in g.C.Subject.seen c.args.crowd.now) i.1 _ i.2.are) (none_near a.0 c.fetch.new.feed.pending c.frames.frames);
         },
         told_then i.3 a.3 (λ before middle after first second start r.
             second start (subst (λ (pending : List ℕ). IsRead n.0 pending start middle) n.1.4 (read_still i.0 n.0 c.frames.feed.pending c.next_item.new.feed.pending start middle n.2 (first start r)))),
@@ -207,7 +213,7 @@ returns-in_default-clause-outcome g c = λ files text gave h b after tells.
             text_of a.0 c.fetch.new.feed.pending start after (g.S.Source.faults c.args.source.now) (g.S.Source.faults c.fetch.new.source) read,
             ahead_by c.at-in_default.result _ (whole_of a.0 c.fetch.new.feed.pending end) c.at-in_default.ensures tt,
             told_then i.4 (told_alone _ _ _ _ c.in-Ok-flush.ensures.handed c.in-Ok-flush.ensures.told) (λ old middle new written kept.
-                read_failed files c.at-in_default.result c.frames.frames a.0 (whole_of a.0 c.fetch.new.feed.pending end) i.1 old new c.at-in_default.ensures i.2.given same
+                read_failed files (crowd_in g.C.Subject.seen c.args.crowd.now) c.at-in_default.result c.frames.frames a.0 (whole_of a.0 c.fetch.new.feed.pending end) i.1 old new c.at-in_default.ensures i.2.given same
                 (n.1.1 ∙ ap (λ (t : Text). (reading t).items) (sym a.2)) (n.1.2 ∙ ap (λ (t : Text). answer_at_end (reading t).ending) (sym a.2)) i.2.number (kept ∙ written)),
           ),
     )
@@ -217,7 +223,7 @@ returns-in-Err-flush-clause-outcome g c = λ files text gave h b.
     let i = c.frames.invariant.ran files text gave h b in
     let n = c.in-Dry.ensures.gives i.0 i.1 i.2.holds in
     let cut = c.in-Err-flush.ensures.cut (setup_of files i.1) i.2.earlier i.2.later i.2.follows in
-    let number = i.2.number ∙ ap (length {A = Frame}) i.2.are in
+    let number = i.2.number ∙ count_in files (crowd_in g.C.Subject.seen c.args.crowd.now) i.1 _ i.2.are in
     let all = length-append i.2.earlier i.2.later in
     let short = cut_short c.at-in-Err-flush.result (setup_of files i.1) i.2.earlier i.2.later (i.2.earlier ++ i.2.later) c.in-Err-flush.cut.late c.frames.frames _ _ c.at-in-Err-flush.ensures number cut.1
     (omega (arith, number, all, cut.0, cut.1)) cut.2 in
@@ -227,9 +233,9 @@ returns-in-Err-flush-clause-outcome g c = λ files text gave h b.
     let there = read_still i.0 n.0 c.frames.feed.pending c.next_item.new.feed.pending start after n.2 (read start r) in
     let end : Bool = is_closed after.rest (g.S.Source.faults c.args.source.now) (g.S.Source.faults c.frames.source) in
     let closed = closed_same c.next_item.new.reader c.next_item.new.feed n.0 i.1 start after (g.S.Source.faults c.args.source.now) (g.S.Source.faults c.frames.source) n.1.0 there c.frames.invariant.read_well in
-    let ends = cut_ends files c.at-in-Err-flush.result n.0 i.1 [] (i.2.earlier ++ i.2.later) (i.2.earlier ++ i.2.later) c.next_item.new.feed.pending end (length i.2.earlier) _ _ _
+    let ends = cut_ends files (crowd_in g.C.Subject.seen c.args.crowd.now) c.at-in-Err-flush.result n.0 i.1 [] (i.2.earlier ++ i.2.later) (i.2.earlier ++ i.2.later) c.next_item.new.feed.pending end (length i.2.earlier) _ _ _
     i.2.given i.2.some (sym n.1.1 ∙ sym (append-nil i.1)) closed i.2.are (subst (IsNear n.0 c.next_item.new.feed.pending (length i.2.earlier)) number near)
-    (told_map i.4 (λ old new written. written ∙ ap (λ (log : List ℕ). old ++ log) (log_by files i.1 _ _ refl i.2.are))) short in (
+    (told_map i.4 (λ old new written. written ∙ ap (λ (log : List ℕ). old ++ log) (log_by files (crowd_in g.C.Subject.seen c.args.crowd.now) i.1 _ _ refl i.2.are))) short in (
       whole_of n.0 c.next_item.new.feed.pending end,
       text_of n.0 c.next_item.new.feed.pending start after (g.S.Source.faults c.args.source.now) (g.S.Source.faults c.frames.source) there,
       ends.0,
@@ -240,13 +246,13 @@ pub hand_on-requires-clause-follows : goal.hand_on-requires-clause-follows
 hand_on-requires-clause-follows g c =
     let s = c.requires.holds in
     let i = c.frames.invariant.ran s.0 s.1 s.2 s.3 s.4 in
-    (setup_of s.0 i.1, i.2.earlier, i.2.later, i.2.follows, ap (λ (r : Report). r.frames) c.at-in-End.ensures ∙ i.2.number ∙ ap (length {A = Frame}) i.2.are)
+    (setup_of s.0 i.1, i.2.earlier, i.2.later, i.2.follows, ap (λ (r : Report). r.frames) c.at-in-End.ensures ∙ i.2.number ∙ count_in s.0 (crowd_in g.C.Subject.seen c.args.crowd.now) i.1 _ i.2.are)
 
 pub returns-in-End-clause-outcome : goal.returns-in-End-clause-outcome
 returns-in-End-clause-outcome g c = λ files text gave h b.
     let i = c.frames.invariant.ran files text gave h b in
     let n = c.in-End.ensures.gives i.0 i.1 i.2.holds in
-    let number = i.2.number ∙ ap (length {A = Frame}) i.2.are in
+    let number = i.2.number ∙ count_in files (crowd_in g.C.Subject.seen c.args.crowd.now) i.1 _ i.2.are in
     let hands = c.hand_on.ensures.hands_on (setup_of files i.1) i.2.earlier i.2.later i.2.follows (ap (λ (r : Report). r.frames) c.at-in-End.ensures ∙ number) in
     let near : IsNear n.0 c.next_item.new.feed.pending (length i.2.earlier) (length (i.2.earlier ++ i.2.later)) =
     subst (IsNear n.0 c.next_item.new.feed.pending (length i.2.earlier)) number (near_fed c.frames.reader c.frames.feed i.0 n.0 i.1 c.next_item.new.feed.pending (length i.2.earlier) c.frames.frames i.2.holds n.2 i.2.near) in
@@ -255,9 +261,9 @@ returns-in-End-clause-outcome g c = λ files text gave h b.
     let end : Bool = is_closed after.rest (g.S.Source.faults c.args.source.now) (g.S.Source.faults c.frames.source) in
     let closed = closed_same c.next_item.new.reader c.next_item.new.feed n.0 i.1 start after (g.S.Source.faults c.args.source.now) (g.S.Source.faults c.frames.source) n.1.0 there c.frames.invariant.read_well in
     let same = reading_whole n.0 c.next_item.new.feed.pending end closed (not_open_at_end (reading n.0).ending n.1.2) in
-    let all = ends files c.hand_on.result c.at-in-End.result n.0 i.1 i.2.earlier i.2.later c.next_item.new.feed.pending end _ _ _ i.2.given i.2.some n.1.1 closed i.2.are near i.4 hands (λ is. (
+    let all = ends files (crowd_in g.C.Subject.seen c.args.crowd.now) c.hand_on.result c.at-in-End.result n.0 i.1 i.2.earlier i.2.later c.next_item.new.feed.pending end _ _ _ i.2.given i.2.some n.1.1 closed i.2.are near i.4 hands (λ is. (
       ahead_by c.hand_on.result _ (whole_of n.0 c.next_item.new.feed.pending end) (is ∙ c.at-in-End.ensures) tt,
-      λ old new written. done files c.hand_on.result c.frames.frames n.0 (whole_of n.0 c.next_item.new.feed.pending end) i.1 old new (is ∙ c.at-in-End.ensures) i.2.given same n.1.1 n.1.2 i.2.number written,
+      λ old new written. done files (crowd_in g.C.Subject.seen c.args.crowd.now) c.hand_on.result c.frames.frames n.0 (whole_of n.0 c.next_item.new.feed.pending end) i.1 old new (is ∙ c.at-in-End.ensures) i.2.given same n.1.1 n.1.2 i.2.number written,
     )) in (
       whole_of n.0 c.next_item.new.feed.pending end,
       text_of n.0 c.next_item.new.feed.pending start after (g.S.Source.faults c.args.source.now) (g.S.Source.faults c.frames.source) there,
@@ -269,13 +275,13 @@ pub hand_on-requires-in-Bad-clause-follows : goal.hand_on-requires-in-Bad-clause
 hand_on-requires-in-Bad-clause-follows g c =
     let s = c.requires.holds in
     let i = c.frames.invariant.ran s.0 s.1 s.2 s.3 s.4 in
-    (setup_of s.0 i.1, i.2.earlier, i.2.later, i.2.follows, ap (λ (r : Report). r.frames) c.refused.ensures ∙ i.2.number ∙ ap (length {A = Frame}) i.2.are)
+    (setup_of s.0 i.1, i.2.earlier, i.2.later, i.2.follows, ap (λ (r : Report). r.frames) c.refused.ensures ∙ i.2.number ∙ count_in s.0 (crowd_in g.C.Subject.seen c.args.crowd.now) i.1 _ i.2.are)
 
 pub returns-in-Bad-clause-outcome : goal.returns-in-Bad-clause-outcome
 returns-in-Bad-clause-outcome g c = λ files text gave h b.
     let i = c.frames.invariant.ran files text gave h b in
     let n = c.in-Bad.ensures.gives i.0 i.1 i.2.holds in
-    let number = i.2.number ∙ ap (length {A = Frame}) i.2.are in
+    let number = i.2.number ∙ count_in files (crowd_in g.C.Subject.seen c.args.crowd.now) i.1 _ i.2.are in
     let hands = c.hand_on-in-Bad.ensures.hands_on (setup_of files i.1) i.2.earlier i.2.later i.2.follows (ap (λ (r : Report). r.frames) c.refused.ensures ∙ number) in
     let near : IsNear n.0 c.next_item.new.feed.pending (length i.2.earlier) (length (i.2.earlier ++ i.2.later)) =
     subst (IsNear n.0 c.next_item.new.feed.pending (length i.2.earlier)) number (near_fed c.frames.reader c.frames.feed i.0 n.0 i.1 c.next_item.new.feed.pending (length i.2.earlier) c.frames.frames i.2.holds n.2 i.2.near) in
@@ -284,9 +290,9 @@ returns-in-Bad-clause-outcome g c = λ files text gave h b.
     let end : Bool = is_closed after.rest (g.S.Source.faults c.args.source.now) (g.S.Source.faults c.frames.source) in
     let closed = closed_same c.next_item.new.reader c.next_item.new.feed n.0 i.1 start after (g.S.Source.faults c.args.source.now) (g.S.Source.faults c.frames.source) n.1.0 there c.frames.invariant.read_well in
     let same = reading_whole n.0 c.next_item.new.feed.pending end closed (not_open_at_bad (reading n.0).ending c.in-Bad.line c.in-Bad.reason n.1.2) in
-    let all = ends files c.hand_on-in-Bad.result c.refused.result n.0 i.1 i.2.earlier i.2.later c.next_item.new.feed.pending end _ _ _ i.2.given i.2.some n.1.1 closed i.2.are near i.4 hands (λ is. (
+    let all = ends files (crowd_in g.C.Subject.seen c.args.crowd.now) c.hand_on-in-Bad.result c.refused.result n.0 i.1 i.2.earlier i.2.later c.next_item.new.feed.pending end _ _ _ i.2.given i.2.some n.1.1 closed i.2.are near i.4 hands (λ is. (
       ahead_by c.hand_on-in-Bad.result _ (whole_of n.0 c.next_item.new.feed.pending end) (is ∙ c.refused.ensures) (bad_ahead n.0 (whole_of n.0 c.next_item.new.feed.pending end) i.1 c.next_item.new.feed.pending same n.1.1 refl n.1.0.few n.1.3),
-      λ old new written. refused_at files c.hand_on-in-Bad.result c.in-Bad.line c.in-Bad.reason c.frames.frames n.0 (whole_of n.0 c.next_item.new.feed.pending end) i.1 old new (is ∙ c.refused.ensures) i.2.given same n.1.1 n.1.2 i.2.number written,
+      λ old new written. refused_at files (crowd_in g.C.Subject.seen c.args.crowd.now) c.hand_on-in-Bad.result c.in-Bad.line c.in-Bad.reason c.frames.frames n.0 (whole_of n.0 c.next_item.new.feed.pending end) i.1 old new (is ∙ c.refused.ensures) i.2.given same n.1.1 n.1.2 i.2.number written,
     )) in (
       whole_of n.0 c.next_item.new.feed.pending end,
       text_of n.0 c.next_item.new.feed.pending start after (g.S.Source.faults c.args.source.now) (g.S.Source.faults c.frames.source) there,
@@ -305,7 +311,7 @@ overflow_sub-frames g c =
     let s = c.requires.holds in
     let i = c.frames.invariant.ran s.0 s.1 s.2 s.3 s.4 in
     let cut = c.in-Err.ensures.cut (setup_of s.0 i.1) i.2.earlier i.2.later i.2.follows in
-    let number = i.2.number ∙ ap (length {A = Frame}) i.2.are in
+    let number = i.2.number ∙ count_in s.0 (crowd_in g.C.Subject.seen c.args.crowd.now) i.1 _ i.2.are in
     let all = length-append i.2.earlier i.2.later in
     let few = cut.0 in
     search (arith, number, all, few)
@@ -315,7 +321,7 @@ overflow_sub-frames-in-Err-flush g c =
     let s = c.requires.holds in
     let i = c.frames.invariant.ran s.0 s.1 s.2 s.3 s.4 in
     let cut = c.in-Err-flush.ensures.cut (setup_of s.0 i.1) i.2.earlier i.2.later i.2.follows in
-    let number = i.2.number ∙ ap (length {A = Frame}) i.2.are in
+    let number = i.2.number ∙ count_in s.0 (crowd_in g.C.Subject.seen c.args.crowd.now) i.1 _ i.2.are in
     let all = length-append i.2.earlier i.2.later in
     let few = cut.1 in
     search (arith, number, all, few)

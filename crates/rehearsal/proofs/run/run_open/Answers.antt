@@ -6,6 +6,7 @@ use Rattle.scenario.specs.TextLaws.{given_first}
 use Rattle.rehearsal.specs.Outcome.{IsTextOf}
 use Rattle.rehearsal.proofs.TextFacts.{no_first_frame}
 use Rattle.rehearsal.proofs.Endings.{not_open_at_end, not_open_at_bad}
+use Rattle.rehearsal.specs.Beside.{crowd_in}
 use Rattle.rehearsal.proofs.Outcomes.{whole_of, is_closed, text_of, closed_same, open_after, tells_some, reading_same, reading_whole, items_whole, refused_none, read_failed, done, refused_at}
 use Rattle.rehearsal.proofs.Beginnings.{unread, begins, read_none, no_frames, no_log, header_refuses, header_refuses_whole, not_opened, not_opened_ahead, out_of_memory, opened, header_is_there}
 use Rattle.rehearsal.proofs.Ahead.{ahead_by, bad_ahead, header_ahead, nothing_ahead}
@@ -17,7 +18,7 @@ returns-in_default-clause-outcome g c = told_nothing _ _ (λ start.
       whole_of unread [] end,
       text_of unread [] start start (g.S.Source.faults c.args.source.now) (g.S.Source.faults c.args.source.now) (read_none (record { pending = []; total = 0; ended = false }) start refl),
       nothing_ahead c.at.result end c.at.ensures,
-      told_nothing _ _ (λ held. out_of_memory c.args.files.now c.at.result (whole_of unread [] end) held c.at.ensures),
+      told_nothing _ _ (λ held. out_of_memory c.args.files.now (crowd_in g.C.Subject.seen c.args.crowd.now) c.at.result (whole_of unread [] end) held c.at.ensures),
     ))
 
 pub unreachable-requires : goal.unreachable-requires
@@ -48,7 +49,7 @@ returns-in-Dry-clause-outcome g c = λ after tells.
         whole_of a.0 c.read_on.new.feed.pending end,
         text_of a.0 c.read_on.new.feed.pending first.0 after (g.S.Source.faults c.args.source.now) (g.S.Source.faults c.read_on.new.source) (first.2 first.0 (read_none c.new-feed.result first.0 c.new-feed.ensures)),
         ahead_by c.at-in-Dry.result _ (whole_of a.0 c.read_on.new.feed.pending end) c.at-in-Dry.ensures tt,
-        told_nothing _ _ (λ held. read_failed c.args.files.now c.at-in-Dry.result 0 a.0 (whole_of a.0 c.read_on.new.feed.pending end) [] held held c.at-in-Dry.ensures (refused_none c.args.files.now) same a.1.1 a.1.2 (no_frames [] refl) (no_log c.args.files.now [] held refl)),
+        told_nothing _ _ (λ held. read_failed c.args.files.now (crowd_in g.C.Subject.seen c.args.crowd.now) c.at-in-Dry.result 0 a.0 (whole_of a.0 c.read_on.new.feed.pending end) [] held held c.at-in-Dry.ensures (refused_none c.args.files.now) same a.1.1 a.1.2 (no_frames [] refl) (no_log c.args.files.now (crowd_in g.C.Subject.seen c.args.crowd.now) [] held refl)),
       ),
     )
 
@@ -63,7 +64,7 @@ returns-in-End-clause-outcome g c =
       whole_of a.0 c.read_on.new.feed.pending end,
       text_of a.0 c.read_on.new.feed.pending start after (g.S.Source.faults c.args.source.now) (g.S.Source.faults c.read_on.new.source) read,
       ahead_by c.at-in-End.result _ (whole_of a.0 c.read_on.new.feed.pending end) c.at-in-End.ensures tt,
-      told_nothing _ _ (λ held. done c.args.files.now c.at-in-End.result 0 a.0 (whole_of a.0 c.read_on.new.feed.pending end) [] held held c.at-in-End.ensures (refused_none c.args.files.now) same a.1.1 a.1.2 (no_frames [] refl) (no_log c.args.files.now [] held refl)),
+      told_nothing _ _ (λ held. done c.args.files.now (crowd_in g.C.Subject.seen c.args.crowd.now) c.at-in-End.result 0 a.0 (whole_of a.0 c.read_on.new.feed.pending end) [] held held c.at-in-End.ensures (refused_none c.args.files.now) same a.1.1 a.1.2 (no_frames [] refl) (no_log c.args.files.now (crowd_in g.C.Subject.seen c.args.crowd.now) [] held refl)),
     ))
 
 pub returns-in-Bad-clause-outcome : goal.returns-in-Bad-clause-outcome
@@ -77,7 +78,7 @@ returns-in-Bad-clause-outcome g c =
       whole_of a.0 c.read_on.new.feed.pending end,
       text_of a.0 c.read_on.new.feed.pending start after (g.S.Source.faults c.args.source.now) (g.S.Source.faults c.read_on.new.source) read,
       ahead_by c.refused.result _ (whole_of a.0 c.read_on.new.feed.pending end) c.refused.ensures (bad_ahead a.0 (whole_of a.0 c.read_on.new.feed.pending end) [] c.read_on.new.feed.pending same a.1.1 refl a.1.0.few a.1.3),
-      told_nothing _ _ (λ held. refused_at c.args.files.now c.refused.result c.in-Bad.line c.in-Bad.reason 0 a.0 (whole_of a.0 c.read_on.new.feed.pending end) [] held held c.refused.ensures (refused_none c.args.files.now) same a.1.1 a.1.2 (no_frames [] refl) (no_log c.args.files.now [] held refl)),
+      told_nothing _ _ (λ held. refused_at c.args.files.now (crowd_in g.C.Subject.seen c.args.crowd.now) c.refused.result c.in-Bad.line c.in-Bad.reason 0 a.0 (whole_of a.0 c.read_on.new.feed.pending end) [] held held c.refused.ensures (refused_none c.args.files.now) same a.1.1 a.1.2 (no_frames [] refl) (no_log c.args.files.now (crowd_in g.C.Subject.seen c.args.crowd.now) [] held refl)),
     ))
 
 pub returns-clause-outcome : goal.returns-clause-outcome
@@ -110,5 +111,5 @@ returns-in-Err-clause-outcome g c =
       whole_of a.0 c.read_on.new.feed.pending end,
       text_of a.0 c.read_on.new.feed.pending start after (g.S.Source.faults c.args.source.now) (g.S.Source.faults c.read_on.new.source) read,
       not_opened_ahead c.report_of.result (whole_of a.0 c.read_on.new.feed.pending end) c.in-Err.fault c.report_of.ensures (header_ahead a.0 item first_of_now.0 c.read_on.new.feed.pending end closed first_of_now.1 a.1.1 a.1.0.few),
-      told_nothing _ _ (λ held. not_opened c.args.files.now c.report_of.result (whole_of a.0 c.read_on.new.feed.pending end) c.in-Err.fault _ held c.report_of.ensures c.in-Err.ensures.refused (all ∙ refused)),
+      told_nothing _ _ (λ held. not_opened c.args.files.now (crowd_in g.C.Subject.seen c.args.crowd.now) c.report_of.result (whole_of a.0 c.read_on.new.feed.pending end) c.in-Err.fault _ held c.report_of.ensures c.in-Err.ensures.refused (all ∙ refused)),
     ))

@@ -2,6 +2,7 @@ use Rattle.std.proofs.Common.{Bool, [], sym, ap, refl}
 use Rattle.fsw_outside.specs.TellingLaws.{told_nothing}
 use Rattle.scenario.specs.Texts.{Reading}
 use Rattle.scenario.specs.Answers.{answer_at_end}
+use Rattle.rehearsal.specs.Beside.{crowd_in}
 use Rattle.rehearsal.proofs.Outcomes.{whole_of, is_closed, open_after, tells_some, reading_same, read_failed, refused_none}
 use Rattle.rehearsal.proofs.Beginnings.{unread, no_frames, no_log, nothing_reads, none_handed_out}
 use Rattle.rehearsal.proofs.Ahead.{ahead_by}
@@ -20,6 +21,6 @@ returns-in_default-clause-outcome g c = λ after tells.
         whole_of unread [] end,
         none_handed_out _ (g.S.Shelf.faults c.args.shelf.now) (g.S.Shelf.faults c.open.new.self) _ after.rest c.in_default.ensures.is_open,
         ahead_by c.at.result _ (whole_of unread [] end) c.at.ensures tt,
-        told_nothing _ _ (λ held. read_failed c.args.files.now c.at.result 0 unread (whole_of unread [] end) [] held held c.at.ensures (refused_none c.args.files.now) same (sym (ap (λ (r : Reading). r.items) nothing_reads)) (sym (ap (λ (r : Reading). answer_at_end r.ending) nothing_reads)) (no_frames [] refl) (no_log c.args.files.now [] held refl)),
+        told_nothing _ _ (λ held. read_failed c.args.files.now (crowd_in g.C.Subject.seen c.args.crowd.now) c.at.result 0 unread (whole_of unread [] end) [] held held c.at.ensures (refused_none c.args.files.now) same (sym (ap (λ (r : Reading). r.items) nothing_reads)) (sym (ap (λ (r : Reading). answer_at_end r.ending) nothing_reads)) (no_frames [] refl) (no_log c.args.files.now (crowd_in g.C.Subject.seen c.args.crowd.now) [] held refl)),
       ),
     )
