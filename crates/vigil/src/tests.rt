@@ -2,6 +2,7 @@
 
 mod all_sequences;
 mod checksums;
+mod crowds;
 mod drills;
 mod dwell;
 mod examples;

@@ -14,7 +14,7 @@ use std::test::Fail;
 use std::thread::Threads;
 
 /// What `drill:7` writes without tables.
-const SUMMARY: &str = "frames 2000\nlines 2621\nbytes 226802\ncrc 7FC4\n";
+pub const SUMMARY: &str = "frames 2000\nlines 2621\nbytes 226802\ncrc 7FC4\n";
 
 /// On any number of workers, by both forms of the number, and over a shelf whose every call fails.
 #[test]
@@ -59,7 +59,7 @@ fn summary_is_cut_at_each_byte(rt: HostRuntime) -> Result<(), Fail> {
 }
 
 /// The text of a generated scenario.
-fn text_of(alloc: Global, k: u32) -> Result<Vec<u8>, Fail> {
+pub fn text_of(alloc: Global, k: u32) -> Result<Vec<u8>, Fail> {
     let mut drill = Drill::start(k.min(999_999));
     let mut text = Vec::new(alloc);
     let mut piece = [0; 100];
@@ -71,7 +71,7 @@ fn text_of(alloc: Global, k: u32) -> Result<Vec<u8>, Fail> {
 }
 
 /// The summary of this log.
-fn summary_of(alloc: Global, log: &[u8]) -> Result<String, Fail> {
+pub fn summary_of(alloc: Global, log: &[u8]) -> Result<String, Fail> {
     let lines = log.iter().filter(|byte| **byte == b'\n').count();
     let bytes = log.len();
     let check = crc16(0, log);
@@ -79,7 +79,7 @@ fn summary_of(alloc: Global, log: &[u8]) -> Result<String, Fail> {
 }
 
 // The words of a drill beside eight files, and of the same scenario from a file.
-const DRILL: [&str; 9] = ["drill:7", "a", "b", "c", "d", "e", "f", "g", "h"];
+pub const DRILL: [&str; 9] = ["drill:7", "a", "b", "c", "d", "e", "f", "g", "h"];
 
 const FILE: [&str; 9] = ["s", "a", "b", "c", "d", "e", "f", "g", "h"];
 

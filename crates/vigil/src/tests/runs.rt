@@ -39,7 +39,7 @@ pub struct Ran {
 }
 
 /// These words, as the program takes them.
-fn words_of(alloc: Global, words: &[&str]) -> Result<Words, NoMemory> {
+pub fn words_of(alloc: Global, words: &[&str]) -> Result<Words, NoMemory> {
     let mut given = Words::open(alloc)?;
     for word in words.iter() {
         given.add(word)?;
@@ -76,19 +76,14 @@ pub fn run_beside<R: Threads + Sync + AllocGlobal>(
     run_through(rt, words, text, files, outside, &OpenGate)
 }
 
-/// The same, where each job and each bank goes through this gate.
-pub fn run_through<R: Threads + Sync + AllocGlobal, G: Gate>(
-    rt: &R,
-    words: &[&str],
+/// A shelf whose file `s` is this text, and whose files `a` to `n` are the first fourteen of these.
+pub fn shelf_of(
+    alloc: Global,
     text: &str,
     files: &[&[u8]],
     outside: &Outside<'_>,
-    gate: &G,
-) -> Result<Ran, NoMemory> {
-    let alloc = rt.alloc();
-    let most = outside.most.max(1);
-    let given = words_of(alloc, words)?;
-    let mut shelf = MemShelf::short(alloc, outside.shelf, most)?;
+) -> Result<MemShelf, NoMemory> {
+    let mut shelf = MemShelf::short(alloc, outside.shelf, outside.most.max(1))?;
     shelf.put("s", text.as_bytes())?;
     shelf.put("a", nth(files, 0))?;
     shelf.put("b", nth(files, 1))?;
@@ -104,6 +99,22 @@ pub fn run_through<R: Threads + Sync + AllocGlobal, G: Gate>(
     shelf.put("l", nth(files, 11))?;
     shelf.put("m", nth(files, 12))?;
     shelf.put("n", nth(files, 13))?;
+    Ok(shelf)
+}
+
+/// The same, where each job and each bank goes through this gate.
+pub fn run_through<R: Threads + Sync + AllocGlobal, G: Gate>(
+    rt: &R,
+    words: &[&str],
+    text: &str,
+    files: &[&[u8]],
+    outside: &Outside<'_>,
+    gate: &G,
+) -> Result<Ran, NoMemory> {
+    let alloc = rt.alloc();
+    let most = outside.most.max(1);
+    let given = words_of(alloc, words)?;
+    let mut shelf = shelf_of(alloc, text, files, outside)?;
     let mut out = MemSink::short(alloc, outside.out, ROOM, most)?;
     let mut err = MemSink::short(alloc, outside.err, 256, most)?;
     let report = vigil(rt, alloc, &given, &mut shelf, &mut out, &mut err, gate);
@@ -258,6 +269,20 @@ fn push_frame(text: &mut String, parts: &[&[Part<'_>]], frame: u32) -> Result<()
     text.push_str("tick\n")
 }
 
+/// The text of a rehearsal.
+pub fn text_of(
+    alloc: Global,
+    header: &str,
+    rehearsal: &Rehearsal<'_>,
+) -> Result<String, AllocError> {
+    let mut text = String::from_str(alloc, header)?;
+    for frame in 0..rehearsal.frames {
+        push_frame(&mut text, rehearsal.parts, frame)?;
+    }
+    text.push_str("end\n")?;
+    Ok(text)
+}
+
 /// Asserts what a rehearsal beside these files gives.
 pub fn assert_rehearsal<R: Threads + Sync + AllocGlobal + Abort>(
     rt: &R,
@@ -265,11 +290,7 @@ pub fn assert_rehearsal<R: Threads + Sync + AllocGlobal + Abort>(
     files: &[&[u8]],
     rehearsal: &Rehearsal<'_>,
 ) -> Result<(), Fail> {
-    let mut text = String::from_str(rt.alloc(), header)?;
-    for frame in 0..rehearsal.frames {
-        push_frame(&mut text, rehearsal.parts, frame)?;
-    }
-    text.push_str("end\n")?;
+    let text = text_of(rt.alloc(), header, rehearsal)?;
     let log = log_of(rt.alloc(), rehearsal.lines)?;
     assert_log_beside(rt, files, text.as_str(), rehearsal.frames, log.as_str())
 }

@@ -1,0 +1,583 @@
+//! Rehearsals beside simulated applications.
+
+use super::drills::{DRILL, SUMMARY, summary_of, text_of as drill_text};
+use super::given::args_of;
+use super::runs::{
+    HEADER, HONEST, Line, Ran, Rehearsal, assert_text, log_of, run_beside, shelf_of, text_of,
+    words_of,
+};
+use super::tables::{Count, Monitor, apps_file, counts_file, events_file};
+use crate::rehearse_own;
+use fsw_outside::{MemSink, OpenGate};
+use packet_forms::Name;
+use rehearsal::{Report, Status, vigil_with};
+use std::process::Abort;
+use std::test::Fail;
+use std::thread::Threads;
+use subjects::{Hanging, Listed, Steady, Subject};
+
+/// How a subject goes on: its kind, and what that kind is made with.
+#[derive(Clone, Copy)]
+enum Sort<'a> {
+    Steady,
+    Hanging(u32),
+    Listed(&'a [u32], u32),
+}
+
+/// A subject: its name, and how it goes on.
+type Made<'a> = (&'a str, Sort<'a>);
+
+/// The program's own subjects.
+const OWN: [Made<'static>; 3] = [
+    ("NAV", Sort::Steady),
+    ("PWR", Sort::Hanging(4)),
+    ("THM", Sort::Listed(&[5, 5, 6], 0)),
+];
+
+/// Runs these words beside these subjects, of which there are at most 64.
+fn run_with<R: Threads + Sync + AllocGlobal>(
+    rt: &R,
+    words: &[&str],
+    made: &[Made<'_>],
+    text: &str,
+    files: &[&[u8]],
+) -> Result<Ran, Fail> {
+    let alloc = rt.alloc();
+    let given = words_of(alloc, words)?;
+    let mut shelf = shelf_of(alloc, text, files, &HONEST)?;
+    let mut out = MemSink::new(alloc, &[], 16_000_000)?;
+    let mut err = MemSink::new(alloc, &[], 256)?;
+    let mut subjects: Vec<Box<dyn Subject + Send>> = Vec::new(alloc);
+    for (name, sort) in made.iter() {
+        let name = Name::from_text(name).ok_or("no name")?;
+        match *sort {
+            Sort::Steady => subjects.push(Box::new(alloc, Steady::new(name))?)?,
+            Sort::Hanging(after) => {
+                let after = after.max(1).min(1000);
+                subjects.push(Box::new(alloc, Hanging::new(name, after))?)?;
+            }
+            Sort::Listed(values, back) => {
+                let mut list = Vec::new(alloc);
+                list.extend_from_slice(values)?;
+                let listed = Listed::new(name, list, back).ok().ok_or("no plan")?;
+                subjects.push(Box::new(alloc, listed)?)?;
+            }
+        }
+    }
+    if subjects.len() > 64 {
+        return Err(Fail::from("too many subjects"));
+    }
+    let report = vigil_with(
+        rt, alloc, &given, subjects, &mut shelf, &mut out, &mut err, &OpenGate,
+    );
+    Ok(Ran { report, out, err })
+}
+
+/// Asserts that a rehearsal ran to its end, in so many frames, and wrote this log.
+fn assert_ran<R: Abort>(rt: &R, ran: &Ran, frames: u32, log: &str) {
+    assert_text(rt, "out", ran.out.bytes(), log);
+    assert_text(rt, "err", ran.err.bytes(), "");
+    assert_eq!(rt; ran.report, Report::at(Status::Done, frames));
+}
+
+/// A rehearsal beside subjects, with the entries of two tables, which stand in rising places.
+#[derive(Clone, Copy)]
+struct Row {
+    subjects: &'static [Made<'static>],
+    apps: &'static [Monitor<'static>],
+    events: &'static [Monitor<'static>],
+    rehearsal: Rehearsal<'static>,
+}
+
+const ROWS: [Row; 10] = [
+    // One that hangs is restarted.
+    Row {
+        subjects: &OWN,
+        apps: &[(1, "NAV", 2, 2), (2, "PWR", 2, 2), (3, "THM", 2, 2)],
+        events: &[],
+        rehearsal: Rehearsal {
+            frames: 10,
+            parts: &[&[]],
+            lines: &[Line::Event("HS", 5, 0, 102, 3), Line::Text("5 restart PWR")],
+        },
+    },
+    // The scenario's own counters have no effect.
+    Row {
+        subjects: &OWN,
+        apps: &[(1, "LOAD", 1, 3)],
+        events: &[],
+        rehearsal: Rehearsal {
+            frames: 1,
+            parts: &[&[(0, "app LOAD 5\n")]],
+            lines: &[Line::Event("HS", 0, 0, 103, 3)],
+        },
+    },
+    // It begins anew once it is restarted, and hangs again.
+    Row {
+        subjects: &OWN,
+        apps: &[(1, "NAV", 2, 2), (2, "PWR", 2, 2), (3, "THM", 2, 2)],
+        events: &[],
+        rehearsal: Rehearsal {
+            frames: 12,
+            parts: &[&[(6, "send 18AEC0000001028A\n")]],
+            lines: &[
+                Line::Event("HS", 5, 0, 102, 3),
+                Line::Text("5 restart PWR"),
+                Line::Event("HS", 7, 1, 18, 2),
+                Line::Event("HS", 11, 2, 102, 3),
+                Line::Text("11 restart PWR"),
+            ],
+        },
+    },
+    // One that is deleted gives no counter any more.
+    Row {
+        subjects: &OWN,
+        apps: &[(1, "PWR", 2, 3)],
+        events: &[(1, "PWR", 7, 3)],
+        rehearsal: Rehearsal {
+            frames: 5,
+            parts: &[&[(
+                0,
+                "send 0808C0000025000003E800005057520000000000000000000000000000000000000700020000004200000001\n",
+            )]],
+            lines: &[
+                Line::Event("HS", 1, 0, 113, 3),
+                Line::Text("1 delete PWR"),
+                Line::Event("HS", 3, 1, 103, 3),
+            ],
+        },
+    },
+    // Two of one name are restarted and deleted together; none is left.
+    Row {
+        subjects: &[
+            ("PWR", Sort::Hanging(3)),
+            ("NAV", Sort::Steady),
+            ("PWR", Sort::Steady),
+        ],
+        apps: &[(1, "PWR", 2, 2)],
+        events: &[(1, "PWR", 7, 3)],
+        rehearsal: Rehearsal {
+            frames: 13,
+            parts: &[&[
+                (4, "send 18AEC0000001028A\n"),
+                (
+                    9,
+                    "send 0808C0000025000003E800005057520000000000000000000000000000000000000700020000004200000001\n",
+                ),
+                (10, "send 18AEC0000001028A\n"),
+            ]],
+            lines: &[
+                Line::Event("HS", 4, 0, 102, 3),
+                Line::Text("4 restart PWR"),
+                Line::Event("HS", 5, 1, 18, 2),
+                Line::Event("HS", 9, 2, 102, 3),
+                Line::Text("9 restart PWR"),
+                Line::Event("HS", 10, 3, 113, 3),
+                Line::Text("10 delete PWR"),
+                Line::Event("HS", 11, 4, 18, 2),
+                Line::Event("HS", 12, 5, 102, 3),
+                Line::Text("12 restart PWR"),
+            ],
+        },
+    },
+    // Requests for a name that nobody has change nothing.
+    Row {
+        subjects: &[("PWR", Sort::Hanging(4))],
+        apps: &[(1, "XYZ", 2, 2), (2, "PWR", 2, 3)],
+        events: &[(1, "XYZ", 7, 3)],
+        rehearsal: Rehearsal {
+            frames: 7,
+            parts: &[&[(
+                0,
+                "send 0808C0000025000003E8000058595A0000000000000000000000000000000000000700020000004200000001\n",
+            )]],
+            lines: &[
+                Line::Event("HS", 1, 0, 102, 3),
+                Line::Text("1 restart XYZ"),
+                Line::Event("HS", 1, 1, 113, 3),
+                Line::Text("1 delete XYZ"),
+                Line::Event("HS", 5, 2, 103, 3),
+            ],
+        },
+    },
+    // A name is restarted and deleted in one frame.
+    Row {
+        subjects: &[("PWR", Sort::Listed(&[9], 0))],
+        apps: &[(1, "PWR", 2, 2)],
+        events: &[(1, "PWR", 7, 3)],
+        rehearsal: Rehearsal {
+            frames: 7,
+            parts: &[&[
+                (
+                    1,
+                    "send 0808C0000025000003E800005057520000000000000000000000000000000000000700020000004200000001\n",
+                ),
+                (3, "send 18AEC0000001028A\n"),
+            ]],
+            lines: &[
+                Line::Event("HS", 2, 0, 102, 3),
+                Line::Text("2 restart PWR"),
+                Line::Event("HS", 2, 1, 113, 3),
+                Line::Text("2 delete PWR"),
+                Line::Event("HS", 4, 2, 18, 2),
+                Line::Event("HS", 5, 3, 102, 3),
+                Line::Text("5 restart PWR"),
+            ],
+        },
+    },
+    // A processor reset in the same frame restarts all.
+    Row {
+        subjects: &[
+            ("PWR", Sort::Hanging(2)),
+            ("THM", Sort::Listed(&[5, 6, 7], 2)),
+        ],
+        apps: &[(1, "GONE", 4, 1), (2, "PWR", 2, 2), (3, "THM", 2, 3)],
+        events: &[],
+        rehearsal: Rehearsal {
+            frames: 9,
+            parts: &[&[]],
+            lines: &[
+                Line::Event("HS", 3, 0, 101, 3),
+                Line::Text("3 reset"),
+                Line::Event("HS", 3, 1, 102, 3),
+                Line::Text("3 restart PWR"),
+                Line::Event("HS", 7, 2, 101, 3),
+                Line::Text("7 reset"),
+                Line::Event("HS", 7, 3, 102, 3),
+                Line::Text("7 restart PWR"),
+            ],
+        },
+    },
+    // A plan goes back to its last counter.
+    Row {
+        subjects: &[("THM", Sort::Listed(&[5, 6, 7], 2))],
+        apps: &[(1, "THM", 2, 2)],
+        events: &[],
+        rehearsal: Rehearsal {
+            frames: 11,
+            parts: &[&[(4, "send 18AEC0000001028A\n")]],
+            lines: &[
+                Line::Event("HS", 4, 0, 102, 3),
+                Line::Text("4 restart THM"),
+                Line::Event("HS", 5, 1, 18, 2),
+                Line::Event("HS", 9, 2, 102, 3),
+                Line::Text("9 restart THM"),
+            ],
+        },
+    },
+    // Plans of one counter.
+    Row {
+        subjects: &[
+            ("NINE", Sort::Listed(&[9], 0)),
+            ("NIL", Sort::Listed(&[0], 0)),
+        ],
+        apps: &[(1, "NINE", 2, 2), (2, "NIL", 2, 2)],
+        events: &[],
+        rehearsal: Rehearsal {
+            frames: 4,
+            parts: &[&[]],
+            lines: &[
+                Line::Event("HS", 1, 0, 102, 3),
+                Line::Text("1 restart NIL"),
+                Line::Event("HS", 2, 1, 102, 3),
+                Line::Text("2 restart NINE"),
+            ],
+        },
+    },
+];
+
+/// The words of each row.
+const WORDS: [&[&str]; 3] = [
+    &["--subjects", "s", "a", "b"],
+    &["s", "--workers", "5", "a", "--subjects", "b"],
+    &["--workers=16", "--subjects", "--", "s", "a", "b"],
+];
+
+#[test]
+fn subjects_are_watched(rt: HostRuntime) -> Result<(), Fail> {
+    for row in ROWS.iter() {
+        let apps = apps_file(rt.alloc(), row.apps)?;
+        let events = events_file(rt.alloc(), row.events)?;
+        let text = text_of(rt.alloc(), HEADER, &row.rehearsal)?;
+        let log = log_of(rt.alloc(), row.rehearsal.lines)?;
+        for words in WORDS {
+            let ran = run_with(&rt, words, row.subjects, text.as_str(), &[&apps, &events])?;
+            assert_ran(&rt, &ran, row.rehearsal.frames, log.as_str());
+        }
+    }
+    Ok(())
+}
+
+/// The rows of the program's own subjects, as the program makes them.
+#[test]
+fn own_subjects_are_watched(rt: HostRuntime) -> Result<(), Fail> {
+    let alloc = rt.alloc();
+    for row in ROWS[..4].iter() {
+        let apps = apps_file(alloc, row.apps)?;
+        let events = events_file(alloc, row.events)?;
+        let text = text_of(alloc, HEADER, &row.rehearsal)?;
+        let log = log_of(alloc, row.rehearsal.lines)?;
+        let mut shelf = shelf_of(alloc, text.as_str(), &[&apps, &events], &HONEST)?;
+        let mut out = MemSink::new(alloc, &[], 10_000)?;
+        let mut err = MemSink::new(alloc, &[], 256)?;
+        let given = Ok(args_of(&rt, &["vigil", "--subjects", "s", "a", "b"])?);
+        let report = rehearse_own(&rt, alloc, given, &mut shelf, &mut out, &mut err)?;
+        assert_ran(
+            &rt,
+            &Ran { report, out, err },
+            row.rehearsal.frames,
+            log.as_str(),
+        );
+    }
+    Ok(())
+}
+
+/// A counter that moves in the scenario, and is acted on where it stays.
+const STALLED: Rehearsal<'static> = Rehearsal {
+    frames: 7,
+    parts: &[&[
+        (0, "app LOAD 5\n"),
+        (1, "app LOAD 5\n"),
+        (2, "app LOAD 6\n"),
+        (3, "app LOAD 6\n"),
+        (4, "app LOAD 6\n"),
+        (5, "app LOAD 6\n"),
+        (6, "app LOAD 6\n"),
+    ]],
+    lines: &[
+        Line::Event("HS", 5, 0, 102, 3),
+        Line::Text("5 restart LOAD"),
+    ],
+};
+
+/// Without subjects the flag leaves no counter at all; without the flag the subjects are dropped.
+#[test]
+fn flag_alone_counts(rt: HostRuntime) -> Result<(), Fail> {
+    let apps = apps_file(rt.alloc(), &[(1, "LOAD", 3, 2)])?;
+    let text = text_of(rt.alloc(), HEADER, &STALLED)?;
+    let empty = [
+        Line::Event("HS", 2, 0, 102, 3),
+        Line::Text("2 restart LOAD"),
+    ];
+    let empty = log_of(rt.alloc(), &empty)?;
+    let scripted = log_of(rt.alloc(), STALLED.lines)?;
+    let with_flag: [&str; 3] = ["--subjects", "s", "a"];
+    let ran = run_with(&rt, &with_flag, &[], text.as_str(), &[&apps])?;
+    assert_ran(&rt, &ran, 7, empty.as_str());
+    let ran = run_beside(&rt, &with_flag, text.as_str(), &[&apps], &HONEST)?;
+    assert_ran(&rt, &ran, 7, empty.as_str());
+    let others = [("LOAD", Sort::Steady)];
+    let ran = run_with(&rt, &["s", "a"], &others, text.as_str(), &[&apps])?;
+    assert_ran(&rt, &ran, 7, scripted.as_str());
+    let ran = run_with(&rt, &with_flag, &others, text.as_str(), &[&apps])?;
+    assert_ran(&rt, &ran, 7, "");
+    Ok(())
+}
+
+/// 64 subjects of the three kinds.
+const CROWD: [Made<'static>; 64] = [
+    ("N00", Sort::Steady),
+    ("N01", Sort::Hanging(1)),
+    ("N02", Sort::Listed(&[2, 5, 6], 1)),
+    ("N03", Sort::Steady),
+    ("N04", Sort::Hanging(4)),
+    ("N05", Sort::Listed(&[5, 5, 6], 1)),
+    ("N06", Sort::Steady),
+    ("N07", Sort::Hanging(7)),
+    ("N08", Sort::Listed(&[8, 5, 6], 1)),
+    ("N09", Sort::Steady),
+    ("N10", Sort::Hanging(10)),
+    ("N11", Sort::Listed(&[11, 5, 6], 1)),
+    ("N12", Sort::Steady),
+    ("N13", Sort::Hanging(13)),
+    ("N14", Sort::Listed(&[14, 5, 6], 1)),
+    ("N15", Sort::Steady),
+    ("N16", Sort::Hanging(16)),
+    ("N17", Sort::Listed(&[17, 5, 6], 1)),
+    ("N18", Sort::Steady),
+    ("N19", Sort::Hanging(19)),
+    ("N20", Sort::Listed(&[20, 5, 6], 1)),
+    ("N21", Sort::Steady),
+    ("N22", Sort::Hanging(22)),
+    ("N23", Sort::Listed(&[23, 5, 6], 1)),
+    ("N24", Sort::Steady),
+    ("N25", Sort::Hanging(25)),
+    ("N26", Sort::Listed(&[26, 5, 6], 1)),
+    ("N27", Sort::Steady),
+    ("N28", Sort::Hanging(28)),
+    ("N29", Sort::Listed(&[29, 5, 6], 1)),
+    ("N30", Sort::Steady),
+    ("N31", Sort::Hanging(31)),
+    ("N32", Sort::Listed(&[32, 5, 6], 1)),
+    ("N33", Sort::Steady),
+    ("N34", Sort::Hanging(34)),
+    ("N35", Sort::Listed(&[35, 5, 6], 1)),
+    ("N36", Sort::Steady),
+    ("N37", Sort::Hanging(37)),
+    ("N38", Sort::Listed(&[38, 5, 6], 1)),
+    ("N39", Sort::Steady),
+    ("N40", Sort::Hanging(40)),
+    ("N41", Sort::Listed(&[41, 5, 6], 1)),
+    ("N42", Sort::Steady),
+    ("N43", Sort::Hanging(43)),
+    ("N44", Sort::Listed(&[44, 5, 6], 1)),
+    ("N45", Sort::Steady),
+    ("N46", Sort::Hanging(46)),
+    ("N47", Sort::Listed(&[47, 5, 6], 1)),
+    ("N48", Sort::Steady),
+    ("N49", Sort::Hanging(49)),
+    ("N50", Sort::Listed(&[50, 5, 6], 1)),
+    ("N51", Sort::Steady),
+    ("N52", Sort::Hanging(52)),
+    ("N53", Sort::Listed(&[53, 5, 6], 1)),
+    ("N54", Sort::Steady),
+    ("N55", Sort::Hanging(55)),
+    ("N56", Sort::Listed(&[56, 5, 6], 1)),
+    ("N57", Sort::Steady),
+    ("N58", Sort::Hanging(58)),
+    ("N59", Sort::Listed(&[59, 5, 6], 1)),
+    ("N60", Sort::Steady),
+    ("N61", Sort::Hanging(61)),
+    ("N62", Sort::Listed(&[62, 5, 6], 1)),
+    ("N63", Sort::Steady),
+];
+
+const CROWD_APPS: [Monitor<'static>; 17] = [
+    (1, "N01", 2, 2),
+    (2, "N04", 2, 3),
+    (3, "N07", 2, 2),
+    (4, "N10", 2, 3),
+    (5, "N13", 2, 2),
+    (6, "N16", 2, 3),
+    (7, "N19", 2, 2),
+    (8, "N22", 2, 3),
+    (9, "N02", 2, 3),
+    (10, "N05", 2, 2),
+    (11, "N08", 2, 3),
+    (12, "N11", 2, 2),
+    (13, "N00", 2, 3),
+    (14, "N03", 2, 2),
+    (15, "N33", 2, 2),
+    (16, "N63", 2, 2),
+    (17, "N61", 2, 2),
+];
+
+const CROWD_COUNTS: [Count<'static>; 32] = [
+    (1, "N00", 1),
+    (2, "N02", 1),
+    (3, "N04", 1),
+    (4, "N06", 1),
+    (5, "N08", 1),
+    (6, "N10", 1),
+    (7, "N12", 1),
+    (8, "N14", 1),
+    (9, "N16", 1),
+    (10, "N18", 1),
+    (11, "N20", 1),
+    (12, "N22", 1),
+    (13, "N24", 1),
+    (14, "N26", 1),
+    (15, "N28", 1),
+    (16, "N30", 1),
+    (17, "N32", 1),
+    (18, "N34", 1),
+    (19, "N36", 1),
+    (20, "N38", 1),
+    (21, "N40", 1),
+    (22, "N42", 1),
+    (23, "N44", 1),
+    (24, "N46", 1),
+    (25, "N48", 1),
+    (26, "N50", 1),
+    (27, "N52", 1),
+    (28, "N54", 1),
+    (29, "N56", 1),
+    (30, "N58", 1),
+    (31, "N60", 1),
+    (32, "N62", 1),
+];
+
+/// Housekeeping shows the counters of 32 of them.
+const CROWD_WATCHED: Rehearsal<'static> = Rehearsal {
+    frames: 26,
+    parts: &[&[(11, "send 18AFC00000010089\n")]],
+    lines: &[
+        Line::Event("HS", 2, 0, 102, 3),
+        Line::Text("2 restart N01"),
+        Line::Event("HS", 5, 1, 103, 3),
+        Line::Event("HS", 8, 2, 102, 3),
+        Line::Text("8 restart N07"),
+        Line::Event("HS", 11, 3, 103, 3),
+        Line::Text(
+            "12 pkt 08ADC0000095000003F400000000010100000003000000000001FFF000000001000000060000000400000001000000060000000A00000001000000060000000D00000001000000060000000D00000001000000060000000D00000001000000060000000D00000001000000060000000D00000001000000060000000D00000001000000060000000D00000001000000060000000D0000000100000006",
+        ),
+        Line::Event("HS", 14, 4, 102, 3),
+        Line::Text("14 restart N13"),
+        Line::Event("HS", 17, 5, 103, 3),
+        Line::Event("HS", 20, 6, 102, 3),
+        Line::Text("20 restart N19"),
+        Line::Event("HS", 23, 7, 103, 3),
+    ],
+};
+
+#[test]
+fn large_crowd_is_watched(rt: HostRuntime) -> Result<(), Fail> {
+    let apps = apps_file(rt.alloc(), &CROWD_APPS)?;
+    let counts = counts_file(rt.alloc(), &CROWD_COUNTS)?;
+    let text = text_of(rt.alloc(), HEADER, &CROWD_WATCHED)?;
+    let log = log_of(rt.alloc(), CROWD_WATCHED.lines)?;
+    for words in WORDS {
+        let ran = run_with(&rt, words, &CROWD, text.as_str(), &[&apps, &counts])?;
+        assert_ran(&rt, &ran, CROWD_WATCHED.frames, log.as_str());
+    }
+    Ok(())
+}
+
+/// Asserts how words end that name no rehearsal.
+fn assert_end<R: Threads + Sync + AllocGlobal + Abort>(
+    rt: &R,
+    words: &[&str],
+    report: Report,
+    told: &str,
+) -> Result<(), Fail> {
+    let ran = run_with(rt, words, &OWN, "", &[])?;
+    assert_text(rt, "out", ran.out.bytes(), "");
+    assert_text(rt, "err", ran.err.bytes(), told);
+    assert_eq!(rt; ran.report, report);
+    Ok(())
+}
+
+#[test]
+fn flag_stands_once_and_before_dashes(rt: HostRuntime) -> Result<(), Fail> {
+    let refused = "vigil: words refused\n";
+    let report = Report::at(Status::WordsRefused, 0);
+    assert_end(&rt, &["--subjects", "s", "--subjects"], report, refused)?;
+    assert_end(&rt, &["--subjects=true", "s"], report, refused)?;
+    assert_end(&rt, &["--subjects"], report, refused)?;
+    let unread = "vigil: read failed on file 0\n";
+    let report = Report::at(Status::ReadFailed, 0);
+    assert_end(&rt, &["--", "--subjects"], report, unread)?;
+    let unread = "vigil: read failed on file 1\n";
+    let report = Report::file_unread(1);
+    assert_end(&rt, &["s", "--", "--subjects"], report, unread)
+}
+
+/// Without tables nothing looks at the counters; with a monitor the summary is that of the log which the same scenario in a
+/// file gives beside the subjects.
+#[test]
+fn drills_run_beside_subjects(rt: HostRuntime) -> Result<(), Fail> {
+    let ran = run_with(&rt, &["--subjects", "drill:7"], &OWN, "", &[])?;
+    assert_ran(&rt, &ran, 2000, SUMMARY);
+    let apps = apps_file(rt.alloc(), &[(1, "LOAD", 2, 2), (2, "PWR", 3, 3)])?;
+    let text = drill_text(rt.alloc(), 7)?;
+    let text = std::str::from_utf8(&text).unwrap_or("no text");
+    let from_file = run_with(&rt, &["s", "a", "--subjects"], &OWN, text, &[&apps])?;
+    let log = from_file.out.bytes();
+    assert!(rt; log.starts_with(b"1 pkt 0808C0000025000F4241"));
+    let summary = summary_of(rt.alloc(), log)?;
+    let ran = run_with(&rt, &["drill:7", "a", "--subjects"], &OWN, "", &[&apps])?;
+    assert_ran(&rt, &ran, 2000, summary.as_str());
+    let without = run_beside(&rt, &DRILL[..2], "", &[&apps], &HONEST)?;
+    assert!(rt; without.out.bytes() != summary.as_bytes());
+    Ok(())
+}
