@@ -2,6 +2,7 @@ pub mod Words
 pub mod Files
 pub mod Fed
 pub mod Text
+pub mod Drill
 pub mod Beside
 pub mod Report
 pub mod Outcome

@@ -31,8 +31,9 @@ pub struct DrillText {
 
 impl Source for DrillText {
     ghost use Rattle.std.specs.Prelude.{[], Some, None, true};
+    ghost use Rattle.rehearsal.specs.Drill.{unread_in};
 
-    ghost told = { λ t. Some (record { files = []; rest = t.drill; openings = 0; name = None }) };
+    ghost told = { λ t. Some (record { files = []; rest = unread_in t; openings = 0; name = None }) };
 
     ghost is_open = { λ t. true };
 
