@@ -61,11 +61,12 @@ fn carry_out<R: Threads + Sync, C: Subject + Send, S: Shelf, O: Sink, G: Gate>(
             return Report::file_refused(fault.file, fault.entry, fault.reason + 10);
         }
     };
+    let workers = plan.workers();
     match plan.drill() {
         None => run_scenario(
             rt,
             alloc,
-            plan.workers(),
+            workers,
             tables,
             &files,
             crowd,
@@ -74,17 +75,7 @@ fn carry_out<R: Threads + Sync, C: Subject + Send, S: Shelf, O: Sink, G: Gate>(
             out,
             gate,
         ),
-        Some(k) => run_drill(
-            rt,
-            alloc,
-            plan.workers(),
-            tables,
-            &files,
-            crowd,
-            k,
-            out,
-            gate,
-        ),
+        Some(k) => run_drill(rt, alloc, workers, tables, &files, crowd, k, out, gate),
     }
 }
 
