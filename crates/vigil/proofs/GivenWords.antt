@@ -1,5 +1,5 @@
 -- The words that an iterator still has.
-use Rattle.std.proofs.Common.{◌≡◌, ℕ, List, [], ◌∷◌, ◌++◌, length, map, drop, refl, sym, ◌∙◌, ap, subst, arith, append-nil, Option, Some, None}
+use Rattle.std.proofs.Common.{◌≡◌, ℕ, List, [], ◌∷◌, ◌++◌, length, map, drop, refl, sym, ◌∙◌, ap, arith, append-nil, Option, Some, None}
 use Rattle.std.specs.Prelude.{option_to_list}
 
 -- nothing is left of a list without length

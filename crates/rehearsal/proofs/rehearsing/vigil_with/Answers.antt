@@ -1,8 +1,6 @@
-use Rattle.std.proofs.Common.{◌≡◌, sym, ◌∙◌, ap, subst, true}
-use Rattle.fsw_outside.specs.Told.{WhereTold}
+use Rattle.std.proofs.Common.{◌≡◌, ◌∙◌, ap}
 use Rattle.fsw_outside.specs.TellingLaws.{told_map}
 use Rattle.rehearsal.specs.Words.{Asked, drill_in}
-use Rattle.rehearsal.specs.Outcome.{Rehearses, Completes, SumsUp}
 use Rattle.rehearsal.specs.declared.report.Report.{Report}
 use Rattle.rehearsal.specs.declared.report.Status.TheVariants as statuses
 use Rattle.rehearsal.proofs.Completeness.{rehearses_complete, not_risen}

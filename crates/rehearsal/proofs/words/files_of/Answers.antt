@@ -1,4 +1,4 @@
-use Rattle.std.proofs.Common.{◌≡◌, ◌<◌, ◌≤◌, ℕ, List, Some, length, map, sym, ◌∙◌, ap, arith, Bor}
+use Rattle.std.proofs.Common.{◌<◌, ◌≤◌, ℕ, List, Some, length, map, sym, ◌∙◌, ap, Bor}
 use Rattle.std.proofs.lemmas.List.{length-map}
 use Rattle.clap.specs.Matches.{found_of}
 use Rattle.rehearsal.specs.Words.{few_files}
