@@ -8,9 +8,9 @@ RAM = "region RAM 0x1000 256"
 
 
 class Example:
-    """A folder: what it shows, its scenario, its tables by name, the log, and how the program ends."""
+    """A folder: what it shows, its scenario, its tables by name, the log, how the program ends, and the options that it is run with."""
 
-    def __init__(self, name, about, scenario, log, tables=None, report=("Done", 0, 0, 0), error="", frames=None):
+    def __init__(self, name, about, scenario, log, tables=None, report=("Done", 0, 0, 0), error="", frames=None, options=()):
         self.name = name
         self.about = about
         self.scenario = "\n".join(scenario) + "\n"
@@ -19,6 +19,7 @@ class Example:
         self.report = report
         self.error = error
         self.frames = scenario.count("tick") if frames is None else frames
+        self.options = list(options)
 
     def status(self):
         return {"Done": 0, "FileRefused": 2, "ScenarioRefused": 3}[self.report[0]]
@@ -28,13 +29,15 @@ class Example:
         if self.status() != 0:
             files["status"] = f"{self.status()}\n"
             files["error"] = self.error
+        if self.options:
+            files["options"] = " ".join(self.options) + "\n"
         return {**files, **self.tables}
 
     def words(self):
         return ["scenario.txt", *sorted(self.tables)]
 
     def page(self):
-        words = " ".join(f"examples/{self.name}/{word}" for word in self.words())
+        words = " ".join([*self.options, *(f"examples/{self.name}/{word}" for word in self.words())])
         return f"# {self.name}\n\n{self.about}\n\n    crates/vigil/out/vigil {words}\n"
 
 
@@ -222,6 +225,40 @@ def anew():
             "apps.table": apps_table({1: ("LOAD", 2, 1)}),
             "rts1.table": rts_table(1, [(1, no_op(MM))]),
         },
+    )
+
+
+def subjects():
+    return Example(
+        "subjects",
+        "Three simulated applications give the execution counters, and the scenario's `app` line has no effect. "
+        "PWR counts to 4 and hangs there, so its monitor finds no change in the second check behind, in frame 5, and has it restarted. "
+        "It counts from 1 again. The monitors are refreshed by the command that is answered in frame 7, and in frame 11 PWR has hung once more. "
+        "NAV never stands still, and THM never for two checks.",
+        [
+            "# Each of the three is watched, and restarted where its counter stays the same twice.",
+            f"epoch {EPOCH}",
+            RAM,
+            "start",
+            "app PWR 77",
+            "tick",
+            *["tick"] * 5,
+            "",
+            "# Frame 6: application monitoring is set on again.",
+            send(hs_apps_on()),
+            "tick",
+            *["tick"] * 5,
+            "end",
+        ],
+        [
+            event(5, "HS", 0, 102, 3),
+            restart(5, "PWR"),
+            event(7, "HS", 1, 18, 2),
+            event(11, "HS", 2, 102, 3),
+            restart(11, "PWR"),
+        ],
+        {"apps.table": apps_table({1: ("NAV", 2, 2), 2: ("PWR", 2, 2), 3: ("THM", 2, 2)})},
+        options=["--subjects"],
     )
 
 
@@ -730,4 +767,4 @@ def commands():
     )
 
 
-EXAMPLES = [first(), health(), standby(), anew(), dwell(), checksum(), sequences(), sequence_mistake(), eeprom(), loads(), held(), refused_file(), refused_scenario(), commands()]
+EXAMPLES = [first(), health(), subjects(), standby(), anew(), dwell(), checksum(), sequences(), sequence_mistake(), eeprom(), loads(), held(), refused_file(), refused_scenario(), commands()]

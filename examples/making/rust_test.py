@@ -1,4 +1,4 @@
-"""The test of the examples in crates/vigil."""
+"""The test of the examples in crates/vigil. Those with options have their rows in tests of their own there."""
 
 import re
 
@@ -99,7 +99,7 @@ fn {example.name}_example(rt: HostRuntime) -> Result<(), Fail> {{
 
 
 def test_text():
-    return HEAD + "".join(test_of(example) for example in EXAMPLES)
+    return HEAD + "".join(test_of(example) for example in EXAMPLES if not example.options)
 
 
 def laid_out(text):
