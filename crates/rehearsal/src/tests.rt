@@ -3,6 +3,7 @@
 use crate::{Plan, Report, Status, Words, accept, line_of, vigil};
 use fsw_outside::{MemShelf, MemSink, OpenGate};
 use std::alloc::Global;
+use std::process::Abort;
 use std::test::Fail;
 
 /// The words of a text, in which a `/` separates them.
@@ -14,44 +15,42 @@ fn words_of(alloc: Global, text: &str) -> Result<Words, Fail> {
     Ok(words)
 }
 
-/// Words, how many workers they ask for, whether they have the flag, the scenario's word, and the names of the FILEs, each behind a `/`; no workers where
+/// Words, how many workers they ask for, the scenario's word, and the names of the FILEs, each behind a `/`; no workers where
 /// they are refused.
-const WORDS: [(&str, u32, bool, &str, &str); 40] = [
-    ("v1.txt", 1, false, "v1.txt", ""),
-    ("", 1, false, "", ""),
-    ("drill:", 1, false, "drill:", ""),
-    ("drill:+7", 1, false, "drill:+7", ""),
-    ("--workers/1/v1.txt", 1, false, "v1.txt", ""),
-    ("--workers/01/v1.txt", 1, false, "v1.txt", ""),
-    ("--workers/16/drill:1234567", 16, false, "drill:1234567", ""),
-    ("--workers/0/v1.txt", 0, false, "", ""),
-    ("--workers/17/v1.txt", 0, false, "", ""),
-    ("--workers/+1/v1.txt", 0, false, "", ""),
-    ("--workers/1/--workers", 0, false, "", ""),
-    ("drill:7", 1, false, "drill:7", ""),
-    (
-        "drill:000007/a/--workers/16",
-        16,
-        false,
-        "drill:000007",
-        "/a",
-    ),
-    ("-", 1, false, "-", ""),
-    ("v1.txt/a", 1, false, "v1.txt", "/a"),
-    ("v1.txt/a/drill:7/", 1, false, "v1.txt", "/a/drill:7/"),
-    ("--workers/3/v1.txt/a/b", 3, false, "v1.txt", "/a/b"),
-    ("v1.txt/a/-b", 0, false, "", ""),
-    ("v1.txt/--workers/3", 3, false, "v1.txt", ""),
-    ("--workers=3/v1.txt", 3, false, "v1.txt", ""),
-    ("v1.txt/a/--workers/3/b", 3, false, "v1.txt", "/a/b"),
-    ("--/--workers/-a", 1, false, "--workers", "/-a"),
-    ("--workers/1/--workers/1/v1.txt", 0, false, "", ""),
-    ("--work/1/v1.txt", 0, false, "", ""),
-    ("--help", 0, false, "", ""),
-    ("v1.txt/-h", 0, false, "", ""),
-    ("--version", 0, false, "", ""),
-    ("--workers/3", 0, false, "", ""),
-    ("--workers", 0, false, "", ""),
+const WORDS: [(&str, u32, &str, &str); 29] = [
+    ("v1.txt", 1, "v1.txt", ""),
+    ("", 1, "", ""),
+    ("drill:", 1, "drill:", ""),
+    ("drill:+7", 1, "drill:+7", ""),
+    ("--workers/1/v1.txt", 1, "v1.txt", ""),
+    ("--workers/01/v1.txt", 1, "v1.txt", ""),
+    ("--workers/16/drill:1234567", 16, "drill:1234567", ""),
+    ("--workers/0/v1.txt", 0, "", ""),
+    ("--workers/17/v1.txt", 0, "", ""),
+    ("--workers/+1/v1.txt", 0, "", ""),
+    ("--workers/1/--workers", 0, "", ""),
+    ("drill:7", 1, "drill:7", ""),
+    ("drill:000007/a/--workers/16", 16, "drill:000007", "/a"),
+    ("-", 1, "-", ""),
+    ("v1.txt/a", 1, "v1.txt", "/a"),
+    ("v1.txt/a/drill:7/", 1, "v1.txt", "/a/drill:7/"),
+    ("--workers/3/v1.txt/a/b", 3, "v1.txt", "/a/b"),
+    ("v1.txt/a/-b", 0, "", ""),
+    ("v1.txt/--workers/3", 3, "v1.txt", ""),
+    ("--workers=3/v1.txt", 3, "v1.txt", ""),
+    ("v1.txt/a/--workers/3/b", 3, "v1.txt", "/a/b"),
+    ("--/--workers/-a", 1, "--workers", "/-a"),
+    ("--workers/1/--workers/1/v1.txt", 0, "", ""),
+    ("--work/1/v1.txt", 0, "", ""),
+    ("--help", 0, "", ""),
+    ("v1.txt/-h", 0, "", ""),
+    ("--version", 0, "", ""),
+    ("--workers/3", 0, "", ""),
+    ("--workers", 0, "", ""),
+];
+
+/// The same of words that have the flag, or name it, and whether the plan has it.
+const FLAGS: [(&str, u32, bool, &str, &str); 11] = [
     ("--subjects/v1.txt", 1, true, "v1.txt", ""),
     ("v1.txt/--subjects", 1, true, "v1.txt", ""),
     ("v1.txt/a/--subjects/b", 1, true, "v1.txt", "/a/b"),
@@ -82,18 +81,39 @@ fn names_of(alloc: Global, plan: &Plan) -> Result<String, Fail> {
     Ok(text)
 }
 
+/// Asserts what words ask for; where they ask for no workers, that they are refused.
+fn assert_asked<R: AllocGlobal + Abort>(
+    rt: &R,
+    text: &str,
+    workers: u32,
+    subjects: bool,
+    scenario: &str,
+    files: &str,
+) -> Result<(), Fail> {
+    let accepted = accept(rt.alloc(), &words_of(rt.alloc(), text)?)?;
+    assert_eq!(rt; accepted.is_some(), workers > 0, "at {text}");
+    if let Some(plan) = accepted {
+        assert_eq!(rt; plan.workers(), workers, "at {text}");
+        assert_eq!(rt; plan.subjects(), subjects, "at {text}");
+        assert_eq!(rt; plan.scenario(), scenario, "at {text}");
+        assert_eq!(rt; names_of(rt.alloc(), &plan)?.as_str(), files, "at {text}");
+    }
+    Ok(())
+}
+
 #[test]
 fn words_are_accepted_or_refused(rt: HostRuntime) -> Result<(), Fail> {
     assert!(rt; accept(rt.alloc(), &Words::open(rt.alloc())?)?.is_none());
-    for (text, workers, subjects, scenario, files) in WORDS {
-        let accepted = accept(rt.alloc(), &words_of(rt.alloc(), text)?)?;
-        assert_eq!(rt; accepted.is_some(), workers > 0, "at {text}");
-        if let Some(plan) = accepted {
-            assert_eq!(rt; plan.workers(), workers, "at {text}");
-            assert_eq!(rt; plan.subjects(), subjects, "at {text}");
-            assert_eq!(rt; plan.scenario(), scenario, "at {text}");
-            assert_eq!(rt; names_of(rt.alloc(), &plan)?.as_str(), files, "at {text}");
-        }
+    for (text, workers, scenario, files) in WORDS {
+        assert_asked(&rt, text, workers, false, scenario, files)?;
+    }
+    Ok(())
+}
+
+#[test]
+fn the_flag_is_read(rt: HostRuntime) -> Result<(), Fail> {
+    for (text, workers, subjects, scenario, files) in FLAGS {
+        assert_asked(&rt, text, workers, subjects, scenario, files)?;
     }
     Ok(())
 }
