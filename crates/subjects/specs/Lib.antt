@@ -1,4 +1,5 @@
 pub mod Plans
+pub mod Boxes
 pub mod Faults
 pub mod Seats
 pub mod Crowds

@@ -2,6 +2,7 @@
 
 ghost use Rattle.std.specs.Prelude.{◌≡◌};
 ghost use Rattle.subjects.specs.Plans.{Simulated, IsSimulated, reading_of, cycled, restarted};
+ghost use Rattle.subjects.specs.Boxes.{held_in};
 
 use packet_forms::Name;
 
@@ -30,7 +31,7 @@ pub trait Subject: Drop {
 
 /// A subject in a box is what it is by itself.
 impl Subject for Box<dyn Subject + Send> {
-    ghost seen = { λ b. (Subject-box b).seen b.value };
+    ghost seen = { λ b. (Subject-box b).seen (held_in b) };
 
     fn name(&self) -> Name {
         (**self).name()
