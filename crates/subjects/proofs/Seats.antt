@@ -4,17 +4,16 @@ use Rattle.std.proofs.lemmas.List.{get_or-map, get_or-drop, get_or-append_right,
 use Rattle.std.proofs.lemmas.List.Edits.{map_over_more}
 use Rattle.packet_forms.specs.declared.name.Counter.{Counter}
 use Rattle.subjects.specs.declared.seat.Seat.{Seat}
-use Rattle.subjects.specs.Plans.{Simulated, reading_of, cycled}
+use Rattle.subjects.specs.Plans.{Simulated, reading_of}
 use Rattle.subjects.specs.Seats.{held}
 use Rattle.subjects.specs.Crowds.{counter_of}
 
 abbrev with_value : ℕ → List ℕ → Counter
 with_value value name = record { name = name; value = value }
 
--- the counter of a subject that was cycled, under its name
-pub counter_made : (was now : Simulated) (name : List ℕ) (value : ℕ) → name ≡ now.name → now ≡ cycled was → value ≡ reading_of was → with_value value name ≡ counter_of was
-counter_made was now name value named moved read =
-    ap (with_value value) (named ∙ ap (λ (s : Simulated). s.name) moved) ∙ ap (λ (v : ℕ). with_value v was.name) read
+-- the counter that a subject gives, under its name
+pub counter_told : (was : Simulated) (name : List ℕ) (value : ℕ) → name ≡ was.name → value ≡ reading_of was → with_value value name ≡ counter_of was
+counter_told was name value named read = ap (with_value value) named ∙ ap (λ (v : ℕ). with_value v was.name) read
 
 module _ {S : Type 0} (seen : S → Simulated) where
   -- what the subjects of these seats are

@@ -61,9 +61,10 @@ fn cycle_in_turn<S: Subject>(seats: &mut [Seat<S>], readings: &mut Vec<Counter>)
 {
     readings.clear();
     for seat in seats.iter_mut() {
-        let value = seat.subject.cycle();
-        let name = seat.subject.name();
-        readings.push_reserved(Counter { name, value });
+        readings.push_reserved(Counter {
+            name: seat.subject.name(),
+            value: seat.subject.cycle(),
+        });
     }
 }
 
