@@ -108,11 +108,11 @@ fn gather<C: Subject + Send>(
 /// name. The shelf holds the FILEs and the scenario's file, and `out` gets the log, or the summary of a generated scenario's.
 /// Where the words have the flag for it, these subjects give the execution counters, of which there are at most 64, and the
 /// scenario's own have no effect; else the subjects are dropped.
-pub fn vigil_with<R: Threads + Sync, S: Shelf, O: Sink, E: Sink, G: Gate>(
+pub fn vigil_with<R: Threads + Sync, C: Subject + Send, S: Shelf, O: Sink, E: Sink, G: Gate>(
     rt: &R,
     alloc: Global,
     words: &Words,
-    subjects: Vec<Box<dyn Subject + Send>>,
+    subjects: Vec<C>,
     shelf: &mut S,
     out: &mut O,
     err: &mut E,
@@ -130,7 +130,7 @@ pub fn vigil_with<R: Threads + Sync, S: Shelf, O: Sink, E: Sink, G: Gate>(
     // What the report says of the FILEs, of the text that was handed out and run beside the subjects, where the words ask for them, and of the
     // bytes of `out`, where both objects tell.
     ensures outcome { (asked : Asked) → accepted_words words.now ≡ Some asked → WhereTold (S.told shelf.old) (S.told shelf.new)
-        (Rehearses result asked (crowd_for asked.subjects (map ⟦<Box<dyn Subject + Send> as Subject>⟧.seen subjects.items)) (record {
+        (Rehearses result asked (crowd_for asked.subjects (map C.seen subjects.items)) (record {
           is_open = S.is_open shelf.new;
           faults_before = S.faults shelf.old;
           faults_now = S.faults shelf.new;
@@ -160,13 +160,13 @@ pub fn vigil_with<R: Threads + Sync, S: Shelf, O: Sink, E: Sink, G: Gate>(
         → (reading (record { bytes = bytes; closed = true })).ending ≡ Ended → GivesReads files (reading (record { bytes = bytes; closed = true }))
         → S.faults shelf.new ≡ S.faults shelf.old → O.faults out.new ≡ O.faults out.old
         → WhereTold (S.told shelf.old) (S.told shelf.new) (λ before _. AreTaken before.files asked.files files → file_named before.files asked.scenario ≡ Some bytes
-        → WhereTold (O.held out.old) (O.held out.new) (Completes result files (crowd_for asked.subjects (map ⟦<Box<dyn Subject + Send> as Subject>⟧.seen subjects.items)) (record { bytes = bytes; closed = true }))) }
+        → WhereTold (O.held out.old) (O.held out.new) (Completes result files (crowd_for asked.subjects (map C.seen subjects.items)) (record { bytes = bytes; closed = true }))) }
 
     // So are those of a generated scenario.
     ensures complete_drill { (asked : Asked) (files : List (List ℕ)) (k : ℕ) → accepted_words words.now ≡ Some asked → drill_in asked.scenario ≡ Some k → tables_fault files ≡ None
         → GivesReads files (reading (drill_of k)) → S.faults shelf.new ≡ S.faults shelf.old → O.faults out.new ≡ O.faults out.old
         → WhereTold (S.told shelf.old) (S.told shelf.new) (λ before _. AreTaken before.files asked.files files
-        → WhereTold (O.held out.old) (O.held out.new) (SumsUp result files (crowd_for asked.subjects (map ⟦<Box<dyn Subject + Send> as Subject>⟧.seen subjects.items)) k)) }
+        → WhereTold (O.held out.old) (O.held out.new) (SumsUp result files (crowd_for asked.subjects (map C.seen subjects.items)) k)) }
 
     // The line of the report, or a part of it where `err` failed.
     ensures told { WhereTold (E.held err.old) (E.held err.new) (Tells (E.faults err.old) (E.faults err.new) (error_line result)) }
@@ -248,5 +248,6 @@ pub fn vigil<R: Threads + Sync, S: Shelf, O: Sink, E: Sink, G: Gate>(
     // The line of the report, or a part of it where `err` failed.
     ensures told { WhereTold (E.held err.old) (E.held err.new) (Tells (E.faults err.old) (E.faults err.new) (error_line result)) }
 {
-    vigil_with(rt, alloc, words, Vec::new(alloc), shelf, out, err, gate)
+    let nobody: Vec<Box<dyn Subject + Send>> = Vec::new(alloc);
+    vigil_with(rt, alloc, words, nobody, shelf, out, err, gate)
 }
