@@ -1,11 +1,9 @@
 //! The program: a rehearsal over the runtime's words, files and streams.
 #![tactic(auto)]
 
-ghost use Rattle.std.specs.Prelude.{◌≡◌, ◌≢◌, ◌≤◌, ◌⊎◌, ℕ, List, [], ◌∷◌, true, Some, None, IfOk, IfErr, OnErr, map, drop, codes, string_bytes, vec_len};
+ghost use Rattle.std.specs.Prelude.{◌≡◌, ◌≢◌, ◌⊎◌, ℕ, List, true, Some, None, IfOk, IfErr, map, drop, string_bytes};
 ghost use Rattle.std.specs.IoError.{error_kind};
 ghost use Rattle.std.specs.Vec.Iter.{into_iter_items};
-ghost use Rattle.packet_forms.specs.Names.{is_name_text, name_of};
-ghost use Rattle.subjects.specs.Plans.{starting};
 ghost use Rattle.fsw_outside.specs.Told.{WhereTold};
 ghost use Rattle.fsw_outside.specs.Files.{file_named};
 ghost use Rattle.scenario.specs.Texts.{Ended, reading};
@@ -16,16 +14,19 @@ ghost use Rattle.rehearsal.specs.Files.{AreTaken};
 ghost use Rattle.rehearsal.specs.Beside.{crowd_for};
 ghost use Rattle.rehearsal.specs.Outcome.{drill_of, GivesReads, HasCauses, Rehearses, Completes, SumsUp};
 ghost use Rattle.vigil.specs.Ends.{exit_number};
+ghost use Rattle.vigil.specs.Own.{own_subjects};
 
 use fsw_outside::{FileShelf, NoMemory, OpenGate, Shelf, Sink, StdSink};
-use packet_forms::Name;
 use rehearsal::{Report, Status, Words, tell, vigil_with};
 use std::alloc::Global;
 use std::env::{self, Args};
 use std::io::{self, ErrorKind};
 use std::process::ExitCode;
 use std::thread::Threads;
-use subjects::{Hanging, Listed, Steady, Subject};
+
+mod own;
+
+use own::own_subjects;
 
 /// The exit status of an end.
 fn exit_number(status: Status) -> u8
@@ -58,25 +59,34 @@ fn words_behind_name(alloc: Global, given: Args) -> Result<Words, NoMemory>
     Ok(words)
 }
 
-/// Rehearses what the words ask for that the runtime gives, the program's name before them, beside these applications where
-/// they ask for them. Where it gives none, or where they find no memory, the report is told and nothing else is done.
+/// Tells that memory is wanting.
+fn tell_no_memory<E: Sink>(err: &mut E) -> Report
+    ensures same { result ≡ record { status = Status.NoMemory; file = 0; line = 0; reason = 0; frames = 0 } }
+    ensures told { WhereTold (E.held err.old) (E.held err.new) (Tells (E.faults err.old) (E.faults err.new) (error_line result)) }
+{
+    let report = Report::at(Status::NoMemory, 0);
+    tell(err, &report);
+    report
+}
+
+/// Rehearses what the words ask for that the runtime gives, the program's name before them, beside the program's own simulated
+/// applications where they ask for them. Where it gives none, or where there is no memory for these, the report is told and
+/// nothing else is done.
 fn rehearse_given<R: Threads + Sync, S: Shelf, O: Sink, E: Sink>(
     rt: &R,
     alloc: Global,
     given: io::Result<Args>,
-    subjects: Vec<Box<dyn Subject + Send>>,
     shelf: &mut S,
     out: &mut O,
     err: &mut E,
 ) -> Report
-    requires few { vec_len subjects ≤ 64 }
     ensures missing { IfErr given (λ error. (shelf.new ≡ shelf.old) × (out.new ≡ out.old)
         × (error_kind error ≡ ErrorKind.OutOfMemory → result ≡ record { status = Status.NoMemory; file = 0; line = 0; reason = 0; frames = 0 })
         × (error_kind error ≢ ErrorKind.OutOfMemory → result ≡ record { status = Status.WordsRefused; file = 0; line = 0; reason = 0; frames = 0 })) }
     ensures words { IfOk given (λ texts. accepted_words (drop 1 (map string_bytes (into_iter_items texts))) ≡ None → (result ≡ record { status = Status.WordsRefused; file = 0; line = 0; reason = 0; frames = 0 })
         ⊎ (result ≡ record { status = Status.NoMemory; file = 0; line = 0; reason = 0; frames = 0 })) }
     ensures outcome { IfOk given (λ texts. (asked : Asked) → accepted_words (drop 1 (map string_bytes (into_iter_items texts))) ≡ Some asked → WhereTold (S.told shelf.old) (S.told shelf.new)
-        (Rehearses result asked (crowd_for asked.subjects (map ⟦<Box<dyn Subject + Send> as Subject>⟧.seen subjects.items)) (record {
+        (Rehearses result asked (crowd_for asked.subjects own_subjects) (record {
           is_open = S.is_open shelf.new;
           faults_before = S.faults shelf.old;
           faults_now = S.faults shelf.new;
@@ -87,11 +97,11 @@ fn rehearse_given<R: Threads + Sync, S: Shelf, O: Sink, E: Sink>(
         → drill_in asked.scenario ≡ None → tables_fault files ≡ None → (reading (record { bytes = bytes; closed = true })).ending ≡ Ended → GivesReads files (reading (record { bytes = bytes; closed = true }))
         → S.faults shelf.new ≡ S.faults shelf.old → O.faults out.new ≡ O.faults out.old
         → WhereTold (S.told shelf.old) (S.told shelf.new) (λ before _. AreTaken before.files asked.files files → file_named before.files asked.scenario ≡ Some bytes
-        → WhereTold (O.held out.old) (O.held out.new) (Completes result files (crowd_for asked.subjects (map ⟦<Box<dyn Subject + Send> as Subject>⟧.seen subjects.items)) (record { bytes = bytes; closed = true })))) }
+        → WhereTold (O.held out.old) (O.held out.new) (Completes result files (crowd_for asked.subjects own_subjects) (record { bytes = bytes; closed = true })))) }
     ensures complete_drill { IfOk given (λ texts. (asked : Asked) (files : List (List ℕ)) (k : ℕ) → accepted_words (drop 1 (map string_bytes (into_iter_items texts))) ≡ Some asked
         → drill_in asked.scenario ≡ Some k → tables_fault files ≡ None → GivesReads files (reading (drill_of k))
         → S.faults shelf.new ≡ S.faults shelf.old → O.faults out.new ≡ O.faults out.old
-        → WhereTold (S.told shelf.old) (S.told shelf.new) (λ before _. AreTaken before.files asked.files files → WhereTold (O.held out.old) (O.held out.new) (SumsUp result files (crowd_for asked.subjects (map ⟦<Box<dyn Subject + Send> as Subject>⟧.seen subjects.items)) k))) }
+        → WhereTold (S.told shelf.old) (S.told shelf.new) (λ before _. AreTaken before.files asked.files files → WhereTold (O.held out.old) (O.held out.new) (SumsUp result files (crowd_for asked.subjects own_subjects) k))) }
     ensures no_memory { result.status ≡ Status.NoMemory → (out.new ≡ out.old) × (result.frames ≡ 0) }
     ensures causes { HasCauses result.status (S.told shelf.new) (S.faults shelf.old) (S.faults shelf.new) (O.held out.new) (O.faults out.old) (O.faults out.new) }
     ensures told { WhereTold (E.held err.old) (E.held err.new) (Tells (E.faults err.old) (E.faults err.new) (error_line result)) }
@@ -105,73 +115,12 @@ fn rehearse_given<R: Threads + Sync, S: Shelf, O: Sink, E: Sink>(
         }
     };
     let Ok(words) = words_behind_name(alloc, texts) else {
-        let report = Report::at(Status::NoMemory, 0);
-        tell(err, &report);
-        return report;
+        return tell_no_memory(err);
+    };
+    let Ok(subjects) = own_subjects(alloc) else {
+        return tell_no_memory(err);
     };
     vigil_with(rt, alloc, &words, subjects, shelf, out, err, &OpenGate)
-}
-
-/// The name with this text.
-fn named(text: &str) -> Name
-    requires { is_name_text text.now ≡ true }
-    ensures { result ≡ name_of text.now }
-{
-    match Name::from_text(text) {
-        Some(name) => name,
-        None => unreachable!(),
-    }
-}
-
-/// The counters of the third application.
-fn listed_values(alloc: Global) -> Result<Vec<u32>, NoMemory>
-    ensures { IfOk result (λ values. values.items ≡ 5 ∷ 5 ∷ 6 ∷ []) }
-{
-    let mut values = Vec::new(alloc);
-    values.push(5)?;
-    values.push(5)?;
-    values.push(6)?;
-    Ok(values)
-}
-
-/// The third application, whose counter stays now and then.
-#[tactic(auto, unfolding(subjects::specs::Faults::plan_fault_of, packet_forms::specs::Names::is_name_text))]
-fn listed_subject(alloc: Global) -> Result<Listed, NoMemory>
-    ensures { IfOk result (λ subject. subject ≡ starting (name_of (codes "THM")) (record { values = 5 ∷ 5 ∷ 6 ∷ []; back = 0 })) }
-{
-    let values = listed_values(alloc)?;
-    match Listed::new(named("THM"), values, 0) {
-        Ok(subject) => Ok(subject),
-        Err(_) => unreachable!(),
-    }
-}
-
-/// Rehearses what the words ask for that the runtime gives, beside the program's own applications where they ask for them:
-/// one that runs on, one that hangs after a while, and one whose counter stays now and then. Where there is no memory for
-/// these nothing is done.
-#[tactic(auto, unfolding(packet_forms::specs::Names::is_name_text))]
-fn rehearse_own<R: Threads + Sync, S: Shelf, O: Sink, E: Sink>(
-    rt: &R,
-    alloc: Global,
-    given: io::Result<Args>,
-    shelf: &mut S,
-    out: &mut O,
-    err: &mut E,
-) -> Result<Report, NoMemory>
-    ensures same { OnErr result ((shelf.new ≡ shelf.old) × (out.new ≡ out.old) × (err.new ≡ err.old)) }
-    ensures missing { IfErr given (λ error. IfOk result (λ report. (shelf.new ≡ shelf.old) × (out.new ≡ out.old)
-        × (error_kind error ≡ ErrorKind.OutOfMemory → report ≡ record { status = Status.NoMemory; file = 0; line = 0; reason = 0; frames = 0 })
-        × (error_kind error ≢ ErrorKind.OutOfMemory → report ≡ record { status = Status.WordsRefused; file = 0; line = 0; reason = 0; frames = 0 }))) }
-    ensures no_memory { IfOk result (λ report. report.status ≡ Status.NoMemory → (out.new ≡ out.old) × (report.frames ≡ 0)) }
-    ensures causes { IfOk result (λ report. HasCauses report.status (S.told shelf.new) (S.faults shelf.old) (S.faults shelf.new) (O.held out.new) (O.faults out.old) (O.faults out.new)) }
-    ensures told { IfOk result (λ report. WhereTold (E.held err.old) (E.held err.new) (Tells (E.faults err.old) (E.faults err.new) (error_line report))) }
-{
-    let listed = listed_subject(alloc)?;
-    let mut subjects: Vec<Box<dyn Subject + Send>> = Vec::new(alloc);
-    subjects.push(Box::new(alloc, Steady::new(named("NAV")))?)?;
-    subjects.push(Box::new(alloc, Hanging::new(named("PWR"), 4))?)?;
-    subjects.push(Box::new(alloc, listed)?)?;
-    Ok(rehearse_given(rt, alloc, given, subjects, shelf, out, err))
 }
 
 fn main(rt: HostRuntime) -> ExitCode {
@@ -179,14 +128,7 @@ fn main(rt: HostRuntime) -> ExitCode {
     let mut out = StdSink::new(rt.stdout());
     let mut err = StdSink::new(rt.stderr());
     let given = env::args(&rt);
-    let report = match rehearse_own(&rt, rt.alloc(), given, &mut shelf, &mut out, &mut err) {
-        Ok(report) => report,
-        Err(_) => {
-            let report = Report::at(Status::NoMemory, 0);
-            tell(&mut err, &report);
-            report
-        }
-    };
+    let report = rehearse_given(&rt, rt.alloc(), given, &mut shelf, &mut out, &mut err);
     ExitCode::from(exit_number(report.status))
 }
 

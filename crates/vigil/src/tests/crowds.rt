@@ -7,7 +7,7 @@ use super::runs::{
     words_of,
 };
 use super::tables::{Count, Monitor, apps_file, counts_file, events_file};
-use crate::rehearse_own;
+use crate::rehearse_given;
 use fsw_outside::{MemSink, OpenGate};
 use packet_forms::Name;
 use rehearsal::{Report, Status, vigil_with};
@@ -321,7 +321,7 @@ fn own_subjects_are_watched(rt: HostRuntime) -> Result<(), Fail> {
         let mut out = MemSink::new(alloc, &[], 10_000)?;
         let mut err = MemSink::new(alloc, &[], 256)?;
         let given = Ok(args_of(&rt, &["vigil", "--subjects", "s", "a", "b"])?);
-        let report = rehearse_own(&rt, alloc, given, &mut shelf, &mut out, &mut err)?;
+        let report = rehearse_given(&rt, alloc, given, &mut shelf, &mut out, &mut err);
         assert_ran(
             &rt,
             &Ran { report, out, err },

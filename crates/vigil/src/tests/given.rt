@@ -1,7 +1,7 @@
 //! What the program is given: its name and its words, or none.
 
 use super::runs::assert_text;
-use crate::{exit_number, rehearse_own};
+use crate::{exit_number, rehearse_given};
 use fsw_outside::{MemShelf, MemSink};
 use rehearsal::{Report, Status};
 use std::env::Args;
@@ -31,7 +31,7 @@ fn assert_end<R: Threads + Sync + AllocGlobal + Abort>(
     shelf.put("s", b"epoch 1000\nregion RAM 0x1000 256\nstart\nend\n")?;
     let mut out = MemSink::new(alloc, &[], 256)?;
     let mut err = MemSink::new(alloc, &[], 256)?;
-    let report = rehearse_own(rt, alloc, given, &mut shelf, &mut out, &mut err)?;
+    let report = rehearse_given(rt, alloc, given, &mut shelf, &mut out, &mut err);
     assert_eq!(rt; report, Report::at(status, 0));
     assert_text(rt, "out", out.bytes(), "");
     assert_text(rt, "err", err.bytes(), told);
