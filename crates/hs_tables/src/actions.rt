@@ -1,5 +1,5 @@
 //! Message actions.
-ghost use Rattle.std.specs.Prelude.{◌≡◌, ◌≤◌, ◌-◌, length, slice_index_or, IfOk, IfErr, MatchResult, Some, None};
+ghost use Rattle.std.specs.Prelude.{◌≡◌, ◌≤◌, ◌-◌, length, slice_index_or, IfSome, IfNone, IfOk, IfErr, MatchResult, Some, None};
 ghost use Rattle.hs_tables.specs.Actions.{packet_in, row_at, row_reason, is_used, rows_of, rows_fault_of};
 
 use packet_forms::{Packet, be16};
@@ -79,6 +79,25 @@ impl MsgActs {
         }
     }
 
+    /// Reads the table of a payload into this one, as `load_msgacts` reads it, and copies it once. Where an entry is refused the table stays as
+    /// it was.
+    pub fn read(&mut self, payload: &[u8]) -> Option<EntryFault>
+        requires { length payload.now ≡ 544 }
+        ensures table { IfNone result (self.new ≡ rows_of payload.now) }
+        ensures kept { IfSome result (λ _. self.new ≡ self.old) }
+        ensures fault { result ≡ rows_fault_of payload.now }
+        ensures small { IfSome result (λ fault. fault.reason ≤ 5) }
+    {
+        let mut rows = [ActRow::BLANK; ENTRIES];
+        match load_entries(payload, &mut rows) {
+            Some(fault) => Some(fault),
+            None => {
+                self.rows = rows;
+                None
+            }
+        }
+    }
+
     /// Entry n, from 1 to 8, where it is used.
     pub fn entry(&self, n: u32) -> Option<ActEntry>
         requires { (1 ≤ n) × (n ≤ 8) }
@@ -106,10 +125,10 @@ pub fn load_msgacts(payload: &[u8]) -> Result<MsgActs, EntryFault>
     ensures fault { MatchResult result (λ _. rows_fault_of payload.now ≡ None) (λ fault. rows_fault_of payload.now ≡ Some fault) }
     ensures small { IfErr result (λ fault. fault.reason ≤ 5) }
 {
-    let mut rows = [ActRow::BLANK; ENTRIES];
-    match load_entries(payload, &mut rows) {
+    let mut table = MsgActs::blank();
+    match table.read(payload) {
         Some(fault) => Err(fault),
-        None => Ok(MsgActs { rows }),
+        None => Ok(table),
     }
 }
 

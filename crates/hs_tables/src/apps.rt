@@ -1,5 +1,5 @@
 //! Application monitors.
-ghost use Rattle.std.specs.Prelude.{◌≡◌, ◌≤◌, ◌-◌, length, slice_index_or, IfOk, IfErr, MatchResult, Some, None};
+ghost use Rattle.std.specs.Prelude.{◌≡◌, ◌≤◌, ◌-◌, length, slice_index_or, IfSome, IfNone, IfOk, IfErr, MatchResult, Some, None};
 ghost use Rattle.hs_tables.specs.Apps.{row_at, row_reason, is_used, rows_of, rows_fault_of};
 
 use packet_forms::{Name, be16};
@@ -66,7 +66,6 @@ impl AppRow {
 }
 
 impl AppMon {
-    ghost use Rattle.std.specs.Prelude.{IfSome};
     ghost use Rattle.hs_tables.specs.Apps.{blank_row, blank_rows, entry_of, IsAble};
 
     /// The table of a payload of zero bytes: no entry is used.
@@ -76,6 +75,25 @@ impl AppMon {
     {
         AppMon {
             rows: [AppRow::BLANK; ENTRIES],
+        }
+    }
+
+    /// Reads the table of a payload into this one, as `load_appmon` reads it, and copies it once. Where an entry is refused the table stays as
+    /// it was.
+    pub fn read(&mut self, payload: &[u8]) -> Option<EntryFault>
+        requires { length payload.now ≡ 768 }
+        ensures table { IfNone result (self.new ≡ rows_of payload.now) }
+        ensures kept { IfSome result (λ _. self.new ≡ self.old) }
+        ensures fault { result ≡ rows_fault_of payload.now }
+        ensures small { IfSome result (λ fault. fault.reason ≤ 2) }
+    {
+        let mut rows = [AppRow::BLANK; ENTRIES];
+        match load_entries(payload, &mut rows) {
+            Some(fault) => Some(fault),
+            None => {
+                self.rows = rows;
+                None
+            }
         }
     }
 
@@ -117,10 +135,10 @@ pub fn load_appmon(payload: &[u8]) -> Result<AppMon, EntryFault>
     ensures fault { MatchResult result (λ _. rows_fault_of payload.now ≡ None) (λ fault. rows_fault_of payload.now ≡ Some fault) }
     ensures small { IfErr result (λ fault. fault.reason ≤ 2) }
 {
-    let mut rows = [AppRow::BLANK; ENTRIES];
-    match load_entries(payload, &mut rows) {
+    let mut table = AppMon::blank();
+    match table.read(payload) {
         Some(fault) => Err(fault),
-        None => Ok(AppMon { rows }),
+        None => Ok(table),
     }
 }
 

@@ -1,5 +1,5 @@
 //! Execution counters.
-ghost use Rattle.std.specs.Prelude.{◌≡◌, ◌≤◌, ◌-◌, length, slice_index_or, IfOk, IfErr, MatchResult, Some, None};
+ghost use Rattle.std.specs.Prelude.{◌≡◌, ◌≤◌, ◌-◌, length, slice_index_or, IfSome, IfNone, IfOk, IfErr, MatchResult, Some, None};
 ghost use Rattle.hs_tables.specs.Counters.{row_at, row_reason, is_used, rows_of, rows_fault_of};
 
 use packet_forms::{Name, be16};
@@ -64,6 +64,25 @@ impl ExeCount {
         }
     }
 
+    /// Reads the table of a payload into this one, as `load_execount` reads it, and copies it once. Where an entry is refused the table stays as
+    /// it was.
+    pub fn read(&mut self, payload: &[u8]) -> Option<EntryFault>
+        requires { length payload.now ≡ 704 }
+        ensures table { IfNone result (self.new ≡ rows_of payload.now) }
+        ensures kept { IfSome result (λ _. self.new ≡ self.old) }
+        ensures fault { result ≡ rows_fault_of payload.now }
+        ensures small { IfSome result (λ fault. fault.reason ≤ 3) }
+    {
+        let mut rows = [CountRow::BLANK; ENTRIES];
+        match load_entries(payload, &mut rows) {
+            Some(fault) => Some(fault),
+            None => {
+                self.rows = rows;
+                None
+            }
+        }
+    }
+
     /// How many entries there are: 32.
     #[inline(always)]
     pub fn len(&self) -> u32
@@ -97,10 +116,10 @@ pub fn load_execount(payload: &[u8]) -> Result<ExeCount, EntryFault>
     ensures fault { MatchResult result (λ _. rows_fault_of payload.now ≡ None) (λ fault. rows_fault_of payload.now ≡ Some fault) }
     ensures small { IfErr result (λ fault. fault.reason ≤ 3) }
 {
-    let mut rows = [CountRow::BLANK; ENTRIES];
-    match load_entries(payload, &mut rows) {
+    let mut table = ExeCount::blank();
+    match table.read(payload) {
         Some(fault) => Err(fault),
-        None => Ok(ExeCount { rows }),
+        None => Ok(table),
     }
 }
 

@@ -1,5 +1,5 @@
 //! Event monitors.
-ghost use Rattle.std.specs.Prelude.{◌≡◌, ◌≤◌, ◌-◌, length, slice_index_or, IfOk, IfErr, MatchResult, Some, None};
+ghost use Rattle.std.specs.Prelude.{◌≡◌, ◌≤◌, ◌-◌, length, slice_index_or, IfSome, IfNone, IfOk, IfErr, MatchResult, Some, None};
 ghost use Rattle.std.specs.List.{list_any};
 ghost use Rattle.hs_tables.specs.Events.{row_at, row_reason, is_used, rows_of, rows_fault_of};
 
@@ -67,7 +67,6 @@ impl EventRow {
 }
 
 impl EventMon {
-    ghost use Rattle.std.specs.Prelude.{IfSome};
     ghost use Rattle.hs_tables.specs.Events.{blank_row, blank_rows, entry_of, IsAble};
 
     /// The table of a payload of zero bytes: no entry is used.
@@ -77,6 +76,25 @@ impl EventMon {
     {
         EventMon {
             rows: [EventRow::BLANK; ENTRIES],
+        }
+    }
+
+    /// Reads the table of a payload into this one, as `load_eventmon` reads it, and copies it once. Where an entry is refused the table stays as
+    /// it was.
+    pub fn read(&mut self, payload: &[u8]) -> Option<EntryFault>
+        requires { length payload.now ≡ 384 }
+        ensures table { IfNone result (self.new ≡ rows_of payload.now) }
+        ensures kept { IfSome result (λ _. self.new ≡ self.old) }
+        ensures fault { result ≡ rows_fault_of payload.now }
+        ensures small { IfSome result (λ fault. fault.reason ≤ 2) }
+    {
+        let mut rows = [EventRow::BLANK; ENTRIES];
+        match load_entries(payload, &mut rows) {
+            Some(fault) => Some(fault),
+            None => {
+                self.rows = rows;
+                None
+            }
         }
     }
 
@@ -126,10 +144,10 @@ pub fn load_eventmon(payload: &[u8]) -> Result<EventMon, EntryFault>
     ensures fault { MatchResult result (λ _. rows_fault_of payload.now ≡ None) (λ fault. rows_fault_of payload.now ≡ Some fault) }
     ensures small { IfErr result (λ fault. fault.reason ≤ 2) }
 {
-    let mut rows = [EventRow::BLANK; ENTRIES];
-    match load_entries(payload, &mut rows) {
+    let mut table = EventMon::blank();
+    match table.read(payload) {
         Some(fault) => Err(fault),
-        None => Ok(EventMon { rows }),
+        None => Ok(table),
     }
 }
 

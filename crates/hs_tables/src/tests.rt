@@ -82,6 +82,25 @@ fn first_faulty_entry_is_told(rt: HostRuntime) {
 }
 
 #[test]
+fn table_is_read_where_it_lies(rt: HostRuntime) {
+    let mut bytes = [0; 704];
+    bytes[..4].copy_from_slice(&LOAD);
+    bytes[21] = 4;
+    let mut counters = ExeCount::blank();
+    assert_eq!(rt; counters.read(&bytes), None);
+    assert_eq!(rt; counters.entry(1), Name::from_text("LOAD"));
+    bytes[21] = 5;
+    assert_eq!(rt;
+        counters.read(&bytes),
+        Some(EntryFault {
+            entry: 1,
+            reason: 3
+        })
+    );
+    assert_eq!(rt; counters.entry(1), Name::from_text("LOAD"));
+}
+
+#[test]
 fn blank_tables_use_no_entry(rt: HostRuntime) {
     assert_eq!(rt; AppMon::blank().entry(1), None);
     assert_eq!(rt; EventMon::blank().entry(16), None);

@@ -2,20 +2,20 @@ use Rattle.std.proofs.Common.{sym, refl, ap, ◌∙◌, arith}
 use Rattle.table_files.specs.Entries.{first_fault}
 use Rattle.hs_tables.specs.Events.{row_reason, rows_of, rows_fault_of}
 use Rattle.hs_tables.proofs.Listed.{events_listed}
-use Rattle.hs_tables.proofs.events.load_eventmon.Goals as goal
+use Rattle.hs_tables.proofs.events.EventMon.read.Goals as goal
 
 pub returns-in-Some-clause-fault : goal.returns-in-Some-clause-fault
 unfolding rows_fault_of rows_of
-returns-in-Some-clause-fault c = sym c.in-Some.ensures.fault
+returns-in-Some-clause-fault c = c.in-Some.ensures.fault
 
 pub returns-in-None-clause-fault : goal.returns-in-None-clause-fault
 unfolding rows_fault_of rows_of
-returns-in-None-clause-fault c = sym c.in-None.ensures.fault
+returns-in-None-clause-fault c = c.in-None.ensures.fault
 
 pub returns-in-None-clause-table : goal.returns-in-None-clause-table
 unfolding rows_of
 returns-in-None-clause-table c = c.in-None.ensures.entries refl
 
-pub invariant_of-result : goal.invariant_of-result
-invariant_of-result c =
+pub invariant_of-self : goal.invariant_of-self
+invariant_of-self c =
     (omega arith, events_listed 1 c.load_entries.new.entries (ap (first_fault row_reason 1) (c.in-None.ensures.entries refl) ∙ sym c.in-None.ensures.fault))

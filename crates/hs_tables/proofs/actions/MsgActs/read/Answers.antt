@@ -1,14 +1,14 @@
-use Rattle.std.proofs.Common.{sym, refl}
+use Rattle.std.proofs.Common.{refl}
 use Rattle.hs_tables.specs.Actions.{rows_of, rows_fault_of}
-use Rattle.hs_tables.proofs.actions.load_msgacts.Goals as goal
+use Rattle.hs_tables.proofs.actions.MsgActs.read.Goals as goal
 
 pub returns-in-Some-clause-fault : goal.returns-in-Some-clause-fault
 unfolding rows_fault_of rows_of
-returns-in-Some-clause-fault c = sym c.in-Some.ensures.fault
+returns-in-Some-clause-fault c = c.in-Some.ensures.fault
 
 pub returns-in-None-clause-fault : goal.returns-in-None-clause-fault
 unfolding rows_fault_of rows_of
-returns-in-None-clause-fault c = sym c.in-None.ensures.fault
+returns-in-None-clause-fault c = c.in-None.ensures.fault
 
 pub returns-in-None-clause-table : goal.returns-in-None-clause-table
 unfolding rows_of
