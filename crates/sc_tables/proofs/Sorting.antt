@@ -12,7 +12,7 @@ use Rattle.std.proofs.lemmas.Map.Keys.{apart_from_distinct, IsDistinct-IsPermuta
 use Rattle.sc_tables.specs.declared.absolute.Timed.{Timed}
 use Rattle.sc_tables.specs.declared.absolute.Place.{Place}
 use Rattle.sc_tables.specs.Absolute.{timed_at, numbers_of, comes_before, in_order, ats_of}
-use Rattle.sc_tables.specs.Places.{timed_in, place_before, IsPlaced, ArePlaced, AreInOrder, AreStored}
+use Rattle.sc_tables.specs.Places.{timed_in, place_before, IsPlaced, ArePlaced, AreInOrder, AreStored, AreOrdered}
 use Rattle.sc_tables.specs.Grammar.{entries_in}
 use Rattle.sc_tables.proofs.Orders.{Rises, IsBefore, after, rises_by_neighbours, in_order_is, pairs_rise}
 
@@ -86,13 +86,8 @@ sorted_places payload stored sorted placed apart moved order =
     (there, pairs_rise (timed_in payload sorted) rise, in_order_is (timed_in payload stored) (timed_in payload sorted) commands apart rise)
 
 -- What the first places say once they are sorted.
-pub record AreLoaded (payload : List ℕ) (places : List Place) : Type 0 where
-  pub placed : ArePlaced payload places
-  pub rises : AreInOrder (timed_in payload places)
-  pub commands : timed_in payload places ≡ ats_of payload
-
 pub loaded : (payload : List ℕ) (places sorted : List Place) (count : ℕ) → length places ≡ 1000 → count ≤ 1000 → AreStored payload (take count places) → IsPermutation (take count places) sorted → IsSortedBy place_before sorted
-    → AreLoaded payload (take count (sorted ++ drop count places))
+    → AreOrdered payload (take count (sorted ++ drop count places))
 unfolding ats_of
 loaded payload places sorted count whole few stored moved order =
     let long : length sorted ≡ count = length_permutation (take count places) sorted moved ∙ length-take-le count places (omega arith) in

@@ -5,7 +5,7 @@ use Rattle.packet_forms.specs.Numbers.{be16_at, be32_at}
 use Rattle.sc_tables.specs.declared.absolute.Timed.{Timed}
 use Rattle.sc_tables.specs.declared.relative.Relative.{Relative}
 use Rattle.sc_tables.specs.declared.absolute.Place.{Place}
-use Rattle.sc_tables.specs.Absolute.{timed_at, timed_reason, numbers_of, is_used, comes_before, stored_ats}
+use Rattle.sc_tables.specs.Absolute.{timed_at, timed_reason, numbers_of, is_used, comes_before, stored_ats, ats_of}
 use Rattle.sc_tables.specs.Relative.{relative_at, relative_reason}
 
 -- the commands of the entries in these places
@@ -40,6 +40,12 @@ place_before p q = nat_lt p.tag q.tag || ((p.tag == q.tag) && nat_lt p.number q.
 pub record AreFlags (commands : List Timed) (flags : List Bool) : Type 0 where
   pub whole : length flags ≡ 1001
   pub each : (n : ℕ) → n < 1001 → slice_index_or flags n false ≡ is_used n commands
+
+-- the commands of a payload stand in these places, by time and then by number
+pub record AreOrdered (payload : List ℕ) (places : List Place) : Type 0 where
+  pub placed : ArePlaced payload places
+  pub rises : AreInOrder (timed_in payload places)
+  pub commands : timed_in payload places ≡ ats_of payload
 
 -- the entries of a payload stand in these places, as they are stored, and no two of them have one number
 pub record AreStored (payload : List ℕ) (places : List Place) : Type 0 where

@@ -4,7 +4,7 @@ ghost use Rattle.std.specs.List.Sorted.{IsPermutation, IsSortedBy};
 ghost use Rattle.sc_tables.specs.Reasons.{reason_number};
 ghost use Rattle.sc_tables.specs.Absolute.{stored_ats, ats_of, ats_fault_of};
 ghost use Rattle.sc_tables.specs.Relative.{stored_rts, rts_of, rts_fault_of};
-ghost use Rattle.sc_tables.specs.Places.{AreStored, place_before, relatives_in, AreWhole};
+ghost use Rattle.sc_tables.specs.Places.{AreStored, AreOrdered, place_before, relatives_in, AreWhole};
 ghost use Rattle.sc_tables.specs.Sequences.{timed_commands, relative_commands};
 
 use crate::absolute::{Place, timed_reason, timed_size};
@@ -25,11 +25,27 @@ pub fn load_ats(payload: &[u8]) -> Result<Ats<'_>, EntryFault>
     ensures small { IfErr result (λ fault. fault.reason ≤ 4) }
 {
     let mut places = [Place::BLANK; COMMANDS];
-    match read_places(payload, &mut places) {
+    match read_in_order(payload, &mut places) {
+        Err(fault) => Err(fault),
+        Ok(count) => Ok(Ats::of(payload, places, count)),
+    }
+}
+
+/// Writes where the entries of a payload stand, by time and then by number, and answers how many there are.
+pub(crate) fn read_in_order(
+    payload: &[u8],
+    places: &mut [Place; COMMANDS],
+) -> Result<usize, EntryFault>
+    ensures ordered { IfOk result (λ count. AreOrdered payload.now (take count places.new)) }
+    ensures few { IfOk result (λ count. count ≤ 1000) }
+    ensures fault { MatchResult result (λ _. ats_fault_of payload.now ≡ None) (λ fault. ats_fault_of payload.now ≡ Some fault) }
+    ensures small { IfErr result (λ fault. fault.reason ≤ 4) }
+{
+    match read_places(payload, places) {
         Err(fault) => Err(fault),
         Ok(count) => {
             put_in_order(&mut places[..count]);
-            Ok(Ats::of(payload, places, count))
+            Ok(count)
         }
     }
 }
@@ -101,7 +117,7 @@ pub fn load_rts(payload: &[u8]) -> Result<Rts<'_>, EntryFault>
 }
 
 /// Writes where the entries of a payload stand, and answers how many there are.
-fn read_relative_places(payload: &[u8], places: &mut [u16]) -> Result<usize, EntryFault>
+pub(crate) fn read_relative_places(payload: &[u8], places: &mut [u16]) -> Result<usize, EntryFault>
     requires payload { length payload.now ≤ 2048 }
     requires places { length places.old ≡ 204 }
     ensures stored { IfOk result (λ count. stored_rts payload.now ≡ Ok (relatives_in payload.now (take count places.new))) }

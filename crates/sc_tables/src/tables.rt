@@ -1,13 +1,18 @@
 //! The tables of Stored Command.
-ghost use Rattle.std.specs.Prelude.{◌≡◌, ℕ, ◌+◌, ◌-◌, ◌<◌, ◌≤◌, length, slice_set, Some};
-ghost use Rattle.sc_tables.specs.Commands.{AreTables, commands_in, command_at};
+ghost use Rattle.std.specs.Prelude.{◌≡◌, ℕ, ◌+◌, ◌-◌, ◌<◌, ◌≤◌, length, map, slice_set, Some, IfSome, IfNone};
+ghost use Rattle.sc_tables.specs.Absolute.{ats_of, ats_fault_of};
+ghost use Rattle.sc_tables.specs.Relative.{rts_of, rts_fault_of};
+ghost use Rattle.sc_tables.specs.Commands.{of_timed, of_relative, AreTables, commands_in, command_at};
 ghost use Rattle.sc_tables.specs.Sequences.{ats_commands, rts_commands, tables_of};
 
-use crate::ats::Ats;
-use crate::rts::Rts;
+use crate::absolute::Place;
+use crate::ats::{Ats, COMMANDS};
+use crate::loading::{read_in_order, read_relative_places};
+use crate::rts::{COMMANDS as RELATIVE_COMMANDS, Rts};
 use crate::sets::RtsSet;
 use packet_forms::Packet;
 use std::marker::Model;
+use table_files::EntryFault;
 
 /// How many absolute time sequences there may be: they have the first places.
 const ABSOLUTE: usize = 2;
@@ -40,8 +45,47 @@ impl<'f> ScTables<'f> {
         ScTables { ats, rts }
     }
 
+    /// Reads absolute time sequence n, 1 or 2, from a payload, as `load_ats` reads it, and copies the places of its commands once. Where an
+    /// entry is refused all sequences stay as they were.
+    pub fn read_ats(&mut self, n: u8, payload: &'f [u8]) -> Option<EntryFault>
+        requires { (1 ≤ n) × (n ≤ 2) }
+        ensures table { IfNone result (self.new ≡ slice_set self.old (n - 1) (map of_timed (ats_of payload.now))) }
+        ensures kept { IfSome result (λ _. self.new ≡ self.old) }
+        ensures fault { result ≡ ats_fault_of payload.now }
+        ensures small { IfSome result (λ fault. fault.reason ≤ 4) }
+    {
+        let mut places = [Place::BLANK; COMMANDS];
+        match read_in_order(payload, &mut places) {
+            Err(fault) => Some(fault),
+            Ok(count) => {
+                self.put_ats(n, Ats::of(payload, places, count));
+                None
+            }
+        }
+    }
+
+    /// Reads relative time sequence n, from 1 to 64, from a payload of at most 2,048 bytes, as `load_rts` reads it, and copies the places of
+    /// its commands once. Where an entry is refused all sequences stay as they were.
+    pub fn read_rts(&mut self, n: u8, payload: &'f [u8]) -> Option<EntryFault>
+        requires number { (1 ≤ n) × (n ≤ 64) }
+        requires size { length payload.now ≤ 2048 }
+        ensures table { IfNone result (self.new ≡ slice_set self.old (n + 1) (map of_relative (rts_of payload.now))) }
+        ensures kept { IfSome result (λ _. self.new ≡ self.old) }
+        ensures fault { result ≡ rts_fault_of payload.now }
+        ensures small { IfSome result (λ fault. fault.reason ≤ 4) }
+    {
+        let mut places = [0; RELATIVE_COMMANDS];
+        match read_relative_places(payload, &mut places) {
+            Err(fault) => Some(fault),
+            Ok(count) => {
+                self.put_rts(n, Rts::of(payload, places, count));
+                None
+            }
+        }
+    }
+
     /// Names absolute time sequence n, 1 or 2.
-    pub fn put_ats(&mut self, n: u8, ats: Ats<'f>)
+    fn put_ats(&mut self, n: u8, ats: Ats<'f>)
         requires { (1 ≤ n) × (n ≤ 2) }
         ensures { self.new ≡ slice_set self.old (n - 1) (ats_commands (Some ats.entry)) }
     {
@@ -50,7 +94,7 @@ impl<'f> ScTables<'f> {
     }
 
     /// Names relative time sequence n, from 1 to 64.
-    pub fn put_rts(&mut self, n: u8, rts: Rts<'f>)
+    fn put_rts(&mut self, n: u8, rts: Rts<'f>)
         requires { (1 ≤ n) × (n ≤ 64) }
         ensures { self.new ≡ slice_set self.old (n + 1) (rts_commands (Some rts.entry)) }
     {

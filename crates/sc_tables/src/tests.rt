@@ -96,13 +96,14 @@ fn tables_have_their_places(rt: HostRuntime) -> Result<(), Fail> {
     assert!(rt; set.get(64).is_some());
     assert!(rt; set.get(63).is_none());
     let mut tables = ScTables::new([None, Some(ats)], set);
-    tables.put_rts(63, rts);
+    assert_eq!(rt; tables.read_rts(63, &bytes[4..14]), None);
     assert_eq!(rt;
         (tables.len(0), tables.len(1), tables.len(63), tables.len(64)),
         (0, 1, 0, 1)
     );
-    tables.put_ats(1, ats);
-    if tables.len(0) != 1 || tables.len(65) != 1 {
+    assert_eq!(rt; tables.read_ats(1, &bytes), None);
+    assert!(rt; tables.read_ats(2, &bytes[1..]).is_some());
+    if tables.len(0) != 1 || tables.len(1) != 1 || tables.len(65) != 1 {
         return Err("another length".into());
     }
     assert_eq!(rt; (tables.tag(0, 0), tables.tag(65, 0)), (9, 9));

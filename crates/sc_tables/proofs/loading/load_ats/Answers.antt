@@ -1,31 +1,11 @@
-use Rattle.std.proofs.Common.{◌≡◌, length, ap, ◌∙◌, rules}
-use Rattle.sc_tables.specs.Grammar.{fault_in}
-use Rattle.sc_tables.specs.Absolute.{ats_fault_of}
-use Rattle.sc_tables.proofs.Sorting.{loaded}
+use Rattle.std.proofs.Common.{◌∙◌}
 use Rattle.sc_tables.proofs.loading.load_ats.Goals as goal
 
-pub returns-in-Err-clause-fault : goal.returns-in-Err-clause-fault
-unfolding ats_fault_of
-returns-in-Err-clause-fault c = ap fault_in c.in-Err.ensures.fault
-
-pub returns-in-Ok-clause-fault : goal.returns-in-Ok-clause-fault
-unfolding ats_fault_of
-returns-in-Ok-clause-fault c = ap fault_in c.in-Ok.ensures.stored.stored
-
 pub of-requires-clause-placed : goal.of-requires-clause-placed
-of-requires-clause-placed c =
-    let whole : length c.read_places.new.places ≡ 1000 = search rules in
-    let all = loaded c.args.payload.now c.read_places.new.places c.put_in_order.new.places c.in-Ok.count whole c.in-Ok.ensures.few c.in-Ok.ensures.stored c.put_in_order.ensures.moved c.put_in_order.ensures.sorted in
-    all.placed
+of-requires-clause-placed c = c.in-Ok.ensures.ordered.placed
 
 pub of-requires-clause-in_order : goal.of-requires-clause-in_order
-of-requires-clause-in_order c =
-    let whole : length c.read_places.new.places ≡ 1000 = search rules in
-    let all = loaded c.args.payload.now c.read_places.new.places c.put_in_order.new.places c.in-Ok.count whole c.in-Ok.ensures.few c.in-Ok.ensures.stored c.put_in_order.ensures.moved c.put_in_order.ensures.sorted in
-    all.rises
+of-requires-clause-in_order c = c.in-Ok.ensures.ordered.rises
 
 pub returns-in-Ok-clause-table : goal.returns-in-Ok-clause-table
-returns-in-Ok-clause-table c =
-    let whole : length c.read_places.new.places ≡ 1000 = search rules in
-    let all = loaded c.args.payload.now c.read_places.new.places c.put_in_order.new.places c.in-Ok.count whole c.in-Ok.ensures.few c.in-Ok.ensures.stored c.put_in_order.ensures.moved c.put_in_order.ensures.sorted in
-    c.of.ensures ∙ all.commands
+returns-in-Ok-clause-table c = c.of.ensures ∙ c.in-Ok.ensures.ordered.commands
