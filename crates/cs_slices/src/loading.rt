@@ -2,9 +2,9 @@
 ghost use Rattle.std.specs.Prelude.{◌≡◌, ◌≤◌, length, IfOk, IfErr, MatchResult, Some, None};
 ghost use Rattle.cs_slices.specs.Tables.{segment_at, segment_reason, segments_fault_of, segments_of};
 
-use crate::segments::{ENTRIES, Segment, Segments};
+use crate::segments::{Segment, Segments};
 use packet_forms::{be16, be32};
-use table_files::{Entry, EntryFault, load_entries};
+use table_files::{Entry, EntryFault};
 
 /// The table of a payload of 192 bytes: 16 entries of state u16, a reserved u16, start u32 and length u32.
 /// A fault is the least reason of the first faulty entry, counted from 1: 1 a state over 2, and 2 a state that isn't 0 with length 0.
@@ -14,10 +14,10 @@ pub fn load_segments(payload: &[u8]) -> Result<Segments, EntryFault>
     ensures fault { MatchResult result (λ _. segments_fault_of payload.now ≡ None) (λ fault. segments_fault_of payload.now ≡ Some fault) }
     ensures small { IfErr result (λ fault. fault.reason ≤ 2) }
 {
-    let mut entries = [Segment::BLANK; ENTRIES];
-    match load_entries(payload, &mut entries) {
+    let mut table = Segments::blank();
+    match table.read(payload) {
         Some(fault) => Err(fault),
-        None => Ok(Segments::of(entries)),
+        None => Ok(table),
     }
 }
 

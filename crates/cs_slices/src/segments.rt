@@ -1,8 +1,9 @@
 //! Checksum tables.
-ghost use Rattle.std.specs.Prelude.{◌≡◌, ◌≤◌, ◌<◌, ◌-◌, length, slice_index_or};
+ghost use Rattle.std.specs.Prelude.{◌≡◌, ◌≤◌, ◌<◌, ◌-◌, length, slice_index_or, IfSome, IfNone};
 ghost use Rattle.cs_slices.specs.Tables.{pair_of, entry_in};
 
 use std::marker::Model;
+use table_files::{EntryFault, load_entries};
 
 /// How many entries a checksum table has.
 pub(crate) const ENTRIES: usize = 16;
@@ -45,22 +46,35 @@ impl Model for Segments {
 }
 
 impl Segments {
-    ghost use Rattle.cs_slices.specs.Tables.{blank_segment, blank_segments};
-
-    /// The table of these entries.
-    pub(crate) fn of(entries: [Segment; ENTRIES]) -> Segments
-        requires { length entries ≡ 16 }
-        ensures { result ≡ entries }
-    {
-        Segments { entries }
-    }
+    ghost use Rattle.cs_slices.specs.Tables.{blank_segment, blank_segments, segments_of, segments_fault_of};
 
     /// The table of a payload of zero bytes: all entries are empty.
     #[tactic(auto, unfolding(crate::specs::Tables::blank_segments))]
     pub fn blank() -> Segments
         ensures { result ≡ blank_segments }
     {
-        Segments::of([Segment::BLANK; ENTRIES])
+        Segments {
+            entries: [Segment::BLANK; ENTRIES],
+        }
+    }
+
+    /// Reads the table of a payload into this one, as `load_segments` reads it, and copies it once. Where an entry is refused the table
+    /// stays as it was.
+    pub fn read(&mut self, payload: &[u8]) -> Option<EntryFault>
+        requires { length payload.now ≡ 192 }
+        ensures table { IfNone result (self.new ≡ segments_of payload.now) }
+        ensures kept { IfSome result (λ _. self.new ≡ self.old) }
+        ensures fault { result ≡ segments_fault_of payload.now }
+        ensures small { IfSome result (λ fault. fault.reason ≤ 2) }
+    {
+        let mut entries = [Segment::BLANK; ENTRIES];
+        match load_entries(payload, &mut entries) {
+            Some(fault) => Some(fault),
+            None => {
+                self.entries = entries;
+                None
+            }
+        }
     }
 
     /// Entry n, from 1 to 16.
