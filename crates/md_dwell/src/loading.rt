@@ -2,9 +2,9 @@
 ghost use Rattle.std.specs.Prelude.{◌≡◌, ◌≤◌, length, IfOk, IfErr, MatchResult, Some, None};
 ghost use Rattle.md_dwell.specs.Tables.{entry_at, entry_reason, dwell_fault_of, dwell_of};
 
-use crate::tables::{Dwell, DwellEntry, ENTRIES};
+use crate::tables::{Dwell, DwellEntry};
 use packet_forms::{be16, be32};
-use table_files::{Entry, EntryFault, load_entries};
+use table_files::{Entry, EntryFault};
 
 /// The table of a payload of 204 bytes: the enabled flag u16, a reserved u16, and 25 entries of length u16, delay u16 and address u32.
 /// Its faults are reason 2 with entry 0, an enabled flag over 1, and then the least reason of the first faulty entry, counted from 1:
@@ -15,17 +15,10 @@ pub fn load_dwell(payload: &[u8]) -> Result<Dwell, EntryFault>
     ensures fault { MatchResult result (λ _. dwell_fault_of payload.now ≡ None) (λ fault. dwell_fault_of payload.now ≡ Some fault) }
     ensures small { IfErr result (λ fault. fault.reason ≤ 3) }
 {
-    let enabled = be16(payload, 0);
-    if enabled > 1 {
-        return Err(EntryFault {
-            entry: 0,
-            reason: 2,
-        });
-    }
-    let mut entries = [DwellEntry::BLANK; ENTRIES];
-    match load_entries(payload, &mut entries) {
+    let mut table = Dwell::blank();
+    match table.read(payload) {
         Some(fault) => Err(fault),
-        None => Ok(Dwell::of(enabled == 1, entries)),
+        None => Ok(table),
     }
 }
 

@@ -1,9 +1,11 @@
 //! Dwell tables.
-ghost use Rattle.std.specs.Prelude.{◌≡◌, ◌≤◌, ◌<◌, ◌-◌, ℕ, length, take, slice_index_or, slice_set};
+ghost use Rattle.std.specs.Prelude.{◌≡◌, ◌≤◌, ◌<◌, ◌-◌, ℕ, length, take, slice_index_or, slice_set, IfSome, IfNone};
 ghost use Rattle.md_dwell.specs.Lists.{list_of, delays};
 ghost use Rattle.md_dwell.specs.Tables.{is_length, is_aligned};
 
+use packet_forms::be16;
 use std::marker::Model;
+use table_files::{EntryFault, load_entries};
 
 /// How many entries a dwell table has.
 pub(crate) const ENTRIES: usize = 25;
@@ -83,7 +85,7 @@ impl DwellEntry {
 }
 
 impl Dwell {
-    ghost use Rattle.md_dwell.specs.Tables.{blank_entry, blank_table};
+    ghost use Rattle.md_dwell.specs.Tables.{blank_entry, blank_table, dwell_of, dwell_fault_of};
 
     /// The table of these entries.
     pub(crate) fn of(enabled: bool, entries: [DwellEntry; ENTRIES]) -> Dwell
@@ -102,6 +104,33 @@ impl Dwell {
         ensures { result ≡ blank_table }
     {
         Dwell::of(false, [DwellEntry::BLANK; ENTRIES])
+    }
+
+    /// Reads the table of a payload into this one, as `load_dwell` reads it, and copies it once. Where an entry is refused the table stays
+    /// as it was.
+    pub fn read(&mut self, payload: &[u8]) -> Option<EntryFault>
+        requires { length payload.now ≡ 204 }
+        ensures table { IfNone result (self.new ≡ dwell_of payload.now) }
+        ensures kept { IfSome result (λ _. self.new ≡ self.old) }
+        ensures fault { result ≡ dwell_fault_of payload.now }
+        ensures small { IfSome result (λ fault. fault.reason ≤ 3) }
+    {
+        let enabled = be16(payload, 0);
+        if enabled > 1 {
+            return Some(EntryFault {
+                entry: 0,
+                reason: 2,
+            });
+        }
+        let mut entries = [DwellEntry::BLANK; ENTRIES];
+        match load_entries(payload, &mut entries) {
+            Some(fault) => Some(fault),
+            None => {
+                self.enabled = enabled == 1;
+                self.plan.write_all(&entries);
+                None
+            }
+        }
     }
 
     /// Whether the enabled flag is 1.
@@ -168,6 +197,16 @@ impl Plan {
         let mut entries = self.entries;
         entries[number as usize - 1] = entry;
         *self = Plan::of(entries);
+    }
+
+    /// Writes all entries.
+    pub(crate) fn write_all(&mut self, entries: &[DwellEntry; ENTRIES])
+        ensures { self.new ≡ entries.now }
+    {
+        let count = list_len(entries);
+        self.entries = *entries;
+        self.count = count;
+        self.period = delays(&entries[..count]);
     }
 
     /// The 25 entries.

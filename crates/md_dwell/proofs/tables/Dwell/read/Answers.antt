@@ -5,7 +5,7 @@ use Rattle.packet_forms.specs.Numbers.{be16_at}
 use Rattle.table_files.specs.Entries.{first_fault, entries_in as entries_of}
 use Rattle.md_dwell.specs.Tables.{entry_at, entries_in, entry_reason, dwell_fault_of, dwell_of, DwellTable}
 use Rattle.md_dwell.specs.declared.tables.DwellEntry.{DwellEntry}
-use Rattle.md_dwell.proofs.loading.load_dwell.Goals as goal
+use Rattle.md_dwell.proofs.tables.Dwell.read.Goals as goal
 
 -- a payload whose flag is 0 or 1
 by_entries : (payload : List ℕ) (enabled : ℕ) → enabled ≡ be16_at payload 0 → enabled ≤ 1 → dwell_fault_of payload ≡ first_fault entry_reason 1 (entries_of entry_at 25 payload)
@@ -22,11 +22,11 @@ unfolding dwell_fault_of
 returns-then-enabled-gt1-clause-fault c = search rules
 
 pub returns-in-Some-clause-fault : goal.returns-in-Some-clause-fault
-returns-in-Some-clause-fault c = by_entries c.args.payload.now c.be16-enabled.result c.be16-enabled.ensures c.if-enabled-gt1.false ∙ sym c.in-Some.ensures.fault
+returns-in-Some-clause-fault c = c.in-Some.ensures.fault ∙ sym (by_entries c.args.payload.now c.be16-enabled.result c.be16-enabled.ensures c.if-enabled-gt1.false)
 
 pub returns-in-None-clause-fault : goal.returns-in-None-clause-fault
-returns-in-None-clause-fault c = by_entries c.args.payload.now c.be16-enabled.result c.be16-enabled.ensures c.if-enabled-gt1.false ∙ sym c.in-None.ensures.fault
+returns-in-None-clause-fault c = c.in-None.ensures.fault ∙ sym (by_entries c.args.payload.now c.be16-enabled.result c.be16-enabled.ensures c.if-enabled-gt1.false)
 
 pub returns-in-None-clause-table : goal.returns-in-None-clause-table
 unfolding dwell_of entries_in entries_of
-returns-in-None-clause-table c = c.of.ensures ∙ table_same _ _ _ _ c.be16-enabled.ensures (c.in-None.ensures.entries refl)
+returns-in-None-clause-table c = table_same _ _ _ _ c.be16-enabled.ensures (c.write_all.ensures ∙ c.in-None.ensures.entries refl)
