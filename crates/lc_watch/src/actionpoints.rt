@@ -1,9 +1,10 @@
 //! Actionpoints.
-ghost use Rattle.std.specs.Prelude.{◌≡◌, ◌≤◌, ◌<◌, ◌-◌, true, length, take, if◌then◌else◌, Some, None};
+ghost use Rattle.std.specs.Prelude.{◌≡◌, ◌≤◌, ◌<◌, ◌-◌, true, length, take, if◌then◌else◌, Some, None, IfSome, IfNone};
 ghost use Rattle.lc_watch.specs.Actionpoints.{is_used, is_whole, is_startable, expression, act_at, uses_any, AreAble, AbleWhereUsed};
 
 use crate::expressions::{WORDS, Word, leaves_one};
 use std::marker::Model;
+use table_files::{EntryFault, load_entries};
 
 /// How many actionpoints the table has.
 pub(crate) const ACTIONPOINTS: usize = 16;
@@ -91,16 +92,7 @@ impl ActRow {
 }
 
 impl Adt {
-    ghost use Rattle.lc_watch.specs.Actionpoints.{blank_rows};
-
-    /// The table of these entries.
-    pub(crate) fn of(rows: [ActRow; ACTIONPOINTS]) -> Adt
-        requires whole { length rows ≡ 16 }
-        requires able { AreAble rows }
-        ensures { result ≡ rows }
-    {
-        Adt { rows }
-    }
+    ghost use Rattle.lc_watch.specs.Actionpoints.{blank_rows, rows_of, rows_fault_of};
 
     /// The table of a payload of zero bytes: no entry is used.
     #[tactic(auto, unfolding(crate::specs::Actionpoints::blank_rows))]
@@ -109,6 +101,26 @@ impl Adt {
     {
         Adt {
             rows: [ActRow::BLANK; ACTIONPOINTS],
+        }
+    }
+
+    /// Reads the table of a payload into this one, as `load_adt` reads it, and copies it once. Where an entry is refused the table stays as
+    /// it was.
+    pub fn read(&mut self, payload: &[u8]) -> Option<EntryFault>
+        requires { length payload.now ≡ 640 }
+        ensures table { IfNone result (self.new ≡ rows_of payload.now) }
+        ensures able { IfNone result (AreAble self.new) }
+        ensures kept { IfSome result (λ _. self.new ≡ self.old) }
+        ensures fault { result ≡ rows_fault_of payload.now }
+        ensures small { IfSome result (λ fault. fault.reason ≤ 3) }
+    {
+        let mut rows = [ActRow::BLANK; ACTIONPOINTS];
+        match load_entries(payload, &mut rows) {
+            Some(fault) => Some(fault),
+            None => {
+                self.rows = rows;
+                None
+            }
         }
     }
 

@@ -5,11 +5,11 @@ ghost use Rattle.lc_watch.specs.Watchpoints as watchpoints;
 ghost use Rattle.lc_watch.specs.Actionpoints as actionpoints;
 ghost use Rattle.lc_watch.specs.Actionpoints.{AreAble};
 
-use crate::actionpoints::{ACTIONPOINTS, ActRow, Adt};
+use crate::actionpoints::{ActRow, Adt};
 use crate::expressions::{WORDS, Word};
-use crate::watchpoints::{Operator, WATCHPOINTS, WatchRow, Wdt};
+use crate::watchpoints::{Operator, WatchRow, Wdt};
 use packet_forms::{be16, be32};
-use table_files::{Entry, EntryFault, load_entries};
+use table_files::{Entry, EntryFault};
 
 /// The table of a payload of 512 bytes: 32 entries of type u16, message id u16, offset u16, operator u16, mask u32 and limit u32. Else the
 /// least reason of its first faulty entry, counted from 1: 1 its type is over 3, 2 it is used and its operator isn't 1 to 6.
@@ -19,10 +19,10 @@ pub fn load_wdt(payload: &[u8]) -> Result<Wdt, EntryFault>
     ensures fault { MatchResult result (λ _. watchpoints.rows_fault_of payload.now ≡ None) (λ fault. watchpoints.rows_fault_of payload.now ≡ Some fault) }
     ensures small { IfErr result (λ fault. fault.reason ≤ 2) }
 {
-    let mut rows = [WatchRow::BLANK; WATCHPOINTS];
-    match load_entries(payload, &mut rows) {
+    let mut table = Wdt::blank();
+    match table.read(payload) {
         Some(fault) => Err(fault),
-        None => Ok(Wdt::of(rows)),
+        None => Ok(table),
     }
 }
 
@@ -37,10 +37,10 @@ pub fn load_adt(payload: &[u8]) -> Result<Adt, EntryFault>
     ensures able { IfOk result (λ table. AreAble table) }
     ensures small { IfErr result (λ fault. fault.reason ≤ 3) }
 {
-    let mut rows = [ActRow::BLANK; ACTIONPOINTS];
-    match load_entries(payload, &mut rows) {
+    let mut table = Adt::blank();
+    match table.read(payload) {
         Some(fault) => Err(fault),
-        None => Ok(Adt::of(rows)),
+        None => Ok(table),
     }
 }
 

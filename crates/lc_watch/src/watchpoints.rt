@@ -1,8 +1,9 @@
 //! Watchpoints.
-ghost use Rattle.std.specs.Prelude.{◌≡◌, ◌≤◌, ◌-◌, length, if◌then◌else◌, Some, None};
+ghost use Rattle.std.specs.Prelude.{◌≡◌, ◌≤◌, ◌-◌, length, if◌then◌else◌, Some, None, IfSome, IfNone};
 ghost use Rattle.lc_watch.specs.Watchpoints.{operator_of, is_used, watch_at};
 
 use std::marker::Model;
+use table_files::{EntryFault, load_entries};
 
 /// How many watchpoints the table has.
 pub(crate) const WATCHPOINTS: usize = 32;
@@ -91,15 +92,7 @@ impl WatchRow {
 }
 
 impl Wdt {
-    ghost use Rattle.lc_watch.specs.Watchpoints.{blank_rows};
-
-    /// The table of these entries.
-    pub(crate) fn of(rows: [WatchRow; WATCHPOINTS]) -> Wdt
-        requires { length rows ≡ 32 }
-        ensures { result ≡ rows }
-    {
-        Wdt { rows }
-    }
+    ghost use Rattle.lc_watch.specs.Watchpoints.{blank_rows, rows_of, rows_fault_of};
 
     /// The table of a payload of zero bytes: no entry is used.
     #[tactic(auto, unfolding(crate::specs::Watchpoints::blank_rows))]
@@ -108,6 +101,25 @@ impl Wdt {
     {
         Wdt {
             rows: [WatchRow::BLANK; WATCHPOINTS],
+        }
+    }
+
+    /// Reads the table of a payload into this one, as `load_wdt` reads it, and copies it once. Where an entry is refused the table stays as
+    /// it was.
+    pub fn read(&mut self, payload: &[u8]) -> Option<EntryFault>
+        requires { length payload.now ≡ 512 }
+        ensures table { IfNone result (self.new ≡ rows_of payload.now) }
+        ensures kept { IfSome result (λ _. self.new ≡ self.old) }
+        ensures fault { result ≡ rows_fault_of payload.now }
+        ensures small { IfSome result (λ fault. fault.reason ≤ 2) }
+    {
+        let mut rows = [WatchRow::BLANK; WATCHPOINTS];
+        match load_entries(payload, &mut rows) {
+            Some(fault) => Some(fault),
+            None => {
+                self.rows = rows;
+                None
+            }
         }
     }
 
