@@ -9,10 +9,8 @@ ghost use Rattle.hs_tables.specs.Actions as actions;
 ghost use Rattle.table_files.specs.declared.fault.EntryFault.{EntryFault};
 ghost use Rattle.frame_exec.specs.Tables.{where_well, said_or, fault_at};
 
-use cs_slices::{Segments, load_segments};
-use hs_tables::{
-    AppMon, EventMon, ExeCount, MsgActs, load_appmon, load_eventmon, load_execount, load_msgacts,
-};
+use cs_slices::Segments;
+use hs_tables::{AppMon, EventMon, ExeCount, MsgActs};
 use table_files::EntryFault;
 
 /// Why the entries of the files are refused: the first faulty file, counted from 1, and in it the entry and the reason that
@@ -50,13 +48,7 @@ pub(crate) fn put_segments(place: &mut Segments, payload: &[u8]) -> Option<Entry
     ensures fault { result ≡ segments_fault_of payload.now }
     ensures small { IfSome result (λ fault. fault.reason ≤ 5) }
 {
-    match load_segments(payload) {
-        Ok(table) => {
-            *place = table;
-            None
-        }
-        Err(fault) => Some(fault),
-    }
+    place.read(payload)
 }
 
 /// Puts an application monitor table in a place, unless its entries have a fault.
@@ -66,13 +58,7 @@ pub(crate) fn put_apps(place: &mut AppMon, payload: &[u8]) -> Option<EntryFault>
     ensures fault { result ≡ apps.rows_fault_of payload.now }
     ensures small { IfSome result (λ fault. fault.reason ≤ 5) }
 {
-    match load_appmon(payload) {
-        Ok(table) => {
-            *place = table;
-            None
-        }
-        Err(fault) => Some(fault),
-    }
+    place.read(payload)
 }
 
 /// Puts an event monitor table in a place, unless its entries have a fault.
@@ -82,13 +68,7 @@ pub(crate) fn put_events(place: &mut EventMon, payload: &[u8]) -> Option<EntryFa
     ensures fault { result ≡ events.rows_fault_of payload.now }
     ensures small { IfSome result (λ fault. fault.reason ≤ 5) }
 {
-    match load_eventmon(payload) {
-        Ok(table) => {
-            *place = table;
-            None
-        }
-        Err(fault) => Some(fault),
-    }
+    place.read(payload)
 }
 
 /// Puts an execution counter table in a place, unless its entries have a fault.
@@ -98,13 +78,7 @@ pub(crate) fn put_counts(place: &mut ExeCount, payload: &[u8]) -> Option<EntryFa
     ensures fault { result ≡ counters.rows_fault_of payload.now }
     ensures small { IfSome result (λ fault. fault.reason ≤ 5) }
 {
-    match load_execount(payload) {
-        Ok(table) => {
-            *place = table;
-            None
-        }
-        Err(fault) => Some(fault),
-    }
+    place.read(payload)
 }
 
 /// Puts a message action table in a place, unless its entries have a fault.
@@ -114,11 +88,5 @@ pub(crate) fn put_acts(place: &mut MsgActs, payload: &[u8]) -> Option<EntryFault
     ensures fault { result ≡ actions.rows_fault_of payload.now }
     ensures small { IfSome result (λ fault. fault.reason ≤ 5) }
 {
-    match load_msgacts(payload) {
-        Ok(table) => {
-            *place = table;
-            None
-        }
-        Err(fault) => Some(fault),
-    }
+    place.read(payload)
 }

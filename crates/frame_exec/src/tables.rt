@@ -12,8 +12,8 @@ use crate::loading::{
 };
 use cs_slices::Segments;
 use hs_tables::HsTables;
-use md_dwell::{Dwell, load_dwell};
-use sc_tables::{RtsSet, ScTables, load_ats, load_rts};
+use md_dwell::Dwell;
+use sc_tables::{RtsSet, ScTables};
 use std::marker::Model;
 use table_files::{EntryFault, FileImage, Files, TableKind};
 
@@ -189,14 +189,8 @@ impl<'f> Tables<'f> {
         ensures fault { result ≡ entry_fault (TableKind.Dwell n) payload.now }
         ensures small { IfSome result (λ fault. fault.reason ≤ 5) }
     {
-        match load_dwell(payload) {
-            Ok(table) => {
-                let dwells = &mut self.dwells[..];
-                dwells[n as usize - 1] = table;
-                None
-            }
-            Err(fault) => Some(fault),
-        }
+        let dwells = &mut self.dwells[..];
+        dwells[n as usize - 1].read(payload)
     }
 
     /// Puts absolute sequence n, 1 or 2, in its place.
@@ -206,13 +200,7 @@ impl<'f> Tables<'f> {
         ensures fault { result ≡ entry_fault (TableKind.Ats n) payload.now }
         ensures small { IfSome result (λ fault. fault.reason ≤ 5) }
     {
-        match load_ats(payload) {
-            Ok(ats) => {
-                self.sc.put_ats(n, ats);
-                None
-            }
-            Err(fault) => Some(fault),
-        }
+        self.sc.read_ats(n, payload)
     }
 
     /// Puts relative sequence n, from 1 to 64, in its place.
@@ -223,12 +211,6 @@ impl<'f> Tables<'f> {
         ensures fault { result ≡ entry_fault (TableKind.Rts n) payload.now }
         ensures small { IfSome result (λ fault. fault.reason ≤ 5) }
     {
-        match load_rts(payload) {
-            Ok(rts) => {
-                self.sc.put_rts(n, rts);
-                None
-            }
-            Err(fault) => Some(fault),
-        }
+        self.sc.read_rts(n, payload)
     }
 }
