@@ -9,3 +9,4 @@ pub mod BeginLemmas
 pub mod PassLemmas
 pub mod FirstLemmas
 pub mod DrillLemmas
+pub mod FrameLemmas

@@ -1,5 +1,5 @@
 //! What one frame is given.
-ghost use Rattle.std.specs.Prelude.{◌≡◌, ◌≤◌, ◌<◌, ◌++◌, ◌∷◌, [], true, false, Ok};
+ghost use Rattle.std.specs.Prelude.{◌≡◌, ◌≤◌, ◌<◌, ◌++◌, ◌∷◌, ◌==◌, [], true, false, Ok};
 ghost use Rattle.scenario.specs.Sentences.{packet_of};
 ghost use Rattle.scenario.specs.FrameLists.{no_items, items_in};
 
@@ -36,6 +36,8 @@ pub struct Upset {
 /// What one frame is given, as five lists in the order of their lines: at most 64 items together.
 #[derive(Drop)]
 pub struct FrameInput {
+    // how many items there are, so that a frame without any is known by one number
+    count: usize,
     sends: SendList,
     counters: ArrayVec<Counter, 64>,
     upsets: ArrayVec<Upset, 64>,
@@ -44,14 +46,14 @@ pub struct FrameInput {
 }
 
 impl Model for FrameInput {
-    ghost use Rattle.std.specs.Prelude.{◌≤◌, ◌+◌, length};
+    ghost use Rattle.std.specs.Prelude.{◌≡◌, ◌≤◌, ◌+◌, length};
     ghost use Rattle.scenario.specs.FrameLists.{Frame};
 
     ghost Value = { Frame };
 
     ghost view = { λ f. record { sends = f.sends; counters = f.counters.items; upsets = f.upsets.items; held = f.held.items; activations = f.activations.items } };
 
-    ghost invariant = { λ f. length f.sends + length f.counters.items + length f.upsets.items + length f.held.items + length f.activations.items ≤ 64 };
+    ghost invariant = { λ f. (f.count ≡ length f.sends + length f.counters.items + length f.upsets.items + length f.held.items + length f.activations.items) × (f.count ≤ 64) };
 }
 
 impl FrameInput {
@@ -59,6 +61,7 @@ impl FrameInput {
         ensures { result ≡ no_items }
     {
         FrameInput {
+            count: 0,
             sends: SendList::new(),
             counters: ArrayVec::new(),
             upsets: ArrayVec::new(),
@@ -70,6 +73,10 @@ impl FrameInput {
     pub(crate) fn clear(&mut self)
         ensures { self.new ≡ no_items }
     {
+        if self.is_empty() {
+            return;
+        }
+        self.count = 0;
         self.sends.clear();
         self.counters.clear();
         self.upsets.clear();
@@ -81,11 +88,17 @@ impl FrameInput {
         ensures value { result ≡ items_in self.now }
         ensures limit { result ≤ 64 }
     {
-        self.sends.len()
-            + self.counters.len()
-            + self.upsets.len()
-            + self.held.len()
-            + self.activations.len()
+        self.count
+    }
+
+    /// Whether the frame has no item.
+    #[inline(always)]
+    pub fn is_empty(&self) -> bool
+        ensures exact { result ≡ (items_in self.now == 0) }
+        ensures none { result ≡ true → self.now ≡ no_items }
+        ensures limit { items_in self.now ≤ 64 }
+    {
+        self.count == 0
     }
 
     /// The packets that are sent.
@@ -132,6 +145,7 @@ impl FrameInput {
         requires { items_in self.old < 64 }
         ensures { self.new ≡ record self.old { sends = self.old.sends ++ packet.now ∷ [] } }
     {
+        self.count += 1;
         self.sends.push(packet);
     }
 
@@ -141,13 +155,18 @@ impl FrameInput {
         ensures sent { result ≡ true → (packet_of bytes.now ≡ Ok bytes.now) × (self.new ≡ record self.old { sends = self.old.sends ++ bytes.now ∷ [] }) }
         ensures kept { result ≡ false → self.new ≡ self.old }
     {
-        self.sends.push_bytes(bytes)
+        if !self.sends.push_bytes(bytes) {
+            return false;
+        }
+        self.count += 1;
+        true
     }
 
     pub(crate) fn count(&mut self, counter: Counter)
         requires { items_in self.old < 64 }
         ensures { self.new ≡ record self.old { counters = self.old.counters ++ counter ∷ [] } }
     {
+        self.count += 1;
         self.counters.push(counter);
     }
 
@@ -155,6 +174,7 @@ impl FrameInput {
         requires { items_in self.old < 64 }
         ensures { self.new ≡ record self.old { upsets = self.old.upsets ++ upset ∷ [] } }
     {
+        self.count += 1;
         self.upsets.push(upset);
     }
 
@@ -162,6 +182,7 @@ impl FrameInput {
         requires { items_in self.old < 64 }
         ensures { self.new ≡ record self.old { held = self.old.held ++ app ∷ [] } }
     {
+        self.count += 1;
         self.held.push(app);
     }
 
@@ -169,6 +190,7 @@ impl FrameInput {
         requires { items_in self.old < 64 }
         ensures { self.new ≡ record self.old { activations = self.old.activations ++ file ∷ [] } }
     {
+        self.count += 1;
         self.activations.push(file);
     }
 }

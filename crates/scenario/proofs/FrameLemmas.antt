@@ -1,0 +1,10 @@
+-- A frame without items.
+use Rattle.std.proofs.Common.{◌≡◌, ◌==◌, ◌+◌, ℕ, List, [], ◌∷◌, true, length, refl, arith}
+use Rattle.std.proofs.lemmas.Bool.Decides.{nat_tests}
+use Rattle.std.proofs.lemmas.List.{nil_from_length}
+use Rattle.scenario.specs.FrameLists.{Frame, no_items, items_in}
+
+-- where there are no items each list is empty
+pub nothing_in : (f : Frame) → items_in f ≡ 0 → f ≡ no_items
+nothing_in f none =
+    rw (nil_from_length f.sends (omega (arith, none)), nil_from_length f.counters (omega (arith, none)), nil_from_length f.upsets (omega (arith, none)), nil_from_length f.held (omega (arith, none)), nil_from_length f.activations (omega (arith, none))) refl
