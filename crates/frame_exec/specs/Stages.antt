@@ -108,6 +108,14 @@ pub record Takes (held : List App) (old new : Bench) : Type 0 where
   pub log : new.log ≡ old.log
   pub memory : new.ram ≡ old.ram
 
+-- the tables of a frame became active, its upsets were written, and the applications took what their pipes held
+pub record Arrives (frame : Frame) (old new : Bench) : Type 0 where
+  pub active : Bench
+  pub upset : Bench
+  pub activates : Activates frame.activations [] old active
+  pub writes : IsUpset frame.upsets active upset
+  pub takes : Takes frame.held upset new
+
 -- no application gave anything yet
 pub record IsClear (b : Bench) : Type 0 where
   pub hs : b.hs.out.items ≡ []

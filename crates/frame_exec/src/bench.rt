@@ -7,14 +7,12 @@ use crate::activations::{Naming, hand_over, naming_of, tell};
 use crate::crowds::obey_frame;
 use crate::cs_slot::CsSlot;
 use crate::cut::Cut;
-use crate::giving::{OpenFault, refused_place};
 use crate::hs_slot::HsSlot;
 use crate::left::Left;
 use crate::md_slot::MdSlot;
 use crate::mm_slot::MmSlot;
 use crate::reads::Reads;
 use crate::sc_slot::ScSlot;
-use crate::slot::Slot;
 use crate::stages::{
     deliver_all, has_reset, in_order, is_held, put_frame, stamp_all, take_unless, upset_all,
 };
@@ -23,7 +21,7 @@ use crate::wakeups::{Scene, Wakeup};
 use bus_pipes::{Batch, Bus, Drops, Outbox, PipeName};
 use crew_board::Crew;
 use cs_slices::Cs;
-use fsw_outside::{Failed, Gate, NoMemory, Sink};
+use fsw_outside::{Failed, Gate, Sink};
 use hs_monitors::Hs;
 use md_dwell::Md;
 use memory_window::{Ops, Ram};
@@ -31,60 +29,55 @@ use mm_core::Mm;
 use packet_forms::Counter;
 use packet_log::{Block, Line, Log};
 use sc_sequences::Sc;
-use scenario::{App, FrameInput, Header, Upset};
-use std::alloc::Global;
+use scenario::{App, FrameInput, Upset};
 use std::thread::Threads;
 use subjects::{Crowd, Subject};
-use table_files::Files;
 
 /// How many packets are dropped in a frame at most: all that are sent and all that the applications give.
-const DROPS: u32 = 1525;
-
-/// How many applications are woken in a frame.
-const JOBS: u32 = 5;
+pub(crate) const DROPS: u32 = 1525;
 
 /// How many tables a frame may name to become active.
-const ACTIVATIONS: u32 = 64;
+pub(crate) const ACTIVATIONS: u32 = 64;
 
 /// The bench, after some frames. It takes all its memory as it is opened, and borrows the files, from which MM loads.
 #[derive(Drop)]
 pub struct Bench<'f> {
-    epoch: u32,
+    pub(crate) epoch: u32,
     // one more than the last frame's number, which may be the largest of four bytes
-    number: u64,
-    failed: bool,
+    pub(crate) number: u64,
+    pub(crate) failed: bool,
     // whether a processor reset was asked for in the frame that was run
-    resets: bool,
+    pub(crate) resets: bool,
     // how many threads may land operations, or cycle a crowd, at once
-    workers: u32,
-    tables: Tables<'f>,
+    pub(crate) workers: u32,
+    pub(crate) tables: Tables<'f>,
     // the events of the frame's activations
-    activations: Outbox,
-    hs: HsSlot,
+    pub(crate) activations: Outbox,
+    pub(crate) hs: HsSlot,
     // the packets that HS took from its pipe of events
-    events: Batch,
-    cs: CsSlot,
-    sc: ScSlot,
-    mm: MmSlot,
-    md: MdSlot,
+    pub(crate) events: Batch,
+    pub(crate) cs: CsSlot,
+    pub(crate) sc: ScSlot,
+    pub(crate) mm: MmSlot,
+    pub(crate) md: MdSlot,
     // who wakes the applications, with what each left
-    crew: Crew<Left>,
-    ops: Box<Ops>,
-    drops: Drops,
-    bus: Bus,
-    log: Log,
-    ram: Ram,
+    pub(crate) crew: Crew<Left>,
+    pub(crate) ops: Box<Ops>,
+    pub(crate) drops: Drops,
+    pub(crate) bus: Bus,
+    pub(crate) log: Log,
+    pub(crate) ram: Ram,
     // the line that was written last: a new one would be wiped in each frame
-    line: Line,
+    pub(crate) line: Line,
     // lines, until they are handed on
-    block: Block,
+    pub(crate) block: Block,
     ghost drops_room: { drops.room ≡ DROPS },
     ghost five: { crew.jobs ≡ 5 },
     ghost activations_room: { activations.room ≡ ACTIVATIONS },
 }
 
 impl<'f> Bench<'f> {
-    ghost use Rattle.std.specs.Prelude.{ℕ, ◌+◌, ◌-◌, ◌<◌, ◌≤◌, List, [], ◌∷◌, ◌++◌, map, length, true, ◌||◌, All, IfOk, IfErr, OnOk, OnErr, is_err};
+    ghost use Rattle.std.specs.Prelude.{ℕ, ◌+◌, ◌-◌, ◌<◌, ◌≤◌, List, [], ◌∷◌, ◌++◌, map, length, true, ◌||◌, All, IfErr, OnOk, OnErr, is_err};
     ghost use Rattle.fsw_outside.specs.Told.{WhereTold};
     ghost use Rattle.fsw_outside.specs.Causes.{HasCause};
     ghost use Rattle.fsw_outside.specs.Written.{WritesAll};
@@ -97,80 +90,15 @@ impl<'f> Bench<'f> {
     ghost use Rattle.frame_exec.specs.Runs.{Setup, State, activated_at, naming_at, frame_lines, log_of, run_of};
     ghost use Rattle.frame_exec.specs.Crowds.{with_counters, beside, behind_items, crowd_after};
     ghost use Rattle.subjects.specs.Crowds.{counter_of, all_cycled};
-    ghost use Rattle.frame_exec.specs.Standing.{Has, has_failed, waiting_in, IsReady, Stands, IsInterrupted, CanRun, setup_in};
+    ghost use Rattle.frame_exec.specs.Standing.{Has, has_failed, waiting_in, IsReady, Stands, IsInterrupted, CanRun};
     ghost use Rattle.frame_exec.specs.Following.{Follows, IsCutAt, Adds};
-    ghost use Rattle.frame_exec.specs.Tables.{AreGiven, AreLoaded, Opens, region_fault};
     ghost use Rattle.frame_exec.specs.Landable.{CanLand};
     ghost use Rattle.std.specs.List.{AllPass, list_any};
     ghost use Rattle.bus_pipes.specs.Counted.{is_item_counted};
     ghost use Rattle.table_files.specs.Files.{kind_at};
-    ghost use Rattle.frame_exec.specs.Stages.{IsSameRun, GoesOn, NamesFile, Activates, IsUpset, Takes, IsClear, Steps, CanSend, AreWoken, TakesOver, Sends, RunsIn, IsSameFrame, Lands, StartsAnew, IsStamped, HasGiven, items_in, loads_in, lines_in};
+    ghost use Rattle.frame_exec.specs.Stages.{IsSameRun, GoesOn, NamesFile, Activates, IsUpset, Takes, Arrives, IsClear, Steps, CanSend, AreWoken, TakesOver, Sends, RunsIn, IsSameFrame, Lands, StartsAnew, IsStamped, HasGiven, items_in, loads_in, lines_in};
     ghost use Rattle.frame_exec.specs.Sending.{is_reset};
     ghost use Rattle.frame_exec.specs.Wakes.{joined};
-
-    /// A bench with the tables that were loaded from these files and the memory of the header's map, which stands for no frames; the number of
-    /// workers is from 1 to 16. `Region` comes exactly where that memory refuses the read of a dwell entry of another length than 0, or the bytes
-    /// of a checksum entry whose state isn't 0, with the first such file and its first such entry; it is asked before memory is.
-    pub fn open(
-        alloc: Global,
-        tables: Tables<'f>,
-        files: &'f Files,
-        header: &Header,
-        workers: u32,
-    ) -> Result<Bench<'f>, OpenFault>
-        requires workers { (1 ≤ workers) × (workers ≤ 16) }
-        requires loaded { AreLoaded files.now tables }
-        ensures stands { IfOk result (λ bench. Stands bench (setup_in header.now files.now) []) }
-        ensures follows { IfOk result (λ bench. Follows bench (setup_in header.now files.now) [] []) }
-        ensures refused { Opens (region_fault header.now.map files.now) result }
-    {
-        if let Some(place) = refused_place(&header.map, files) {
-            return Err(OpenFault::Region {
-                file: place.file,
-                entry: place.entry,
-            });
-        }
-        match Bench::begin(alloc, tables, header, workers) {
-            Ok(bench) => Ok(bench),
-            Err(NoMemory) => Err(OpenFault::NoMemory),
-        }
-    }
-
-    /// A bench that stands for no frames, on tables whose reads the header's map gives.
-    fn begin(
-        alloc: Global,
-        tables: Tables<'f>,
-        header: &Header,
-        workers: u32,
-    ) -> Result<Bench<'f>, NoMemory>
-        requires workers { (1 ≤ workers) × (workers ≤ 16) }
-        requires given { AreGiven header.now.map tables }
-        ensures { (files : List (List ℕ)) → AreLoaded files tables.entry → IfOk result (λ bench. Stands bench (setup_in header.now files) []) }
-    {
-        Ok(Bench {
-            epoch: header.epoch,
-            number: 0,
-            failed: false,
-            resets: false,
-            workers,
-            hs: Slot::open(alloc, Hs::start(tables.hs(), 0, 3))?,
-            events: Batch::new(),
-            cs: Slot::open(alloc, Cs::start(tables.eeprom(), tables.memory()))?,
-            sc: Slot::open(alloc, Sc::start(tables.sc(), header.epoch))?,
-            mm: Slot::open(alloc, Mm::start())?,
-            md: Slot::open(alloc, Md::start(tables.dwells()))?,
-            tables,
-            activations: Outbox::open(alloc, ACTIVATIONS)?,
-            crew: Crew::open(alloc, workers, JOBS)?,
-            ops: Box::new(alloc, Ops::new())?,
-            drops: Drops::open(alloc, DROPS)?,
-            bus: Bus::open(alloc)?,
-            log: Log::start(),
-            ram: Ram::new(alloc, header.map)?,
-            line: Line::new(),
-            block: Block::open(alloc)?,
-        })
-    }
 
     /// Whether a frame of this bench failed.
     pub fn failed(&self) -> bool
@@ -657,6 +585,27 @@ impl<'f> Bench<'f> {
         stamp_all(&mut self.log, &mut self.md.out);
     }
 
+    /// Makes the frame's tables active, writes its upsets, and lets each application take what its pipes hold. A frame without items has
+    /// none of these.
+    #[inline(always)]
+    fn arrive(&mut self, input: &FrameInput)
+        requires time { self.old.epoch + self.old.number < 4294967296 }
+        requires upsets { All (λ (u : Upset). is_mapped (regions_of self.old.ram.areas) u.at ≡ true) input.now.upsets }
+        requires ready { IsReady self.old }
+        ensures arrives { Arrives input.now self.old self.new }
+        ensures few { length input.now.sends + length input.now.activations ≤ 64 }
+        ensures ready { IsReady self.new }
+    {
+        if input.is_empty() {
+            self.activations.clear();
+            self.take(&[]);
+            return;
+        }
+        self.activate(input.activations());
+        self.upset(input.upsets());
+        self.take(input.held());
+    }
+
     /// Runs a frame up to its lines, on these execution counters: makes its tables active, writes its upsets, wakes the applications on its
     /// image, sends what they gave, and tells whether there is no line.
     #[inline(always)]
@@ -677,9 +626,7 @@ impl<'f> Bench<'f> {
         ensures ready { IsReady self.new }
         ensures silent { result ≡ true → lines_in self.new ≡ [] }
     {
-        self.activate(input.activations());
-        self.upset(input.upsets());
-        self.take(input.held());
+        self.arrive(input);
         let none = self.step(rt, gate, counters);
         self.send(input, none)
     }

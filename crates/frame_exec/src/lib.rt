@@ -14,6 +14,7 @@ mod left;
 mod loading;
 mod md_slot;
 mod mm_slot;
+mod opening;
 mod reads;
 mod sc_slot;
 mod slot;
