@@ -1,15 +1,15 @@
 -- Laws of delivery and of lists with a room.
-use Rattle.std.proofs.Common.{◌≡◌, ◌≤◌, ℕ, ◌+◌, List, [], ◌∷◌, ◌++◌, length, refl, sym, ap, ◌∙◌, arith, append-nil, append_assoc, length-append, ◌<◌, get_or, take}
-use Rattle.std.specs.Prelude.{Option, Some, None, cond, false, nat_le, ◌==◌}
+use Rattle.std.proofs.Common.{◌≡◌, ◌≤◌, ℕ, ◌+◌, List, [], ◌∷◌, ◌++◌, length, refl, sym, ap, ◌∙◌, arith, append-nil, append_assoc, length-append, ◌<◌, get_or, set, take}
+use Rattle.std.specs.Prelude.{Option, Some, None, Bool, cond, false, nat_le, ◌==◌}
 use Rattle.std.proofs.lemmas.Bool.Decides.{nat_tests}
 use Rattle.std.proofs.lemmas.List.Sums.{fold_push, fold-append, sum_by-append, count_by-le-length}
-use Rattle.std.proofs.lemmas.List.{take_more}
+use Rattle.std.proofs.lemmas.List.{take_more, get_or-set_other}
 use Rattle.packet_forms.specs.Packets.{message_id}
 use Rattle.bus_pipes.specs.Held.{Held, adding}
-use Rattle.bus_pipes.specs.Pipes.{Pipes, pipe_of, offered, packets_in, with_packets, count_of_id}
+use Rattle.bus_pipes.specs.Pipes.{Pipes, pipe_of, offered, packets_in, with_packets, count_of_id, held_after}
 use Rattle.bus_pipes.specs.Delivery.{pipe_in, after_offer_to, drop_at, after_offer, drop_of, after_offers, drops_from}
 use Rattle.bus_pipes.specs.declared.names.PipeName.{PipeName}
-use Rattle.bus_pipes.specs.declared.names.PipeName.TheVariants.{Hs, HsEv, Cs, Sc, Mm, Md}
+use Rattle.bus_pipes.specs.declared.names.PipeName.TheVariants.{Hs, HsEv, Cs, Sc, Mm, Md, Lc, LcTlm}
 use Rattle.bus_pipes.specs.declared.names.Dropped.{Dropped}
 use Rattle.bus_pipes.specs.declared.names.Offer.{Offer}
 use Rattle.bus_pipes.specs.declared.names.Offer.TheVariants.{Kept, Limit, Full}
@@ -64,20 +64,20 @@ unfolding adding
 room-adding held xs = refl
 
 -- a packet that goes to no pipe
-pub after_offer_nowhere : (pipes : Pipes) (p : List ℕ) → pipe_of (message_id p) ≡ None → after_offer pipes p ≡ pipes
+pub after_offer_nowhere : (pipes : Pipes) (p : List ℕ) → pipe_of pipes.watched (message_id p) ≡ None → after_offer pipes p ≡ pipes
 unfolding after_offer
 after_offer_nowhere pipes p e = rw (e, after_offer) refl
 
-pub drop_of_nowhere : (pipes : Pipes) (p : List ℕ) → pipe_of (message_id p) ≡ None → drop_of pipes p ≡ []
+pub drop_of_nowhere : (pipes : Pipes) (p : List ℕ) → pipe_of pipes.watched (message_id p) ≡ None → drop_of pipes p ≡ []
 unfolding drop_of
 drop_of_nowhere pipes p e = rw (e, drop_of) refl
 
 -- a packet that goes to a pipe
-pub after_offer_somewhere : (name : PipeName) (pipes : Pipes) (p : List ℕ) → pipe_of (message_id p) ≡ Some name → after_offer pipes p ≡ after_offer_to name pipes p
+pub after_offer_somewhere : (name : PipeName) (pipes : Pipes) (p : List ℕ) → pipe_of pipes.watched (message_id p) ≡ Some name → after_offer pipes p ≡ after_offer_to name pipes p
 unfolding after_offer
 after_offer_somewhere name pipes p e = rw (e, after_offer) refl
 
-pub drop_of_somewhere : (name : PipeName) (pipes : Pipes) (p : List ℕ) → pipe_of (message_id p) ≡ Some name → drop_of pipes p ≡ drop_at name p (offered (pipe_in name pipes) p)
+pub drop_of_somewhere : (name : PipeName) (pipes : Pipes) (p : List ℕ) → pipe_of pipes.watched (message_id p) ≡ Some name → drop_of pipes p ≡ drop_at name p (offered (pipe_in name pipes) p)
 unfolding drop_of
 drop_of_somewhere name pipes p e = rw (e, drop_of) refl
 
@@ -125,7 +125,7 @@ drop_somewhere_few (Some name) pipes p = drop_at_few name p (offered (pipe_in na
 
 pub drop_few : (pipes : Pipes) (p : List ℕ) → length (drop_of pipes p) ≤ 1
 unfolding drop_of
-drop_few pipes p = drop_somewhere_few (pipe_of (message_id p)) pipes p
+drop_few pipes p = drop_somewhere_few (pipe_of pipes.watched (message_id p)) pipes p
 
 pub drops_few : (pipes : Pipes) (packets : List (List ℕ)) → length (drops_from pipes packets) ≤ length packets
 unfolding drops_from
@@ -135,7 +135,7 @@ drops_few pipes (p ∷ packets) =
     let rest = drops_few (after_offer pipes p) packets in
     simp length-append (omega arith)
 
--- the packets of a pipe that got other packets, and of the others
+-- the packets of a pipe that got other packets
 pub packets_in_same : (name : PipeName) (packets : List (List ℕ)) (pipes : Pipes) → packets_in name (with_packets name packets pipes) ≡ packets
 packets_in_same Hs packets pipes = refl
 packets_in_same HsEv packets pipes = refl
@@ -143,44 +143,88 @@ packets_in_same Cs packets pipes = refl
 packets_in_same Sc packets pipes = refl
 packets_in_same Mm packets pipes = refl
 packets_in_same Md packets pipes = refl
+packets_in_same Lc packets pipes = refl
+packets_in_same LcTlm packets pipes = refl
 
+-- the pipes in a list, the number of each in it, and the pipe of a number
+abbrev listed : Pipes → List (List (List ℕ))
+listed pipes = pipes.hs ∷ pipes.hs_ev ∷ pipes.cs ∷ pipes.sc ∷ pipes.mm ∷ pipes.md ∷ pipes.lc ∷ pipes.lc_tlm ∷ []
+
+abbrev number_of : PipeName → ℕ
+number_of Hs = 0
+number_of HsEv = 1
+number_of Cs = 2
+number_of Sc = 3
+number_of Mm = 4
+number_of Md = 5
+number_of Lc = 6
+number_of LcTlm = 7
+
+abbrev with_number : ℕ → PipeName
+with_number n = get_or (Hs ∷ HsEv ∷ Cs ∷ Sc ∷ Mm ∷ Md ∷ Lc ∷ LcTlm ∷ []) n Hs
+
+numbered : (name : PipeName) → with_number (number_of name) ≡ name
+numbered Hs = refl
+numbered HsEv = refl
+numbered Cs = refl
+numbered Sc = refl
+numbered Mm = refl
+numbered Md = refl
+numbered Lc = refl
+numbered LcTlm = refl
+
+packets_listed : (name : PipeName) (pipes : Pipes) → packets_in name pipes ≡ get_or (listed pipes) (number_of name) []
+packets_listed Hs pipes = refl
+packets_listed HsEv pipes = refl
+packets_listed Cs pipes = refl
+packets_listed Sc pipes = refl
+packets_listed Mm pipes = refl
+packets_listed Md pipes = refl
+packets_listed Lc pipes = refl
+packets_listed LcTlm pipes = refl
+
+with_listed : (name : PipeName) (packets : List (List ℕ)) (pipes : Pipes) → listed (with_packets name packets pipes) ≡ set (listed pipes) (number_of name) packets
+with_listed Hs packets pipes = refl
+with_listed HsEv packets pipes = refl
+with_listed Cs packets pipes = refl
+with_listed Sc packets pipes = refl
+with_listed Mm packets pipes = refl
+with_listed Md packets pipes = refl
+with_listed Lc packets pipes = refl
+with_listed LcTlm packets pipes = refl
+
+-- and the packets of the others
 pub packets_in_other : (name held : PipeName) (packets : List (List ℕ)) (pipes : Pipes) → (name ≡ held → ⊥) → packets_in held (with_packets name packets pipes) ≡ packets_in held pipes
-packets_in_other Hs Hs packets pipes apart = absurd (apart refl)
-packets_in_other Hs HsEv packets pipes apart = refl
-packets_in_other Hs Cs packets pipes apart = refl
-packets_in_other Hs Sc packets pipes apart = refl
-packets_in_other Hs Mm packets pipes apart = refl
-packets_in_other Hs Md packets pipes apart = refl
-packets_in_other HsEv Hs packets pipes apart = refl
-packets_in_other HsEv HsEv packets pipes apart = absurd (apart refl)
-packets_in_other HsEv Cs packets pipes apart = refl
-packets_in_other HsEv Sc packets pipes apart = refl
-packets_in_other HsEv Mm packets pipes apart = refl
-packets_in_other HsEv Md packets pipes apart = refl
-packets_in_other Cs Hs packets pipes apart = refl
-packets_in_other Cs HsEv packets pipes apart = refl
-packets_in_other Cs Cs packets pipes apart = absurd (apart refl)
-packets_in_other Cs Sc packets pipes apart = refl
-packets_in_other Cs Mm packets pipes apart = refl
-packets_in_other Cs Md packets pipes apart = refl
-packets_in_other Sc Hs packets pipes apart = refl
-packets_in_other Sc HsEv packets pipes apart = refl
-packets_in_other Sc Cs packets pipes apart = refl
-packets_in_other Sc Sc packets pipes apart = absurd (apart refl)
-packets_in_other Sc Mm packets pipes apart = refl
-packets_in_other Sc Md packets pipes apart = refl
-packets_in_other Mm Hs packets pipes apart = refl
-packets_in_other Mm HsEv packets pipes apart = refl
-packets_in_other Mm Cs packets pipes apart = refl
-packets_in_other Mm Sc packets pipes apart = refl
-packets_in_other Mm Mm packets pipes apart = absurd (apart refl)
-packets_in_other Mm Md packets pipes apart = refl
-packets_in_other Md Hs packets pipes apart = refl
-packets_in_other Md HsEv packets pipes apart = refl
-packets_in_other Md Cs packets pipes apart = refl
-packets_in_other Md Sc packets pipes apart = refl
-packets_in_other Md Mm packets pipes apart = refl
-packets_in_other Md Md packets pipes apart = absurd (apart refl)
+packets_in_other name held packets pipes apart =
+    let others : number_of held ≡ number_of name → ⊥ = λ same. apart (sym (numbered name) ∙ ap with_number (sym same) ∙ numbered held) in
+    packets_listed held (with_packets name packets pipes)
+    ∙ ap (λ (xs : List (List (List ℕ))). get_or xs (number_of held) []) (with_listed name packets pipes)
+    ∙ get_or-set_other (listed pipes) (number_of name) (number_of held) packets [] others
+    ∙ sym (packets_listed held pipes)
+
+-- the pipes that are there stay the same
+watched_with : (name : PipeName) (packets : List (List ℕ)) (pipes : Pipes) → (with_packets name packets pipes).watched ≡ pipes.watched
+watched_with Hs packets pipes = refl
+watched_with HsEv packets pipes = refl
+watched_with Cs packets pipes = refl
+watched_with Sc packets pipes = refl
+watched_with Mm packets pipes = refl
+watched_with Md packets pipes = refl
+watched_with Lc packets pipes = refl
+watched_with LcTlm packets pipes = refl
+
+watched_after_one : (pipes : Pipes) (p : List ℕ) → (after_offer pipes p).watched ≡ pipes.watched
+unfolding after_offer after_offer_to
+watched_after_one pipes p = by_pipe (pipe_of pipes.watched (message_id p))
+  where
+    by_pipe : (to : Option PipeName) → (let x : Pipes = elim to [ None ↦ pipes | Some name ↦ after_offer_to name pipes p ] in x.watched) ≡ pipes.watched
+    by_pipe None = refl
+    by_pipe (Some name) = watched_with name (held_after (packets_in name pipes) p (offered (pipe_in name pipes) p)) pipes
+
+pub watched_after : (pipes : Pipes) (packets : List (List ℕ)) → (after_offers pipes packets).watched ≡ pipes.watched
+unfolding after_offers
+watched_after pipes [] = refl
+watched_after pipes (p ∷ packets) = watched_after (after_offer pipes p) packets ∙ watched_after_one pipes p
 
 -- delivery of the first packets of a list, and of one more
 pub front_after : (pipes before now : Pipes) (packets : List (List ℕ)) (i : ℕ) (p : List ℕ) → i < length packets → p ≡ get_or packets i p → before ≡ after_offers pipes (take i packets) → now ≡ after_offer before p → now ≡ after_offers pipes (take (i + 1) packets)
@@ -203,18 +247,22 @@ room_for_drops pipes held packets =
     let few = drops_few pipes packets in
     simp length-append (omega arith)
 
+-- the pipe of a packet that is sent, found by its id
+pub sent : (pipes : Pipes) (p : List ℕ) {watched : Bool} {id : ℕ} {to wanted : Option PipeName} → watched ≡ pipes.watched → id ≡ message_id p → to ≡ pipe_of watched id → to ≡ wanted → pipe_of pipes.watched (message_id p) ≡ wanted
+sent pipes p {watched} same is found wants = sym (ap (λ (w : Bool). pipe_of w (message_id p)) same) ∙ sym (ap (pipe_of watched) is) ∙ sym found ∙ wants
+
 -- a packet that goes to a pipe, as its offer came out
-pub routed : (name : PipeName) (pipes now : Pipes) (p : List ℕ) → pipe_of (message_id p) ≡ Some name → now ≡ after_offer_to name pipes p → now ≡ after_offer pipes p
+pub routed : (name : PipeName) (pipes now : Pipes) (p : List ℕ) → pipe_of pipes.watched (message_id p) ≡ Some name → now ≡ after_offer_to name pipes p → now ≡ after_offer pipes p
 routed name pipes now p e f = f ∙ sym (after_offer_somewhere name pipes p e)
 
-pub dropped : (name : PipeName) (pipes : Pipes) (p : List ℕ) (offer : Offer) (held : Held Dropped) → pipe_of (message_id p) ≡ Some name → offer ≡ offered (pipe_in name pipes) p → adding held (drop_at name p offer) ≡ adding held (drop_of pipes p)
+pub dropped : (name : PipeName) (pipes : Pipes) (p : List ℕ) (offer : Offer) (held : Held Dropped) → pipe_of pipes.watched (message_id p) ≡ Some name → offer ≡ offered (pipe_in name pipes) p → adding held (drop_at name p offer) ≡ adding held (drop_of pipes p)
 dropped name pipes p offer held e f =
     ap (λ (o : Offer). adding held (drop_at name p o)) f ∙ ap (adding held) (sym (drop_of_somewhere name pipes p e))
 
-pub none_dropped : (pipes : Pipes) (p : List ℕ) (held : Held Dropped) → pipe_of (message_id p) ≡ None → held ≡ adding held (drop_of pipes p)
+pub none_dropped : (pipes : Pipes) (p : List ℕ) (held : Held Dropped) → pipe_of pipes.watched (message_id p) ≡ None → held ≡ adding held (drop_of pipes p)
 none_dropped pipes p held e = sym (ap (adding held) (drop_of_nowhere pipes p e) ∙ adding_none held)
 
-pub none_lost : (name : PipeName) (pipes : Pipes) (p : List ℕ) (held : Held Dropped) → pipe_of (message_id p) ≡ Some name → Kept ≡ offered (pipe_in name pipes) p → held ≡ adding held (drop_of pipes p)
+pub none_lost : (name : PipeName) (pipes : Pipes) (p : List ℕ) (held : Held Dropped) → pipe_of pipes.watched (message_id p) ≡ Some name → Kept ≡ offered (pipe_in name pipes) p → held ≡ adding held (drop_of pipes p)
 none_lost name pipes p held e f = sym (adding_none held) ∙ dropped name pipes p Kept held e f
 
 -- one drop at most for one packet

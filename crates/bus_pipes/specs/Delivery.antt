@@ -24,14 +24,14 @@ drop_at name p offers.Full = record { pipe = name; full = true; packet = p } ∷
 
 -- the pipes after a packet was sent: it is offered to the pipe of its id, if there is one
 unfoldable pub after_offer : Pipes → List ℕ → Pipes
-after_offer pipes p = elim (pipe_of (message_id p)) [
+after_offer pipes p = elim (pipe_of pipes.watched (message_id p)) [
   | None ↦ pipes
   | Some name ↦ after_offer_to name pipes p
 ]
 
 -- what is dropped of a packet that was sent
 unfoldable pub drop_of : Pipes → List ℕ → List Dropped
-drop_of pipes p = elim (pipe_of (message_id p)) [
+drop_of pipes p = elim (pipe_of pipes.watched (message_id p)) [
   | None ↦ []
   | Some name ↦ drop_at name p (offered (pipe_in name pipes) p)
 ]

@@ -7,9 +7,14 @@ use packet_forms::{Name, Packet};
 pub const PIPE_DEPTH: u32 = 16;
 /// The same of the pipe of events.
 pub const EVENT_PIPE_DEPTH: u32 = 32;
+/// The same of the pipe of the telemetry that LC watches.
+pub const TELEMETRY_PIPE_DEPTH: u32 = 256;
 
 /// The list that an application fills in a step.
 pub type Outbox = ReservedList<Out>;
+
+/// The list of the telemetry that LC takes in a wakeup.
+pub type Telemetry = ReservedList<Packet>;
 
 /// The list of the packets that pipes refused.
 pub type Drops = ReservedList<Dropped>;
@@ -23,6 +28,8 @@ pub enum PipeName {
     Sc,
     Mm,
     Md,
+    Lc,
+    LcTlm,
 }
 
 /// What became of a packet that was offered to a pipe.

@@ -5,7 +5,8 @@ ghost use Rattle.packet_forms.specs.Packets.{message_id};
 ghost use Rattle.bus_pipes.specs.Pipes.{offered, held_after, count_of_id};
 
 use crate::batch::Batch;
-use crate::names::Offer;
+use crate::names::{Offer, Telemetry};
+use crate::telemetry::fill;
 use circular_buffer::HeapCircularBuffer;
 use fsw_outside::NoMemory;
 use packet_forms::Packet;
@@ -90,6 +91,21 @@ impl Pipe {
             return;
         }
         batch.fill(&mut self.packets);
+    }
+
+    /// Takes all packets of a pipe into a list that has room for as many as it may hold.
+    pub(crate) fn take_telemetry(&mut self, telemetry: &mut Telemetry)
+        requires { self.old.depth ≤ telemetry.old.room }
+        ensures taken { telemetry.new.items ≡ self.old.packets }
+        ensures few { length telemetry.new.items ≤ self.old.depth }
+        ensures room { telemetry.new.room ≡ telemetry.old.room }
+        ensures after { self.new ≡ record self.old { packets = [] } }
+    {
+        telemetry.clear();
+        if self.packets.is_empty() {
+            return;
+        }
+        fill(telemetry, &mut self.packets);
     }
 
     /// Whether the pipe holds as many packets of an id as it may. They are counted only where it holds so many at all.

@@ -102,22 +102,17 @@ fn pipes_ask_the_limit_before_the_depth(rt: HostRuntime) -> Result<(), Fail> {
 fn check_route(
     rt: &impl Abort,
     alloc: Global,
+    watched: bool,
     id: u16,
     pipe: Option<PipeName>,
 ) -> Result<(), Fail> {
-    let mut bus = Bus::open(alloc)?;
+    let mut bus = Bus::open(alloc, watched)?;
+    assert!(rt; bus.is_watched() == watched);
     let mut drops = Drops::open(alloc, 1)?;
     let packet = telemetry(id % 8192, 0, &[]);
     bus.route(&packet, &mut drops);
     assert_eq!(rt; drops.len(), 0);
-    for name in [
-        PipeName::Hs,
-        PipeName::HsEv,
-        PipeName::Cs,
-        PipeName::Sc,
-        PipeName::Mm,
-        PipeName::Md,
-    ] {
+    for name in NAMES {
         let taken = bus.take(name);
         assert!(rt; (pipe == Some(name)) == (taken == Some(packet)));
         assert!(rt; bus.take(name).is_none());
@@ -139,19 +134,58 @@ fn packets_go_to_the_pipe_of_their_id(rt: HostRuntime) -> Result<(), Fail> {
         (0x1889, Some(PipeName::Mm)),
         (0x1890, Some(PipeName::Md)),
         (0x1891, Some(PipeName::Md)),
-        (0x0887, None),
-        (0x0891, None),
+        (0x0886, None),
         (0x18AB, None),
     ];
     for (id, pipe) in rows {
-        check_route(&rt, rt.alloc(), id, pipe)?;
+        check_route(&rt, rt.alloc(), false, id, pipe)?;
+        check_route(&rt, rt.alloc(), true, id, pipe)?;
     }
+    let watched = [
+        (0x18A6, PipeName::Lc),
+        (0x18A7, PipeName::Lc),
+        (0x0887, PipeName::LcTlm),
+        (0x0891, PipeName::LcTlm),
+        (0x0894, PipeName::LcTlm),
+        (0x08A7, PipeName::LcTlm),
+    ];
+    for (id, pipe) in watched {
+        check_route(&rt, rt.alloc(), false, id, None)?;
+        check_route(&rt, rt.alloc(), true, id, Some(pipe))?;
+    }
+    Ok(())
+}
+
+/// The pipe of telemetry takes 256 packets, whatever their ids; a wakeup takes them all.
+#[test]
+fn telemetry_is_taken_whole(rt: HostRuntime) -> Result<(), Fail> {
+    let mut bus = Bus::open(rt.alloc(), true)?;
+    let mut drops = Drops::open(rt.alloc(), 300)?;
+    let mut list = Telemetry::open(rt.alloc(), TELEMETRY_PIPE_DEPTH)?;
+    let peek = telemetry(0x088A, 7, &[1, 2]);
+    let dwell = telemetry(0x0891, 8, &[3]);
+    bus.deliver(&[peek; 200], &mut drops);
+    bus.deliver(&[dwell; 57], &mut drops);
+    let full = Dropped {
+        pipe: PipeName::LcTlm,
+        full: true,
+        packet: dwell,
+    };
+    assert!(rt; drops.items() == [full].as_slice());
+    bus.take_telemetry(&mut list);
+    assert_eq!(rt; list.len(), 256);
+    assert!(rt; list.items().iter().take(200).all(|packet| *packet == peek));
+    assert!(rt; list.items().iter().skip(200).all(|packet| *packet == dwell));
+    assert!(rt; bus.is_empty(PipeName::LcTlm));
+    bus.route(&dwell, &mut drops);
+    bus.take_telemetry(&mut list);
+    assert!(rt; list.items() == [dwell].as_slice());
     Ok(())
 }
 
 #[test]
 fn a_held_pipe_fills_and_drops(rt: HostRuntime) -> Result<(), Fail> {
-    let mut bus = Bus::open(rt.alloc())?;
+    let mut bus = Bus::open(rt.alloc(), true)?;
     let mut drops = Drops::open(rt.alloc(), 18)?;
     let noop = telemetry(0x1888, 0, &[]);
     let request = telemetry(0x1889, 0, &[]);
@@ -177,19 +211,21 @@ fn a_held_pipe_fills_and_drops(rt: HostRuntime) -> Result<(), Fail> {
     Ok(())
 }
 
-const NAMES: [PipeName; 6] = [
+const NAMES: [PipeName; 8] = [
     PipeName::Hs,
     PipeName::HsEv,
     PipeName::Cs,
     PipeName::Sc,
     PipeName::Mm,
     PipeName::Md,
+    PipeName::Lc,
+    PipeName::LcTlm,
 ];
 
 /// A bus that was cleared holds nothing, and its pipes take as many packets as those of one that was opened.
 #[test]
 fn cleared_bus_is_as_one_that_was_opened(rt: HostRuntime) -> Result<(), Fail> {
-    let mut bus = Bus::open(rt.alloc())?;
+    let mut bus = Bus::open(rt.alloc(), true)?;
     let mut drops = Drops::open(rt.alloc(), 23)?;
     let packets = [
         telemetry(0x18AE, 0, &[]),
@@ -198,6 +234,8 @@ fn cleared_bus_is_as_one_that_was_opened(rt: HostRuntime) -> Result<(), Fail> {
         telemetry(0x18A9, 0, &[]),
         telemetry(0x1888, 0, &[]),
         telemetry(0x1890, 0, &[]),
+        telemetry(0x18A6, 0, &[]),
+        telemetry(0x08A7, 0, &[]),
     ];
     bus.deliver(&packets, &mut drops);
     for name in NAMES {

@@ -2,7 +2,7 @@
 use Rattle.std.specs.Prelude.{◌≡◌, ◌==◌, ℕ, nat_lt, Bool, not, ◌&&◌, List, [], ◌++◌, length, Option, Some, None}
 use Rattle.commands.specs.Counting.{counts_of}
 use Rattle.table_files.specs.declared.kinds.TableKind.{TableKind}
-use Rattle.table_files.specs.declared.kinds.TableKind.TheVariants.{AppMon, EventMon, ExeCount, MsgActs, Ats, Rts, Dwell, Eeprom, Memory}
+use Rattle.table_files.specs.declared.kinds.TableKind.TheVariants.{AppMon, EventMon, ExeCount, MsgActs, Ats, Rts, Dwell, Eeprom, Memory, Wdt, Adt}
 use Rattle.hs_tables.specs.declared.tables.HsTables.{HsTables}
 use Rattle.hs_actions.specs.Outcomes.{Past}
 use Rattle.hs_actions.specs.State.{ActionsStand, is_cooling}
@@ -54,3 +54,5 @@ activation_of (Rts n) tables = None
 activation_of (Dwell n) tables = None
 activation_of Eeprom tables = None
 activation_of Memory tables = None
+activation_of Wdt tables = None
+activation_of Adt tables = None

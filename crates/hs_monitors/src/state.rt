@@ -48,6 +48,8 @@ impl Hs {
             TableKind::Dwell(_) => {}
             TableKind::Eeprom => {}
             TableKind::Memory => {}
+            TableKind::Wdt => {}
+            TableKind::Adt => {}
         }
     }
 

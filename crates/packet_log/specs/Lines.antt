@@ -2,7 +2,7 @@
 use Rattle.std.specs.Prelude.{ℕ, Bool, if◌then◌else◌, List, ◌++◌, codes, decimal}
 unfoldable pub use Rattle.packet_forms.specs.Hex.{hex}
 use Rattle.bus_pipes.specs.declared.names.PipeName.{PipeName}
-use Rattle.bus_pipes.specs.declared.names.PipeName.TheVariants.{Hs, HsEv, Cs, Sc, Mm, Md}
+use Rattle.bus_pipes.specs.declared.names.PipeName.TheVariants.{Hs, HsEv, Cs, Sc, Mm, Md, Lc, LcTlm}
 use Rattle.bus_pipes.specs.declared.names.Dropped.{Dropped}
 
 -- the line of a packet that was sent in a frame
@@ -17,6 +17,8 @@ pipe_text Cs = codes "CS"
 pipe_text Sc = codes "SC"
 pipe_text Mm = codes "MM"
 pipe_text Md = codes "MD"
+pipe_text Lc = codes "LC"
+pipe_text LcTlm = codes "LC.TLM"
 
 -- what a line says of why a packet was dropped
 abbrev pub cause_text : Bool → List ℕ

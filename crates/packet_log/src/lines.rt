@@ -170,7 +170,7 @@ fn append_request(line: &mut Line, item: &Out)
 /// What a line calls a pipe.
 fn pipe_text(pipe: PipeName) -> &'static str
     ensures value { result.now ≡ pipe_text pipe }
-    ensures short { length result.now ≤ 5 }
+    ensures short { length result.now ≤ 6 }
 {
     match pipe {
         PipeName::Hs => "HS",
@@ -179,6 +179,8 @@ fn pipe_text(pipe: PipeName) -> &'static str
         PipeName::Sc => "SC",
         PipeName::Mm => "MM",
         PipeName::Md => "MD",
+        PipeName::Lc => "LC",
+        PipeName::LcTlm => "LC.TLM",
     }
 }
 

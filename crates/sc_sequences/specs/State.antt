@@ -2,7 +2,7 @@
 use Rattle.std.specs.Prelude.{◌≡◌, ◌<◌, ℕ, ◌==◌, ◌%◌, Bool, false, not, ◌&&◌, List, length, drop, Option, Some, None, option_map, is_some}
 use Rattle.commands.specs.Counting.{counts_of}
 use Rattle.table_files.specs.declared.kinds.TableKind.{TableKind}
-use Rattle.table_files.specs.declared.kinds.TableKind.TheVariants.{AppMon, EventMon, ExeCount, MsgActs, Ats, Rts, Dwell, Eeprom, Memory}
+use Rattle.table_files.specs.declared.kinds.TableKind.TheVariants.{AppMon, EventMon, ExeCount, MsgActs, Ats, Rts, Dwell, Eeprom, Memory, Wdt, Adt}
 use Rattle.sc_tables.specs.Commands.{TimedCommand, commands_in}
 use Rattle.sc_sequences.specs.Sequences.{Sequence, is_running, at_place, ats_place, rts_place, head_time}
 use Rattle.sc_sequences.specs.Turns.{Sequences, next_place}
@@ -63,6 +63,8 @@ place_of (Rts n) = rts_place n
 place_of (Dwell n) = None
 place_of Eeprom = None
 place_of Memory = None
+place_of Wdt = None
+place_of Adt = None
 
 -- Whether the sequence of a kind runs that stands in this place.
 abbrev pub runs_in : List Sequence → Option ℕ → Bool

@@ -44,6 +44,8 @@ pub(crate) fn place_of(kind: TableKind) -> Option<usize>
         TableKind::Dwell(_) => None,
         TableKind::Eeprom => None,
         TableKind::Memory => None,
+        TableKind::Wdt => None,
+        TableKind::Adt => None,
     }
 }
 

@@ -9,7 +9,7 @@ use Rattle.packet_forms.specs.Crc.{crc_of}
 use Rattle.table_files.specs.declared.fault.FileFault.{FileFault}
 use Rattle.table_files.specs.declared.fault.FileFault.TheVariants.{Short, ContentType, Subtype}
 use Rattle.table_files.specs.declared.kinds.TableKind.{TableKind}
-use Rattle.table_files.specs.declared.kinds.TableKind.TheVariants.{AppMon, EventMon, ExeCount, MsgActs, Ats, Rts, Dwell, Eeprom, Memory}
+use Rattle.table_files.specs.declared.kinds.TableKind.TheVariants.{AppMon, EventMon, ExeCount, MsgActs, Ats, Rts, Dwell, Eeprom, Memory, Wdt, Adt}
 use Rattle.table_files.specs.Kinds.{IsTable, IsKnown, fits_kind, is_padded, named_kind, kind_among, named_tables, rts_name, rts_table, rts_tables, KnownTable}
 use Rattle.table_files.specs.Headers.{content_type, subtype, table_offset, table_name, table_size, table_fault, load_size, load_crc, load_fault, fault_of_table, fault_of_load, file_fault_of, IsFile, is_load, kind_of_file, payload_of_file, address_of_file, IsTableFile, IsLoadFile, IsTableOf, IsLoadOf}
 
@@ -127,7 +127,7 @@ unfolding named_kind rts_tables
 named_known field kind named =
     among IsKnown (named_tables ++ rts_tables) field kind
     (every_joined IsKnown named_tables rts_tables
-    (tt, (tt, (tt, (tt, ((lit≤ tt, lit≤ tt), ((lit≤ tt, lit≤ tt), ((lit≤ tt, lit≤ tt), ((lit≤ tt, lit≤ tt), ((lit≤ tt, lit≤ tt), ((lit≤ tt, lit≤ tt), (tt, (tt, tt))))))))))))
+    (tt, (tt, (tt, (tt, ((lit≤ tt, lit≤ tt), ((lit≤ tt, lit≤ tt), ((lit≤ tt, lit≤ tt), ((lit≤ tt, lit≤ tt), ((lit≤ tt, lit≤ tt), ((lit≤ tt, lit≤ tt), (tt, (tt, (tt, (tt, tt))))))))))))))
     (rts_known 1 64 (lit≤ tt) (lit≤ tt)))
     named
 
@@ -162,6 +162,8 @@ known_named (Dwell (suc (suc (suc (suc zero))))) known = (dwell_field 4, refl)
 known_named (Dwell (suc (suc (suc (suc (suc n)))))) known = absurd (omega arith)
 known_named Eeprom known = (codes "CS.DefEepromTbl" ++ replicate 25 0, refl)
 known_named Memory known = (codes "CS.DefMemoryTbl" ++ replicate 25 0, refl)
+known_named Wdt known = (codes "LC.WDT_Tbl" ++ replicate 30 0, refl)
+known_named Adt known = (codes "LC.ADT_Tbl" ++ replicate 30 0, refl)
 known_named AppMon known = (codes "HS.AppMon_Tbl" ++ replicate 27 0, refl)
 known_named EventMon known = (codes "HS.EventMon_Tbl" ++ replicate 25 0, refl)
 known_named ExeCount known = (codes "HS.ExeCount_Tbl" ++ replicate 25 0, refl)
@@ -180,6 +182,8 @@ sized_table : (kind : TableKind) (size : ℕ) → IsKnown kind → fits_kind kin
 sized_table (Dwell n) size known fits = (known.0, known.1, grind (arith, nat_tests))
 sized_table Eeprom size known fits = grind (arith, nat_tests)
 sized_table Memory size known fits = grind (arith, nat_tests)
+sized_table Wdt size known fits = grind (arith, nat_tests)
+sized_table Adt size known fits = grind (arith, nat_tests)
 sized_table AppMon size known fits = grind (arith, nat_tests)
 sized_table EventMon size known fits = grind (arith, nat_tests)
 sized_table ExeCount size known fits = grind (arith, nat_tests)

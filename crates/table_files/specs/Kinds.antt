@@ -3,7 +3,7 @@ use Rattle.std.specs.Prelude.{◌≡◌, ℕ, ◌≤◌, ◌+◌, ◌/◌, ◌%�
 use Rattle.std.specs.List.{list_all, starts_with, range_with_len}
 use Rattle.table_files.specs.declared.kinds.TableKind.{TableKind}
 use Rattle.table_files.specs.declared.kinds.TableRow.{TableRow}
-use Rattle.table_files.specs.declared.kinds.TableKind.TheVariants.{AppMon, EventMon, ExeCount, MsgActs, Ats, Rts, Dwell, Eeprom, Memory}
+use Rattle.table_files.specs.declared.kinds.TableKind.TheVariants.{AppMon, EventMon, ExeCount, MsgActs, Ats, Rts, Dwell, Eeprom, Memory, Wdt, Adt}
 
 -- whether the payload of a table may have so many bytes
 abbrev pub fits_kind : TableKind → ℕ → Bool
@@ -16,6 +16,8 @@ fits_kind (Rts n) size = nat_le size 2048
 fits_kind (Dwell n) size = size == 204
 fits_kind Eeprom size = size == 192
 fits_kind Memory size = size == 192
+fits_kind Wdt size = size == 512
+fits_kind Adt size = size == 640
 
 -- the kinds whose tables are known by a name
 abbrev pub IsKnown : TableKind → Type 0
@@ -28,6 +30,8 @@ IsKnown (Rts n) = (1 ≤ n) × (n ≤ 64)
 IsKnown (Dwell n) = (1 ≤ n) × (n ≤ 4)
 IsKnown Eeprom = Unit {0}
 IsKnown Memory = Unit {0}
+IsKnown Wdt = Unit {0}
+IsKnown Adt = Unit {0}
 
 -- what holds of the kind of a table that is known, and of how many bytes its payload has
 abbrev pub IsTable : TableKind → ℕ → Type 0
@@ -40,6 +44,8 @@ IsTable (Rts n) size = (1 ≤ n) × (n ≤ 64) × (size ≤ 2048)
 IsTable (Dwell n) size = (1 ≤ n) × (n ≤ 4) × (size ≡ 204)
 IsTable Eeprom size = size ≡ 192
 IsTable Memory size = size ≡ 192
+IsTable Wdt size = size ≡ 512
+IsTable Adt size = size ≡ 640
 
 -- a table that is known by its name
 pub record KnownTable : Type 0 where
@@ -61,6 +67,8 @@ named_tables =
     ∷ (record { name = codes "MD.DWELL_TABLE4"; kind = Dwell 4 })
     ∷ (record { name = codes "CS.DefEepromTbl"; kind = Eeprom })
     ∷ (record { name = codes "CS.DefMemoryTbl"; kind = Memory })
+    ∷ (record { name = codes "LC.WDT_Tbl"; kind = Wdt })
+    ∷ (record { name = codes "LC.ADT_Tbl"; kind = Adt })
     ∷ []
 
 -- the name of relative sequence n, whose number has three digits, and the tables of all 64

@@ -25,6 +25,10 @@ pub enum TableKind {
     Eeprom,
     /// The checksum entries of memory.
     Memory,
+    /// The watchpoints of LC.
+    Wdt,
+    /// The actionpoints of LC.
+    Adt,
 }
 
 /// A table that is known by its name.
@@ -34,7 +38,7 @@ struct TableRow {
 }
 
 /// The tables whose names are known, without the relative time sequences.
-const TABLE_ROWS: [TableRow; 12] = [
+const TABLE_ROWS: [TableRow; 14] = [
     TableRow {
         name: "HS.AppMon_Tbl",
         kind: TableKind::AppMon,
@@ -83,6 +87,14 @@ const TABLE_ROWS: [TableRow; 12] = [
         name: "CS.DefMemoryTbl",
         kind: TableKind::Memory,
     },
+    TableRow {
+        name: "LC.WDT_Tbl",
+        kind: TableKind::Wdt,
+    },
+    TableRow {
+        name: "LC.ADT_Tbl",
+        kind: TableKind::Adt,
+    },
 ];
 
 /// How many relative time sequences there are.
@@ -102,6 +114,8 @@ impl TableKind {
             TableKind::Rts(_) => size <= 2_048,
             TableKind::Dwell(_) => size == 204,
             TableKind::Eeprom | TableKind::Memory => size == 192,
+            TableKind::Wdt => size == 512,
+            TableKind::Adt => size == 640,
         }
     }
 }

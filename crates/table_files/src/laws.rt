@@ -3,7 +3,7 @@
 
 ghost use Rattle.std.specs.Prelude.{◌≡◌, ◌<◌, ◌≤◌, ◌↔◌, ◌⊎◌, All, ℕ, ◌+◌, ◌-◌, List, [], ◌∷◌, ◌++◌, length, map, take, replicate, slice_index_or, slice_set, Bool, true, false, Option, Some, None};
 ghost use Rattle.table_files.specs.declared.kinds.TableKind.{TableKind};
-ghost use Rattle.table_files.specs.declared.kinds.TableKind.TheVariants.{AppMon, EventMon, ExeCount, MsgActs, Ats, Rts, Dwell, Eeprom, Memory};
+ghost use Rattle.table_files.specs.declared.kinds.TableKind.TheVariants.{AppMon, EventMon, ExeCount, MsgActs, Ats, Rts, Dwell, Eeprom, Memory, Wdt, Adt};
 ghost use Rattle.table_files.specs.declared.fault.EntryFault.{EntryFault};
 ghost use Rattle.table_files.specs.declared.fault.FileFault.TheVariants.{Short, ContentType, Subtype, Partial, Name, Size, LoadCrc};
 ghost use Rattle.table_files.specs.Entries.{first_fault, IsFirstReason};
@@ -57,6 +57,7 @@ pub fn name_rows()
         ≡ None ∷ Some (Dwell 1) ∷ Some (Dwell 2) ∷ Some (Dwell 3) ∷ Some (Dwell 4) ∷ None ∷ [] }
     ensures eeprom { named_kind eeprom_name ≡ Some Eeprom }
     ensures memory { named_kind memory_name ≡ Some Memory }
+    ensures limits { map (λ (letters : List ℕ). named_kind ((0x4C ∷ 0x43 ∷ 0x2E ∷ letters) ++ 0x44 ∷ 0x54 ∷ 0x5F ∷ 0x54 ∷ 0x62 ∷ 0x6C ∷ replicate 30 0)) ((0x57 ∷ []) ∷ (0x41 ∷ []) ∷ (0x58 ∷ []) ∷ []) ≡ Some Wdt ∷ Some Adt ∷ None ∷ [] }
     ensures health { map named_kind (appmon_name ∷ eventmon_name ∷ execount_name ∷ msgacts_name ∷ []) ≡ Some AppMon ∷ Some EventMon ∷ Some ExeCount ∷ Some MsgActs ∷ [] }
     ensures absolute { map (λ n. named_kind (0x53 ∷ 0x43 ∷ 0x2E ∷ 0x41 ∷ 0x54 ∷ 0x53 ∷ 0x5F ∷ 0x54 ∷ 0x42 ∷ 0x4C ∷ n ∷ replicate 29 0)) (0x30 ∷ 0x31 ∷ 0x32 ∷ 0x33 ∷ []) ≡ None ∷ Some (Ats 1) ∷ Some (Ats 2) ∷ None ∷ [] }
     ensures relative { map (λ (digits : List ℕ). named_kind ((0x53 ∷ 0x43 ∷ 0x2E ∷ 0x52 ∷ 0x54 ∷ 0x53 ∷ 0x5F ∷ 0x54 ∷ 0x42 ∷ 0x4C ∷ digits) ++ replicate 27 0)) ((0x30 ∷ 0x30 ∷ 0x30 ∷ []) ∷ (0x30 ∷ 0x30 ∷ 0x31 ∷ []) ∷ (0x30 ∷ 0x30 ∷ 0x39 ∷ []) ∷ (0x30 ∷ 0x31 ∷ 0x30 ∷ []) ∷ (0x30 ∷ 0x36 ∷ 0x34 ∷ []) ∷ (0x30 ∷ 0x36 ∷ 0x35 ∷ []) ∷ (0x31 ∷ 0x30 ∷ 0x30 ∷ []) ∷ [])
@@ -67,8 +68,8 @@ pub fn name_rows()
 
 /// How many bytes the payload of each kind has: the most that it may have, and one more.
 pub fn size_rows()
-    ensures fixed { map {B = Bool × Bool × Bool} (λ (row : TableKind × ℕ). (fits_kind row.0 (row.1 - 1), fits_kind row.0 row.1, fits_kind row.0 (row.1 + 1))) ((AppMon, 768) ∷ (EventMon, 384) ∷ (ExeCount, 704) ∷ (MsgActs, 544) ∷ (Dwell 4, 204) ∷ (Eeprom, 192) ∷ (Memory, 192) ∷ [])
-        ≡ replicate 7 (false, true, false) }
+    ensures fixed { map {B = Bool × Bool × Bool} (λ (row : TableKind × ℕ). (fits_kind row.0 (row.1 - 1), fits_kind row.0 row.1, fits_kind row.0 (row.1 + 1))) ((AppMon, 768) ∷ (EventMon, 384) ∷ (ExeCount, 704) ∷ (MsgActs, 544) ∷ (Dwell 4, 204) ∷ (Eeprom, 192) ∷ (Memory, 192) ∷ (Wdt, 512) ∷ (Adt, 640) ∷ [])
+        ≡ replicate 9 (false, true, false) }
     ensures most { map {B = Bool × Bool × Bool} (λ (row : TableKind × ℕ). (fits_kind row.0 0, fits_kind row.0 row.1, fits_kind row.0 (row.1 + 1))) ((Ats 2, 65536) ∷ (Rts 64, 2048) ∷ [])
         ≡ replicate 2 (true, true, false) }
 {}

@@ -125,7 +125,7 @@ const LOADS: [(LoadDraft, Option<FileFault>); 11] = [
 ];
 
 /// Tables that are known, and sizes of their payloads.
-const TABLES: [(&str, TableKind, u32); 15] = [
+const TABLES: [(&str, TableKind, u32); 17] = [
     ("HS.AppMon_Tbl", TableKind::AppMon, 768),
     ("HS.EventMon_Tbl", TableKind::EventMon, 384),
     ("HS.ExeCount_Tbl", TableKind::ExeCount, 704),
@@ -136,6 +136,8 @@ const TABLES: [(&str, TableKind, u32); 15] = [
     ("MD.DWELL_TABLE4", TableKind::Dwell(4), 204),
     ("CS.DefEepromTbl", TableKind::Eeprom, 192),
     ("CS.DefMemoryTbl", TableKind::Memory, 192),
+    ("LC.WDT_Tbl", TableKind::Wdt, 512),
+    ("LC.ADT_Tbl", TableKind::Adt, 640),
     ("SC.ATS_TBL1", TableKind::Ats(1), 65_536),
     ("SC.ATS_TBL2", TableKind::Ats(2), 0),
     ("SC.RTS_TBL001", TableKind::Rts(1), 2_048),

@@ -8,4 +8,4 @@ use Rattle.bus_pipes.proofs.laws.worked_drops.Goals as goal
 
 pub returns : goal.returns
 unfolding be16_at be16_bytes message_id checksum_of primary_header with_checksum command_of count_of_id offered pipe_of after_offer_to after_offer drop_of after_offers drops_from
-returns c = refl
+returns c watched = refl

@@ -4,4 +4,4 @@ use Rattle.bus_pipes.proofs.laws.worked_routes.Goals as goal
 
 pub returns : goal.returns
 unfolding pipe_of
-returns c = record { hs_command = refl; hs_request = refl; event = refl; cs_command = refl; cs_request = refl; sc_command = refl; sc_request = refl; mm_command = refl; mm_request = refl; md_command = refl; md_request = refl }
+returns c = record { hs_command = λ watched. refl; hs_request = λ watched. refl; event = λ watched. refl; cs_command = λ watched. refl; cs_request = λ watched. refl; sc_command = λ watched. refl; sc_request = λ watched. refl; mm_command = λ watched. refl; mm_request = λ watched. refl; md_command = λ watched. refl; md_request = λ watched. refl }

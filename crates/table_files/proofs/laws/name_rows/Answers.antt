@@ -4,4 +4,4 @@ use Rattle.table_files.proofs.laws.name_rows.Goals as goal
 
 pub returns : goal.returns
 unfolding is_padded named_kind rts_tables
-returns c = record { dwell = refl; eeprom = refl; memory = refl; health = refl; absolute = refl; relative = refl; padded = refl; whole = refl }
+returns c = record { dwell = refl; eeprom = refl; memory = refl; limits = refl; health = refl; absolute = refl; relative = refl; padded = refl; whole = refl }
