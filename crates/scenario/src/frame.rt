@@ -1,5 +1,5 @@
 //! What one frame is given.
-ghost use Rattle.std.specs.Prelude.{◌≡◌, ◌≤◌, ◌<◌, ◌++◌, ◌∷◌, ◌==◌, [], true, false, Ok};
+ghost use Rattle.std.specs.Prelude.{◌≡◌, ◌≤◌, ◌<◌, ◌++◌, ◌∷◌, ◌==◌, [], length, true, false, Ok};
 ghost use Rattle.scenario.specs.Sentences.{packet_of};
 ghost use Rattle.scenario.specs.FrameLists.{no_items, items_in};
 
@@ -84,6 +84,13 @@ impl FrameInput {
         self.activations.clear();
     }
 
+    #[inline(always)]
+    fn is_empty(&self) -> bool
+        ensures { result ≡ true → self.now ≡ no_items }
+    {
+        self.count == 0
+    }
+
     pub(crate) fn len(&self) -> usize
         ensures value { result ≡ items_in self.now }
         ensures limit { result ≤ 64 }
@@ -91,14 +98,14 @@ impl FrameInput {
         self.count
     }
 
-    /// Whether the frame has no item.
+    /// Whether the frame has no items but packets that are sent: one that only names a packet asks none of its other lists.
     #[inline(always)]
-    pub fn is_empty(&self) -> bool
-        ensures exact { result ≡ (items_in self.now == 0) }
-        ensures none { result ≡ true → self.now ≡ no_items }
+    pub fn has_only_sends(&self) -> bool
+        ensures exact { result ≡ (items_in self.now == length self.now.sends) }
+        ensures only { result ≡ true → self.now ≡ record no_items { sends = self.now.sends } }
         ensures limit { items_in self.now ≤ 64 }
     {
-        self.count == 0
+        self.count == self.sends.len()
     }
 
     /// The packets that are sent.
