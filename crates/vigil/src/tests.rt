@@ -12,6 +12,7 @@ mod given;
 mod health;
 mod hostile;
 mod lengths;
+mod limits;
 mod loads;
 mod refusals;
 mod resets;

@@ -4,8 +4,9 @@ use super::runs::{
     HEADER, HONEST, Line, Outside, Rehearsal, assert_rehearsal, assert_text, run_beside,
 };
 use super::tables::{
-    Action, Count, Dwelling, Monitor, Segment, actions_file, apps_file, counts_file, dwell_file,
-    events_file, headers, pad, segments_file, sequence_file,
+    Action, Actionpoint, Count, Dwelling, Monitor, Segment, Watchpoint, actions_file, acts_file,
+    apps_file, counts_file, dwell_file, events_file, headers, pad, segments_file, sequence_file,
+    watch_file,
 };
 use rehearsal::{Report, Status};
 use std::process::Abort;
@@ -442,6 +443,76 @@ fn sequences_are_refused(rt: HostRuntime) -> Result<(), Fail> {
     for (name, payload, line, reason) in FAULTY_SEQUENCES {
         let file = sequence_file(rt.alloc(), name, payload)?;
         assert_refused(&rt, &["s", "a", "b"], &[&first, &file], (2, line, reason))?;
+    }
+    Ok(())
+}
+
+/// Tables of watchpoints that are refused, with the entry and the reason that are told.
+const REFUSED_WATCHES: [(&[Watchpoint], u32, u8); 4] = [
+    (&[(3, (4, 0x088A, 20), (1, 0, 0))], 3, 11),
+    (
+        &[
+            (1, (0, 0x088A, 20), (9, 0, 0)),
+            (2, (4, 0x088A, 20), (9, 0, 0)),
+        ],
+        2,
+        11,
+    ),
+    (
+        &[
+            (31, (3, 0xFFFF, 0xFFFF), (6, 0, 0)),
+            (32, (1, 0x088A, 20), (0, 0, 0)),
+        ],
+        32,
+        12,
+    ),
+    (&[(1, (2, 0x088A, 20), (7, 0, 0))], 1, 12),
+];
+
+/// Tables of actionpoints that are refused, with the entry and the reason that are told.
+const REFUSED_ACTS: [(&[Actionpoint<'static>], u32, u8); 6] = [
+    (&[(1, 1, 2, 1, &[0, 0x8001])], 1, 13),
+    (&[(1, 0, 99, 0, &[77]), (2, 3, 0, 0, &[])], 2, 11),
+    (&[(16, 1, 0, 1, &[0])], 16, 12),
+    (&[(2, 2, 65, 1, &[])], 2, 12),
+    (&[(3, 1, 64, 0, &[0])], 3, 12),
+    (
+        &[(4, 2, 64, 65535, &[31]), (5, 1, 1, 1, &[0, 0x8002])],
+        5,
+        13,
+    ),
+];
+
+/// Expressions that are refused: no word, 17 of them, words that are none, operators without an operand, and two values that are left.
+const REFUSED_WORDS: [&[u16]; 8] = [
+    &[],
+    &[
+        0, 0x8004, 0x8004, 0x8004, 0x8004, 0x8004, 0x8004, 0x8004, 0x8004, 0x8004, 0x8004, 0x8004,
+        0x8004, 0x8004, 0x8004, 0x8004, 0x8004,
+    ],
+    &[32],
+    &[0, 0x8000],
+    &[0, 0x8005],
+    &[0x8004, 0],
+    &[0, 0x8003, 1],
+    &[0, 1],
+];
+
+#[test]
+fn limit_entries_are_refused(rt: HostRuntime) -> Result<(), Fail> {
+    let first = watch_file(rt.alloc(), &[])?;
+    let words = &["s", "a", "b"];
+    for (entries, line, reason) in REFUSED_WATCHES {
+        let file = watch_file(rt.alloc(), entries)?;
+        assert_refused(&rt, words, &[&first, &file], (2, line, reason))?;
+    }
+    for (entries, line, reason) in REFUSED_ACTS {
+        let file = acts_file(rt.alloc(), entries)?;
+        assert_refused(&rt, words, &[&first, &file], (2, line, reason))?;
+    }
+    for expression in REFUSED_WORDS {
+        let file = acts_file(rt.alloc(), &[(5, 1, 1, 1, expression)])?;
+        assert_refused(&rt, &["s", "a"], &[&file], (1, 5, 13))?;
     }
     Ok(())
 }

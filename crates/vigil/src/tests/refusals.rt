@@ -14,7 +14,7 @@ struct Refused<'a> {
     frames: u32,
 }
 
-const REFUSED: [Refused<'static>; 9] = [
+const REFUSED: [Refused<'static>; 10] = [
     Refused {
         text: "epoch 1000\nregion RAM 0x1000 256\nregion RAM 0x1080 256\nstart\ntick\nend\n",
         line: 4,
@@ -68,6 +68,12 @@ const REFUSED: [Refused<'static>; 9] = [
         line: 5,
         reason: 1,
         frames: 0,
+    },
+    Refused {
+        text: "epoch 1000\nregion RAM 0x1000 256\nstart\ntick\nhold LC\ntick\nend\n",
+        line: 5,
+        reason: 1,
+        frames: 1,
     },
 ];
 

@@ -166,6 +166,49 @@ pub fn actions_file(alloc: Global, entries: &[Action<'_>]) -> Result<Vec<u8>, Fa
     Ok(bytes)
 }
 
+/// A watchpoint: its place from 1, then its type, message id and offset, then its operator, mask and limit.
+pub type Watchpoint = (usize, (u16, u16, u16), (u16, u32, u32));
+
+/// An actionpoint: its place from 1, its state, its sequence, its number of failures, and its words.
+pub type Actionpoint<'a> = (usize, u16, u16, u16, &'a [u16]);
+
+/// A file of watchpoints with these entries, whose places rise.
+pub fn watch_file(alloc: Global, entries: &[Watchpoint]) -> Result<Vec<u8>, Fail> {
+    let mut bytes = headers(alloc, "LC.WDT_Tbl", 0, 512)?;
+    for entry in entries.iter() {
+        let (place, value, comparison) = *entry;
+        let (sort, id, offset) = value;
+        let (operator, mask, limit) = comparison;
+        pad(&mut bytes, place.saturating_mul(16).saturating_add(100))?;
+        push_u16(&mut bytes, sort)?;
+        push_u16(&mut bytes, id)?;
+        push_u16(&mut bytes, offset)?;
+        push_u16(&mut bytes, operator)?;
+        push_u32(&mut bytes, mask)?;
+        push_u32(&mut bytes, limit)?;
+    }
+    pad(&mut bytes, 628)?;
+    Ok(bytes)
+}
+
+/// A file of actionpoints with these entries, whose places rise. Each has as many words as it is given.
+pub fn acts_file(alloc: Global, entries: &[Actionpoint<'_>]) -> Result<Vec<u8>, Fail> {
+    let mut bytes = headers(alloc, "LC.ADT_Tbl", 0, 640)?;
+    for entry in entries.iter() {
+        let (place, state, sequence, failures, words) = *entry;
+        pad(&mut bytes, place.saturating_mul(40).saturating_add(76))?;
+        push_u16(&mut bytes, state)?;
+        push_u16(&mut bytes, sequence)?;
+        push_u16(&mut bytes, failures)?;
+        push_u16(&mut bytes, words.len().min(65_535) as u16)?;
+        for word in words.iter() {
+            push_u16(&mut bytes, *word)?;
+        }
+    }
+    pad(&mut bytes, 756)?;
+    Ok(bytes)
+}
+
 /// A command of an absolute sequence: its number, its time and its packet.
 pub type Timed<'a> = (u16, u32, &'a [u8]);
 
