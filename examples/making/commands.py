@@ -30,7 +30,8 @@ MM, MM_HOUSEKEEPING = 0x1888, 0x1889
 MD, MD_HOUSEKEEPING = 0x1890, 0x1891
 CS, CS_HOUSEKEEPING = 0x189F, 0x18A0
 SC, SC_HOUSEKEEPING = 0x18A9, 0x18AA
-REQUESTS = {HS: HS_HOUSEKEEPING, MM: MM_HOUSEKEEPING, MD: MD_HOUSEKEEPING, CS: CS_HOUSEKEEPING, SC: SC_HOUSEKEEPING}
+LC, LC_HOUSEKEEPING = 0x18A6, 0x18A7
+REQUESTS = {HS: HS_HOUSEKEEPING, MM: MM_HOUSEKEEPING, MD: MD_HOUSEKEEPING, CS: CS_HOUSEKEEPING, SC: SC_HOUSEKEEPING, LC: LC_HOUSEKEEPING}
 
 
 def no_op(application):
@@ -215,6 +216,16 @@ def sc_switch_ats():
 def sc_jump_ats(time):
     """Skips the commands of the absolute sequence that runs before a time."""
     return command(SC, 9, struct.pack(">I", time))
+
+
+def lc_set_active(point):
+    """Sets an actionpoint active, 1 to 16."""
+    return command(LC, 2, struct.pack(">H", point))
+
+
+def lc_set_passive(point):
+    """Sets an actionpoint passive."""
+    return command(LC, 3, struct.pack(">H", point))
 
 
 def damaged(sent):

@@ -2,7 +2,7 @@
 
 from making.commands import *
 from making.log import *
-from making.tables import MEMORY_TABLE, actions_table, apps_table, ats_table, checksum_table, counters_table, dwell_table, events_table, load_file, rts_table
+from making.tables import MEMORY_TABLE, actions_table, acts_table, apps_table, ats_table, checksum_table, counters_table, dwell_table, events_table, load_file, rts_table, watch_table
 
 RAM = "region RAM 0x1000 256"
 
@@ -514,6 +514,61 @@ def sequences():
     )
 
 
+def limits():
+    return Example(
+        "limits",
+        "Memory Dwell shows the byte at 0x1010 in each second frame. Limit Checker's watchpoint 1 asks whether that byte is over 80, and its actionpoint 1 starts relative sequence 2 where it was so in two wakeups in a row. "
+        "The byte becomes 90 in frame 1 and is shown in frame 2, so Limit Checker finds it in frame 3 and, as no other packet came, again in frame 4: there it fires, with event 101, and its actionpoint is passive from then on. "
+        "Stored Command starts the sequence in frame 5, its command pokes the byte to 20, and frame 8 shows that. "
+        "In frame 9 the actionpoint is set active again; housekeeping shows what was seen up to frame 8: the limit was exceeded, and one firing.",
+        [
+            "# Relative sequence 2 is enabled; a second behind its start it pokes the byte to 20.",
+            f"epoch {EPOCH}",
+            RAM,
+            "start",
+            "upset 0x1010 70",
+            send(sc_enable_rts(2)),
+            "tick",
+            "",
+            "# Frame 1: the byte goes over the limit of 80. Frame 2 shows it, and frame 4 starts the sequence.",
+            "upset 0x1010 90",
+            "tick",
+            *(["tick"] * 6),
+            "",
+            "# Frame 8: the byte is low. The actionpoint is set active for the next time, and housekeeping is asked for.",
+            send(lc_set_active(1)),
+            send(housekeeping(LC_HOUSEKEEPING)),
+            "tick",
+            "tick",
+            "tick",
+            "end",
+        ],
+        [
+            dwell_packet(0, 1, 0, b"\x46"),
+            event(1, "SC", 0, 23, 2),
+            dwell_packet(2, 1, 1, b"\x5A"),
+            dwell_packet(4, 1, 2, b"\x5A"),
+            stored(4, sc_start_rts(2)),
+            event(4, "LC", 1, 101, 3),
+            event(5, "SC", 2, 20, 2),
+            stored(6, mm_poke(8, 0x1010, 20)),
+            event(6, "SC", 3, 104, 2),
+            dwell_packet(6, 1, 3, b"\x5A"),
+            event(7, "MM", 4, 19, 2),
+            dwell_packet(8, 1, 4, b"\x14"),
+            event(9, "LC", 5, 18, 2),
+            lc_housekeeping_packet(9, 0, 1, 0, {1}, 1, {1: 2}),
+            dwell_packet(10, 1, 5, b"\x14"),
+        ],
+        {
+            "acts.table": acts_table({1: (1, 2, 2, [0])}),
+            "dwell1.table": dwell_table(1, True, [(1, 2, 0x1010)]),
+            "rts2.table": rts_table(2, [(1, mm_poke(8, 0x1010, 20))]),
+            "watch.table": watch_table({1: (1, 0x0891, 16, 6, 0xFF, 80)}),
+        },
+    )
+
+
 def sequence_mistake():
     return Example(
         "sequence_mistake",
@@ -630,7 +685,7 @@ def commands():
     baseline = crc16(b"\x5A" + bytes(15))
     return Example(
         "commands",
-        "Each code of Memory Manager, Memory Dwell, Checksum, Health and Safety and Stored Command once, and each request for housekeeping; all of them are accepted. "
+        "Each code of Memory Manager, Memory Dwell, Checksum, Health and Safety, Stored Command and Limit Checker once, and each request for housekeeping; all of them are accepted. "
         "An accepted command of code c is answered by event 16 + c, behind the packets that it asks for. "
         "The `send` lines are those of docs/COMMANDS.md.",
         [
@@ -701,6 +756,14 @@ def commands():
             send(sc_disable_rts(2)),
             send(housekeeping(SC_HOUSEKEEPING)),
             "tick",
+            "",
+            "# Limit Checker: codes 0 to 3, and the request.",
+            send(no_op(LC)),
+            send(reset_counts(LC)),
+            send(lc_set_active(2)),
+            send(lc_set_passive(1)),
+            send(housekeeping(LC_HOUSEKEEPING)),
+            "tick",
             "tick",
             "end",
         ],
@@ -755,8 +818,14 @@ def commands():
             event(5, "SC", 40, 21, 2),
             event(5, "SC", 41, 22, 2),
             sc_housekeeping_packet(5, 0, 8, 0, 0, 0, 0, 0, set(), set()),
+            event(6, "LC", 42, 16, 2),
+            event(6, "LC", 43, 17, 2),
+            event(6, "LC", 44, 18, 2),
+            event(6, "LC", 45, 19, 2),
+            lc_housekeeping_packet(6, 0, 2, 0, {2}, 0, {}),
         ],
         {
+            "acts.table": acts_table({1: (1, 2, 1, [0]), 2: (2, 2, 1, [0])}),
             "ats1.table": ats_table(1, [(1, 1400, no_op(MM))]),
             "ats2.table": ats_table(2, [(1, 1500, no_op(MM))]),
             "rts2.table": rts_table(2, [(100, no_op(MM))]),
@@ -767,4 +836,4 @@ def commands():
     )
 
 
-EXAMPLES = [first(), health(), subjects(), standby(), anew(), dwell(), checksum(), sequences(), sequence_mistake(), eeprom(), loads(), held(), refused_file(), refused_scenario(), commands()]
+EXAMPLES = [first(), health(), subjects(), standby(), anew(), dwell(), checksum(), sequences(), sequence_mistake(), limits(), eeprom(), loads(), held(), refused_file(), refused_scenario(), commands()]

@@ -73,6 +73,13 @@ def sc_housekeeping_packet(frame, count, accepted, errors, ats, left, sent, wron
     return telemetry(frame, 0x08AA, count, struct.pack(">BBBBHHHHQQ", accepted, errors, ats, 0, left, sent, wrong, 0, *masks))
 
 
+def lc_housekeeping_packet(frame, count, accepted, errors, active, fired, results):
+    """`active` is a set of actionpoints, and `results` has 1 (it doesn't hold), 2 (it holds) or 3 (outside) by the watchpoint's number."""
+    mask = sum(1 << (number - 1) for number in active)
+    shown = sum(result << 2 * (number - 1) for number, result in results.items())
+    return telemetry(frame, 0x08A7, count, struct.pack(">BBHHHQ", accepted, errors, 0, mask, fired, shown))
+
+
 def drop(frame, pipe, why, lost):
     return f"{frame} drop {pipe} {why} {lost.hex().upper()}"
 

@@ -39,7 +39,7 @@ fn file_of(alloc: Global, tables: &[Table<'_>], place: usize) -> Result<Vec<u8>,
     Ok(file)
 }
 
-/// Asserts what an example of at most six tables gives.
+/// Asserts what an example of at most seven tables gives.
 fn assert_example<R: Threads + Sync + AllocGlobal + Abort>(
     rt: &R,
     example: &Example<'_>,
@@ -51,9 +51,12 @@ fn assert_example<R: Threads + Sync + AllocGlobal + Abort>(
     let fourth = file_of(alloc, example.tables, 3)?;
     let fifth = file_of(alloc, example.tables, 4)?;
     let sixth = file_of(alloc, example.tables, 5)?;
-    let files: [&[u8]; 6] = [&first, &second, &third, &fourth, &fifth, &sixth];
-    let words = ["s", "a", "b", "c", "d", "e", "f"];
-    let words = &words[..example.tables.len().min(6) + 1];
+    let seventh = file_of(alloc, example.tables, 6)?;
+    let files: [&[u8]; 7] = [
+        &first, &second, &third, &fourth, &fifth, &sixth, &seventh,
+    ];
+    let words = ["s", "a", "b", "c", "d", "e", "f", "g"];
+    let words = &words[..example.tables.len().min(7) + 1];
     let ran = run_beside(rt, words, example.text, &files, &HONEST)?;
     assert_text(rt, "out", ran.out.bytes(), example.log);
     assert_text(rt, "err", ran.err.bytes(), example.error);

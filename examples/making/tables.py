@@ -8,6 +8,7 @@ from making.log import crc16
 DWELL_TABLES, DWELL_ENTRIES, CHECKSUM_ENTRIES = range(1, 5), range(1, 26), range(1, 17)
 ATS_TABLES, RTS_TABLES = range(1, 3), range(1, 65)
 APP_ENTRIES, EVENT_ENTRIES, COUNTER_ENTRIES, ACTION_ENTRIES = range(1, 33), range(1, 17), range(1, 33), range(1, 9)
+WATCHPOINTS, ACTIONPOINTS = range(1, 33), range(1, 17)
 EEPROM_TABLE, MEMORY_TABLE = "CS.DefEepromTbl", "CS.DefMemoryTbl"
 
 
@@ -86,3 +87,18 @@ def rts_table(number, commands):
     if number not in RTS_TABLES:
         raise Wrong(f"there are relative sequences 1 to 64, and no sequence {number}")
     return table_file(f"SC.RTS_TBL{number:03}", b"".join(struct.pack(">H", seconds) + packet for seconds, packet in commands))
+
+
+def watch_table(entries):
+    """The file of the watchpoints. `entries` gives (type, id, offset, operator, mask, limit) by the entry's number, 1 to 32."""
+    rows = {number: struct.pack(">HHHHII", *entry) for number, entry in entries.items()}
+    return table_file("LC.WDT_Tbl", placed("the table of watchpoints", rows, WATCHPOINTS, 16))
+
+
+def acts_table(entries):
+    """The file of the actionpoints. `entries` gives (state, sequence, failures, words) by the entry's number, 1 to 16; there are at most 16 words."""
+    for number, (_, _, _, words) in entries.items():
+        if len(words) > 16:
+            raise Wrong(f"an actionpoint has at most 16 words, and entry {number} has {len(words)}")
+    rows = {number: struct.pack(f">HHHH{len(words)}H", *numbers, len(words), *words) for number, (*numbers, words) in entries.items()}
+    return table_file("LC.ADT_Tbl", placed("the table of actionpoints", rows, ACTIONPOINTS, 40))

@@ -4,7 +4,7 @@ import re
 
 from making import Wrong
 from making.commands import *
-from making.tables import ACTION_ENTRIES, COUNTER_ENTRIES, EEPROM_TABLE, EVENT_ENTRIES, APP_ENTRIES, MEMORY_TABLE, actions_table, apps_table, counters_table, events_table
+from making.tables import ACTION_ENTRIES, ACTIONPOINTS, COUNTER_ENTRIES, EEPROM_TABLE, EVENT_ENTRIES, APP_ENTRIES, MEMORY_TABLE, WATCHPOINTS, actions_table, acts_table, apps_table, counters_table, events_table, watch_table
 
 U8, U16, U32 = range(1 << 8), range(1 << 16), range(1 << 32)
 NUMBER = re.compile("0x[0-9a-fA-F]{1,16}|[0-9]{1,20}")
@@ -13,11 +13,13 @@ HEX = re.compile("([0-9A-Fa-f]{2}){8,64}")
 BYTES = re.compile("([0-9A-Fa-f]{2}){1,200}")
 COMMAND = re.compile("([0-9A-Fa-f]{2}){8,256}")
 LOADED = re.compile("([0-9A-Fa-f]{2}){1,65536}")
+EXPRESSION = re.compile("([0-9A-Za-z]+/){0,15}[0-9A-Za-z]+")
 
-FORMS = {NAME: "1 to 19 letters, digits and _", HEX: "HEX of 8 to 64 bytes", BYTES: "HEX of 1 to 200 bytes", COMMAND: "HEX of 8 to 256 bytes", LOADED: "HEX of 1 to 65,536 bytes"}
+FORMS = {NAME: "1 to 19 letters, digits and _", HEX: "HEX of 8 to 64 bytes", BYTES: "HEX of 1 to 200 bytes", COMMAND: "HEX of 8 to 256 bytes", LOADED: "HEX of 1 to 65,536 bytes", EXPRESSION: "1 to 16 words with / between them"}
+OPERATORS = {"and": 0x8001, "or": 0x8002, "xor": 0x8003, "not": 0x8004}
 
-APPLICATIONS = {"HS": HS, "MM": MM, "MD": MD, "CS": CS, "SC": SC}
-IDS = {**APPLICATIONS, "HS_HOUSEKEEPING": HS_HOUSEKEEPING, "MM_HOUSEKEEPING": MM_HOUSEKEEPING, "MD_HOUSEKEEPING": MD_HOUSEKEEPING, "CS_HOUSEKEEPING": CS_HOUSEKEEPING, "SC_HOUSEKEEPING": SC_HOUSEKEEPING}
+APPLICATIONS = {"HS": HS, "MM": MM, "MD": MD, "CS": CS, "SC": SC, "LC": LC}
+IDS = {**APPLICATIONS, "HS_HOUSEKEEPING": HS_HOUSEKEEPING, "MM_HOUSEKEEPING": MM_HOUSEKEEPING, "MD_HOUSEKEEPING": MD_HOUSEKEEPING, "CS_HOUSEKEEPING": CS_HOUSEKEEPING, "SC_HOUSEKEEPING": SC_HOUSEKEEPING, "LC_HOUSEKEEPING": LC_HOUSEKEEPING}
 TABLE_NAMES = {"eeprom": EEPROM_TABLE, "memory": MEMORY_TABLE}
 
 # The functions of `send` and their words, in the order of docs/COMMANDS.md.
@@ -58,13 +60,15 @@ SENT = {
     sc_enable_rts: "NUMBER",
     sc_switch_ats: "",
     sc_jump_ats: "TIME",
+    lc_set_active: "POINT",
+    lc_set_passive: "POINT",
     command: "ID CODE",
 }
 
 # What fits the field of each word; TABLE.. are the bits of a mask.
 FIELDS = {
     **dict.fromkeys(["SIZE", "REGION", "CODE", "BYTE"], U8),
-    **dict.fromkeys(["TABLE", "ENTRY", "LENGTH", "DELAY", "ID", "MAXIMUM", "EVENT", "LOAD", "NUMBER"], U16),
+    **dict.fromkeys(["TABLE", "ENTRY", "LENGTH", "DELAY", "ID", "MAXIMUM", "EVENT", "LOAD", "NUMBER", "POINT"], U16),
     **dict.fromkeys(["ADDRESS", "VALUE", "COUNT", "TIME"], U32),
     "TABLE..": range(1, 17),
 }
@@ -73,12 +77,14 @@ ATS_COMMAND = {"NUMBER": U16, "TIME": U32, "HEX": COMMAND}
 RTS_COMMAND = {"SECONDS": U16, "HEX": COMMAND}
 CHECKSUM_ENTRY = {"STATE": U16, "START": U32, "LENGTH": U32}
 
-# The tables of Health and Safety: which entries each has, the fields of one, and what makes its file.
-HEALTH_TABLES = {
+# The tables of Health and Safety and of Limit Checker: which entries each has, the fields of one, and what makes its file.
+PLACED_TABLES = {
     "apps": (APP_ENTRIES, {"NAME": NAME, "CYCLES": U16, "ACTION": U16}, apps_table),
     "events": (EVENT_ENTRIES, {"NAME": NAME, "EVENT": U16, "ACTION": U16}, events_table),
     "counters": (COUNTER_ENTRIES, {"NAME": NAME, "TYPE": U16}, counters_table),
     "actions": (ACTION_ENTRIES, {"STATE": U16, "COOLDOWN": U16, "HEX": HEX}, actions_table),
+    "watch": (WATCHPOINTS, {"TYPE": U16, "ID": U16, "OFFSET": U16, "OPERATOR": U16, "MASK": U32, "LIMIT": U32}, watch_table),
+    "acts": (ACTIONPOINTS, {"STATE": U16, "SEQUENCE": U16, "FAILURES": U16, "WORDS": EXPRESSION}, acts_table),
 }
 
 
@@ -108,11 +114,13 @@ def number(name, word, allowed):
 
 
 def field(name, word, allowed):
-    """A field of a table's entry: a number, a name, or bytes."""
+    """A field of a table's entry: a number, a name, bytes, or the words of an expression."""
     if allowed not in FORMS:
         return number(name, word, allowed)
     if not allowed.fullmatch(word):
         raise Wrong(f"{word!r} isn't {FORMS[allowed]}")
+    if allowed is EXPRESSION:
+        return [OPERATORS[part] if part in OPERATORS else number(name, part, U16) for part in word.split("/")]
     return word if allowed is NAME else bytes.fromhex(word)
 
 
