@@ -226,7 +226,7 @@ const NAMES: [PipeName; 8] = [
 #[test]
 fn cleared_bus_is_as_one_that_was_opened(rt: HostRuntime) -> Result<(), Fail> {
     let mut bus = Bus::open(rt.alloc(), true)?;
-    let mut drops = Drops::open(rt.alloc(), 23)?;
+    let mut drops = Drops::open(rt.alloc(), 25)?;
     let packets = [
         telemetry(0x18AE, 0, &[]),
         telemetry(0x0808, 0, &[]),

@@ -10,11 +10,13 @@ use Rattle.table_files.proofs.Lists.{numbers_of_tables}
 use Rattle.table_files.specs.Headers.{file_fault_of, kind_of_file, payload_of_file}
 use Rattle.table_files.specs.declared.fault.EntryFault.{EntryFault}
 use Rattle.table_files.specs.declared.kinds.TableKind.{TableKind}
-use Rattle.table_files.specs.declared.kinds.TableKind.TheVariants.{AppMon, EventMon, ExeCount, MsgActs, Ats, Rts, Dwell, Eeprom, Memory}
+use Rattle.table_files.specs.declared.kinds.TableKind.TheVariants.{AppMon, EventMon, ExeCount, MsgActs, Ats, Rts, Dwell, Eeprom, Memory, Wdt, Adt}
 use Rattle.hs_tables.specs.Apps as apps
 use Rattle.hs_tables.specs.Events as events
 use Rattle.hs_tables.specs.Counters as counters
 use Rattle.hs_tables.specs.Actions as actions
+use Rattle.lc_watch.specs.Watchpoints as watchpoints
+use Rattle.lc_watch.specs.Actionpoints as actionpoints
 use Rattle.hs_tables.specs.declared.apps.AppRow.{AppRow}
 use Rattle.hs_tables.specs.declared.events.EventRow.{EventRow}
 use Rattle.hs_tables.specs.declared.counters.CountRow.{CountRow}
@@ -47,7 +49,7 @@ use Rattle.table_files.specs.Kinds.{IsKnown}
 use Rattle.bus_pipes.specs.Counted.{is_item_counted}
 use Rattle.commands.proofs.Answering.{event_counted}
 use Rattle.frame_exec.proofs.GivenTables.{said_parts}
-use Rattle.frame_exec.specs.Applications.{cs_tables}
+use Rattle.frame_exec.specs.Applications.{cs_tables, lc_setup}
 use Rattle.frame_exec.specs.Activations.{can_activate, activated, hs_activated, cs_activated, sc_activated, tables_name, table_event}
 use Rattle.frame_exec.specs.declared.activations.Naming.{Naming}
 use Rattle.frame_exec.specs.declared.activations.Naming.TheVariants.{Accepted, Refused, Running}
@@ -107,6 +109,8 @@ hs_follow setup history tables (Rts n) payload can is = hs_stays setup history t
 hs_follow setup history tables Eeprom payload can is = hs_stays setup history tables (record tables { eeprom = segments_of payload }) (segments_fault_of payload) refl is
 hs_follow setup history tables Memory payload can is = hs_stays setup history tables (record tables { memory = segments_of payload }) (segments_fault_of payload) refl is
 hs_follow setup history tables MsgActs payload can is = absurd (false≢true can)
+hs_follow setup history tables Wdt payload can is = absurd (false≢true can)
+hs_follow setup history tables Adt payload can is = absurd (false≢true can)
 
 -- the state of HS behind an activation, where there is one
 hs_by : (setup : HsSetup) (history : List HsEntry) (old new : Hs) (made : Option Activation) → ((a : Activation) → made ≡ Some a → Stands setup (history ++ Activated a ∷ []) new) → (made ≡ None → new ≡ old)
@@ -150,6 +154,8 @@ cs_follow first history tables MsgActs payload is = cs_stays first history table
 cs_follow first history tables (Dwell n) payload is = cs_stays first history tables (record tables { dwells = slice_set tables.dwells (n - 1) (dwell_of payload) }) (dwell_fault_of payload) refl is
 cs_follow first history tables (Ats n) payload is = cs_stays first history tables (record tables { sc = slice_set tables.sc (n - 1) (map of_timed (ats_of payload)) }) (ats_fault_of payload) refl is
 cs_follow first history tables (Rts n) payload is = cs_stays first history tables (record tables { sc = slice_set tables.sc (n + 1) (map of_relative (rts_of payload)) }) (rts_fault_of payload) refl is
+cs_follow first history tables Wdt payload is = cs_stays first history tables (record tables { wdt = watchpoints.rows_of payload }) (watchpoints.rows_fault_of payload) refl is
+cs_follow first history tables Adt payload is = cs_stays first history tables (record tables { adt = actionpoints.rows_of payload }) (actionpoints.rows_fault_of payload) refl is
 
 -- the commands of the sequences that are active once one became active are those behind its activation
 sc_stays : (begin : Beginning) (history : List ScEntry) (tables well : TableSet) (fault : Option EntryFault) → well.sc ≡ tables.sc → tables.sc ≡ sc_tables_after begin history
@@ -184,6 +190,22 @@ sc_follow begin history tables MsgActs payload known is = sc_stays begin history
 sc_follow begin history tables (Dwell n) payload known is = sc_stays begin history tables (record tables { dwells = slice_set tables.dwells (n - 1) (dwell_of payload) }) (dwell_fault_of payload) refl is
 sc_follow begin history tables Eeprom payload known is = sc_stays begin history tables (record tables { eeprom = segments_of payload }) (segments_fault_of payload) refl is
 sc_follow begin history tables Memory payload known is = sc_stays begin history tables (record tables { memory = segments_of payload }) (segments_fault_of payload) refl is
+sc_follow begin history tables Wdt payload known is = sc_stays begin history tables (record tables { wdt = watchpoints.rows_of payload }) (watchpoints.rows_fault_of payload) refl is
+sc_follow begin history tables Adt payload known is = sc_stays begin history tables (record tables { adt = actionpoints.rows_of payload }) (actionpoints.rows_fault_of payload) refl is
+
+-- the tables of LC stay where a table becomes active that can
+pub limits_stay : (tables : TableSet) (kind : TableKind) (payload : List ℕ) → can_activate kind ≡ true → lc_setup (with_table tables kind payload) ≡ lc_setup tables
+limits_stay tables AppMon payload can = left_where lc_setup (record tables { hs = record tables.hs { apps = apps.rows_of payload } }) tables (apps.rows_fault_of payload) refl
+limits_stay tables EventMon payload can = left_where lc_setup (record tables { hs = record tables.hs { events = events.rows_of payload } }) tables (events.rows_fault_of payload) refl
+limits_stay tables ExeCount payload can = left_where lc_setup (record tables { hs = record tables.hs { counts = counters.rows_of payload } }) tables (counters.rows_fault_of payload) refl
+limits_stay tables (Dwell n) payload can = left_where lc_setup (record tables { dwells = slice_set tables.dwells (n - 1) (dwell_of payload) }) tables (dwell_fault_of payload) refl
+limits_stay tables (Ats n) payload can = left_where lc_setup (record tables { sc = slice_set tables.sc (n - 1) (map of_timed (ats_of payload)) }) tables (ats_fault_of payload) refl
+limits_stay tables (Rts n) payload can = left_where lc_setup (record tables { sc = slice_set tables.sc (n + 1) (map of_relative (rts_of payload)) }) tables (rts_fault_of payload) refl
+limits_stay tables Eeprom payload can = left_where lc_setup (record tables { eeprom = segments_of payload }) tables (segments_fault_of payload) refl
+limits_stay tables Memory payload can = left_where lc_setup (record tables { memory = segments_of payload }) tables (segments_fault_of payload) refl
+limits_stay tables MsgActs payload can = absurd (false≢true can)
+limits_stay tables Wdt payload can = absurd (false≢true can)
+limits_stay tables Adt payload can = absurd (false≢true can)
 
 -- the state of SC behind the activation of a sequence that doesn't run, where there is one
 sc_by : (begin : Beginning) (history : List ScEntry) (sc : Sc) (made : Option ScActivation) → ((a : ScActivation) → made ≡ Some a → ScStands begin (history ++ Activated a ∷ []) sc) → ScStands begin history sc → ScStands begin (history ++ activated made) sc

@@ -10,6 +10,7 @@ use Rattle.frame_exec.specs.declared.bench.TheConstants.{DROPS, ACTIVATIONS}
 use Rattle.frame_exec.specs.declared.bench.Bench.{Bench}
 use Rattle.fsw_outside.specs.TellingLaws.{told_then}
 use Rattle.frame_exec.specs.Runs.{Setup, State, run_of, frame_lines, log_of}
+use Rattle.frame_exec.specs.Jobs.{jobs_of}
 use Rattle.frame_exec.specs.Standing.{Has, IsReady, Stands, has_failed}
 use Rattle.frame_exec.specs.Following.{lines_behind, Follows, IsCutAt, Adds}
 use Rattle.frame_exec.proofs.Handing.{notes_begin}
@@ -20,17 +21,17 @@ nothing_noted : (setup : Setup) (earlier : List Frame) → Notes (ends_from 0 (l
 nothing_noted setup earlier = rw (behind_none setup earlier, ends_none 0) notes_begin
 
 -- the lines that wait are no part of what a run has come to
-pub has_beside : (b : Bench) (block : Waiting) (room : b.drops.room ≡ DROPS) (jobs : b.crew.jobs ≡ 5) (told : b.activations.room ≡ ACTIVATIONS) (s : State) → Has b s → Has (record b { block = block; drops_room = room; five = jobs; activations_room = told }) s
+pub has_beside : (b : Bench) (block : Waiting) (room : b.drops.room ≡ DROPS) (jobs : b.crew.jobs ≡ jobs_of b.bus.watched) (told : b.activations.room ≡ ACTIVATIONS) (s : State) → Has b s → Has (record b { block = block; drops_room = room; manned = jobs; activations_room = told }) s
 has_beside b block room jobs told s has = record {
   number = has.number;
   tables = has.tables;
-  apps = record { hs = has.apps.hs; cs = has.apps.cs; sc = has.apps.sc; mm = has.apps.mm; md = has.apps.md };
+  apps = record { hs = has.apps.hs; cs = has.apps.cs; sc = has.apps.sc; mm = has.apps.mm; md = has.apps.md; lc = has.apps.lc };
   pipes = has.pipes;
   made = has.made;
   memory = has.memory;
 }
 
-pub ready_beside : (b : Bench) (block : Waiting) (room : b.drops.room ≡ DROPS) (jobs : b.crew.jobs ≡ 5) (told : b.activations.room ≡ ACTIVATIONS) → IsReady b → IsReady (record b { block = block; drops_room = room; five = jobs; activations_room = told })
+pub ready_beside : (b : Bench) (block : Waiting) (room : b.drops.room ≡ DROPS) (jobs : b.crew.jobs ≡ jobs_of b.bus.watched) (told : b.activations.room ≡ ACTIVATIONS) → IsReady b → IsReady (record b { block = block; drops_room = room; manned = jobs; activations_room = told })
 ready_beside b block room jobs told ready = record { sc = ready.sc; md = ready.md; given = ready.given }
 
 -- a bench whose block is empty stands for all frames as earlier ones

@@ -1,5 +1,6 @@
 -- Loops over files and entries: what is left says what all of them say.
-use Rattle.std.proofs.Common.{◌≡◌, ℕ, ◌+◌, ◌-◌, ◌<◌, ◌≤◌, List, [], ◌∷◌, length, drop, get_or, Option, Some, None, option_map, refl, sym, ◌∙◌, ap, arith}
+use Rattle.std.proofs.Common.{◌≡◌, Bool, ◌||◌, false, ℕ, ◌+◌, ◌-◌, ◌<◌, ◌≤◌, List, [], ◌∷◌, length, drop, get_or, Option, Some, None, option_map, refl, sym, ◌∙◌, ap, arith}
+use Rattle.std.specs.List.{list_any}
 use Rattle.std.proofs.lemmas.List.{drop_more, drop_all}
 use Rattle.table_files.specs.Files.{file_at}
 use Rattle.table_files.specs.Headers.{IsTableFile, IsLoadFile}
@@ -87,3 +88,10 @@ tables_before files n tables some within is =
     ap (λ (t : TableSet). with_file t (file_at files n)) is
     ∙ ap (λ (k : ℕ). with_file (tables_of (drop k files)) (file_at files k)) (sym back)
     ∙ sym (tables_on files (n - 1) (omega arith))
+
+-- whether something holds of one of the files that are left, by the first of them
+pub any_step : (holds : List ℕ → Bool) (files : List (List ℕ)) (i : ℕ) → i < length files → list_any holds (drop i files) ≡ (holds (file_at files (i + 1)) || list_any holds (drop (i + 1) files))
+any_step holds files i within = ap (list_any holds) (front files i [] (file_at files (i + 1)) within (file_back files i))
+
+pub any_none : (holds : List ℕ → Bool) (files : List (List ℕ)) (i : ℕ) → length files ≤ i → list_any holds (drop i files) ≡ false
+any_none holds files i end = ap (list_any holds) (drop_all i files end)

@@ -1,8 +1,8 @@
 -- A run at one more frame.
-use Rattle.std.proofs.Common.{◌≡◌, ℕ, ◌+◌, ◌<◌, List, [], ◌∷◌, ◌++◌, length, refl, sym, ◌∙◌, ap, subst, fold, arith, add-zero, zero-add, true, false, Bool, All, Box, Global, Option, Some, None}
+use Rattle.std.proofs.Common.{◌≡◌, ℕ, ◌+◌, ◌<◌, List, [], ◌∷◌, ◌++◌, length, refl, sym, ◌∙◌, ap, subst, fold, arith, add-zero, zero-add, true, false, Bool, not, All, Box, Global, Option, Some, None}
 use Rattle.std.specs.List.{flat_map}
 use Rattle.std.proofs.lemmas.List.Sums.{fold_push}
-use Rattle.bus_pipes.specs.Pipes.{empty_pipes}
+use Rattle.bus_pipes.specs.Pipes.{Pipes, empty_pipes, emptied_pipes}
 use Rattle.bus_pipes.specs.Delivery.{drops_from}
 use Rattle.bus_pipes.specs.declared.names.Out.{Out}
 use Rattle.bus_pipes.specs.declared.names.Dropped.{Dropped}
@@ -39,14 +39,17 @@ use Rattle.cs_slices.specs.declared.state.Cs.{Cs}
 use Rattle.cs_slices.proofs.Histories.{tables_begun as cs_begun}
 use Rattle.md_dwell.specs.declared.state.Md.{Md}
 use Rattle.md_dwell.specs.State.{Stands as MdStands, AllGiven}
-use Rattle.frame_exec.specs.Tables.{TableSet, Loaded, AreGiven, with_file, tables_of}
-use Rattle.frame_exec.specs.Applications.{cs_tables, hs_setup, hs_stands, cs_stands, sc_stands, mm_stands, md_stands}
+use Rattle.lc_watch.specs.State.{Stands as LcStands}
+use Rattle.lc_watch.specs.declared.state.Lc.{Lc}
+use Rattle.bus_pipes.proofs.Deliveries.{watched_after}
+use Rattle.frame_exec.specs.Tables.{TableSet, Loaded, AreGiven, with_file, tables_of, lc_named}
+use Rattle.frame_exec.specs.Applications.{cs_tables, hs_setup, lc_setup, hs_stands, cs_stands, sc_stands, mm_stands, md_stands, lc_stands}
 use Rattle.frame_exec.proofs.Health.{tables_begun as hs_begun}
 use Rattle.frame_exec.specs.Sending.{upset_by}
-use Rattle.frame_exec.specs.Runs.{Setup, State, time_at, active_in, beginning, runs_at, with_active, after_line, after_naming, after_activation, activated_at, after_wakeups, image_at, left_by, sent_at, offers_at, after_frame, run_of, frame_lines, lines_at, operations_at, resets_at, behind_reset, behind}
+use Rattle.frame_exec.specs.Runs.{Setup, State, time_at, active_in, beginning, lc_input_at, runs_at, with_active, after_line, after_naming, after_activation, activated_at, after_wakeups, image_at, left_by, sent_at, offers_at, after_frame, run_of, frame_lines, lines_at, operations_at, resets_at, behind_reset, behind}
 use Rattle.frame_exec.specs.Standing.{AppsStand, Has, IsReady, Stands, CanRun}
 use Rattle.frame_exec.specs.Landable.{CanLand}
-use Rattle.frame_exec.specs.Wakes.{joined}
+use Rattle.frame_exec.specs.Wakes.{history_after, joined}
 use Rattle.frame_exec.specs.Stages.{KeepsApps, RunsIn, IsSameFrame, Lands, StartsAnew, HasGiven, loads_in}
 
 -- what a run has come to, at one more frame
@@ -140,6 +143,45 @@ pub run_regions : (setup : Setup) (frames : List Frame) → regions_of (run_of s
 unfolding run_of beginning
 run_regions setup frames = regions_from setup (beginning setup) frames ∙ regions-cut setup.regions _
 
+-- whether LC is there stays
+frame_watched : (setup : Setup) (s : State) (frame : Frame) → (after_frame setup s frame).pipes.watched ≡ s.pipes.watched
+unfolding after_frame after_wakeups behind_reset left_by activated_at
+frame_watched setup s frame =
+    let t = activated_at setup s frame in
+    behind_keeps (λ (u : State). u.pipes.watched) (resets_at setup t frame) setup (after_wakeups setup t frame) refl
+    ∙ watched_after (left_by frame.held t.pipes) (offers_at setup t frame) ∙ activations_keep (λ (u : State). u.pipes.watched) setup s frame.activations (λ u kind tables. refl)
+
+watched_from : (setup : Setup) (s : State) (frames : List Frame) → (fold (after_frame setup) s frames).pipes.watched ≡ s.pipes.watched
+watched_from setup s [] = refl
+watched_from setup s (frame ∷ frames) = watched_from setup (after_frame setup s frame) frames ∙ frame_watched setup s frame
+
+-- in a run it is there exactly where a table of it is named
+pub run_watched : (setup : Setup) (frames : List Frame) → (run_of setup frames).pipes.watched ≡ lc_named setup.files
+unfolding run_of beginning
+run_watched setup frames = watched_from setup (beginning setup) frames
+
+-- LC's history stays where it isn't there
+frame_limits : (setup : Setup) (s : State) (frame : Frame) → s.pipes.watched ≡ false → s.lc ≡ [] → (after_frame setup s frame).lc ≡ []
+unfolding after_frame after_wakeups behind_reset beginning activated_at
+frame_limits setup s frame away none =
+    let t = activated_at setup s frame in
+    let pipes : t.pipes ≡ s.pipes = activations_keep (λ (u : State). u.pipes) setup s frame.activations (λ u kind tables. refl) in
+    let history : t.lc ≡ s.lc = activations_keep (λ (u : State). u.lc) setup s frame.activations (λ u kind tables. refl) in
+    let stays : (after_wakeups setup t frame).lc ≡ [] = ap (λ (w : Bool). history_after (not w) t.lc (lc_input_at setup t)) (ap (λ (p : Pipes). p.watched) pipes ∙ away) ∙ history ∙ none in
+    by_reset (resets_at setup t frame) t stays
+  where
+    by_reset : (resets : Bool) (t : State) → (after_wakeups setup t frame).lc ≡ [] → (behind resets setup (after_wakeups setup t frame)).lc ≡ []
+    by_reset true t stays = refl
+    by_reset false t stays = stays
+
+limits_from : (setup : Setup) (s : State) (frames : List Frame) → s.pipes.watched ≡ false → s.lc ≡ [] → (fold (after_frame setup) s frames).lc ≡ []
+limits_from setup s [] away none = none
+limits_from setup s (frame ∷ frames) away none = limits_from setup (after_frame setup s frame) frames (frame_watched setup s frame ∙ away) (frame_limits setup s frame away none)
+
+pub run_limits : (setup : Setup) (frames : List Frame) → lc_named setup.files ≡ false → (run_of setup frames).lc ≡ []
+unfolding run_of beginning
+run_limits setup frames away = limits_from setup (beginning setup) frames away refl
+
 -- the states of the applications stand for their histories, where they were kept
 pub apps_kept : (before b : Bench) (s : State) → KeepsApps before b → AppsStand before s → AppsStand b s
 apps_kept before b s kept stand = record {
@@ -148,6 +190,7 @@ apps_kept before b s kept stand = record {
   sc = subst (λ (state : Box Sc Global). sc_stands (active_in s) s.sc state.value) (sym kept.sc) stand.sc;
   mm = subst (λ (state : Box Mm Global). mm_stands s.tables s.mm state.value) (sym kept.mm) stand.mm;
   md = subst (λ (state : Box Md Global). md_stands (active_in s) s.md state.value) (sym kept.md) stand.md;
+  lc = subst (λ (state : Box Lc Global). lc_stands (lc_setup s.tables) s.lc state.value) (sym kept.lc) stand.lc;
 }
 
 -- the applications can be woken, where their states, the tables and the regions were kept
@@ -180,7 +223,7 @@ has_after before b setup s frame kept pipes log memory number tables ran = recor
 
 -- the states of the applications were kept twice
 kept_twice : (a b c : Bench) → KeepsApps a b → KeepsApps b c → KeepsApps a c
-kept_twice a b c first second = record { hs = second.hs ∙ first.hs; cs = second.cs ∙ first.cs; sc = second.sc ∙ first.sc; mm = second.mm ∙ first.mm; md = second.md ∙ first.md }
+kept_twice a b c first second = record { hs = second.hs ∙ first.hs; cs = second.cs ∙ first.cs; sc = second.sc ∙ first.sc; mm = second.mm ∙ first.mm; md = second.md ∙ first.md; lc = second.lc ∙ first.lc }
 
 -- A frame was run after these frames, its lines were given away, and then its operations landed.
 module _ (before middle b : Bench) (setup : Setup) (frames : List Frame) (frame : Frame) (same : IsSameFrame before middle) (lands : Lands middle b) where
@@ -228,12 +271,12 @@ can_land_still before middle same can =
     (subst (λ (m : Memory). CanLand (loads_in before) m middle.ops.value) (sym same.memory) (subst (λ (ops : List MemOp). CanLand (loads_in before) before.ram ops) (sym same.operations) can))
 
 -- a bench whose histories begin: with this number of frames, at this time of SC, and with these resets of HS
-pub has_begun : (b : Bench) (setup : Setup) (number began resets limit : ℕ) (made : List (List ℕ)) (memory : Memory) → b.number ≡ number → b.tables.set ≡ tables_of setup.files
+pub has_begun : (b : Bench) (setup : Setup) (number began resets limit : ℕ) (pipes : Pipes) (made : List (List ℕ)) (memory : Memory) → b.number ≡ number → b.tables.set ≡ tables_of setup.files
     → HsStands (setup_of b.tables.set.hs resets limit) [] b.hs.state.value → CsStands (cs_tables b.tables.set) [] b.cs.state.value → ScStands (begun_at began b.tables.set.sc) [] b.sc.state.value
-    → MmStands [] b.mm.state.value → MdStands b.tables.set.dwells [] b.md.state.value → b.bus ≡ empty_pipes → LogStands made b.log → b.ram ≡ memory
-    → Has b (record (beginning setup) { number = number; began = began; resets = resets; limit = limit; made = made; memory = memory })
+    → MmStands [] b.mm.state.value → MdStands b.tables.set.dwells [] b.md.state.value → LcStands b.tables.set.wdt b.tables.set.adt [] b.lc.slot.state.value → b.bus ≡ pipes → LogStands made b.log → b.ram ≡ memory
+    → Has b (record (beginning setup) { number = number; began = began; resets = resets; limit = limit; pipes = pipes; made = made; memory = memory })
 unfolding beginning
-has_begun b setup number began resets limit made memory numbered tables hs cs sc mm md pipes log image =
+has_begun b setup number began resets limit pipes made memory numbered tables hs cs sc mm md lc held log image =
     let set = tables_of setup.files in
     record {
       number = numbered;
@@ -244,8 +287,9 @@ has_begun b setup number began resets limit made memory numbered tables hs cs sc
         sc = (sym (sc_begun (begun_at began set.sc)), subst (λ (t : TableSet). ScStands (begun_at began t.sc) [] b.sc.state.value) tables sc);
         mm = mm;
         md = subst (λ (t : TableSet). MdStands t.dwells [] b.md.state.value) tables md;
+        lc = subst (λ (t : TableSet). LcStands t.wdt t.adt [] b.lc.slot.state.value) tables lc;
       };
-      pipes = pipes;
+      pipes = held;
       made = log;
       memory = image;
     }
@@ -261,25 +305,25 @@ ready_begun b regions same sequences dwells given = record {
 -- a bench that was opened stands for no frames
 pub stands_opened : (b : Bench) (setup : Setup) → b.epoch ≡ setup.epoch → b.tables.files ≡ setup.files → b.failed ≡ false → b.block ≡ empty_block → b.number ≡ 0 → b.tables.set ≡ tables_of setup.files
     → HsStands (setup_of b.tables.set.hs 0 3) [] b.hs.state.value → CsStands (cs_tables b.tables.set) [] b.cs.state.value → ScStands (begun_at setup.epoch b.tables.set.sc) [] b.sc.state.value → MmStands [] b.mm.state.value
-    → MdStands b.tables.set.dwells [] b.md.state.value → AreGiven setup.regions b.tables → ScIsReady b.tables.set.sc b.sc.state.value → AllGiven setup.regions b.md.state.value → b.bus ≡ empty_pipes → LogStands [] b.log → b.ram ≡ start_memory setup.regions → Stands b setup []
+    → MdStands b.tables.set.dwells [] b.md.state.value → LcStands b.tables.set.wdt b.tables.set.adt [] b.lc.slot.state.value → AreGiven setup.regions b.tables → ScIsReady b.tables.set.sc b.sc.state.value → AllGiven setup.regions b.md.state.value → b.bus ≡ empty_pipes (lc_named setup.files) → LogStands [] b.log → b.ram ≡ start_memory setup.regions → Stands b setup []
 unfolding run_of beginning
-stands_opened b setup epoch files well waits number tables hs cs sc mm md given sequences dwells pipes made memory = record {
+stands_opened b setup epoch files well waits number tables hs cs sc mm md lc given sequences dwells pipes made memory = record {
   epoch = epoch;
   files = files;
   well = well;
   waits = waits;
-  has = has_begun b setup 0 setup.epoch 0 3 [] (start_memory setup.regions) number tables hs cs sc mm md pipes made memory;
+  has = has_begun b setup 0 setup.epoch 0 3 (empty_pipes (lc_named setup.files)) [] (start_memory setup.regions) number tables hs cs sc mm md lc pipes made memory;
   ready = ready_begun b setup.regions (ap (λ (m : Memory). regions_of m.areas) memory ∙ regions-cut setup.regions _) sequences dwells given;
 }
 
 -- a bench that started anew has what the run comes to behind a processor reset
 pub has_anew : (b : Bench) (setup : Setup) (s : State) (began resets limit : ℕ) → began ≡ time_at setup s → resets ≡ resets_made (hs_setup (active_in s)) s.hs → limit ≡ resets_maximum (hs_setup (active_in s)) s.hs
-    → Has b (record (beginning setup) { number = s.number; began = began; resets = resets; limit = limit; made = s.made; memory = s.memory }) → Has b (behind_reset setup s)
+    → Has b (record (beginning setup) { number = s.number; began = began; resets = resets; limit = limit; pipes = emptied_pipes s.pipes; made = s.made; memory = s.memory }) → Has b (behind_reset setup s)
 unfolding behind_reset
 has_anew b setup s began resets limit at made most has =
-    subst (λ (n : ℕ). Has b (record (beginning setup) { number = s.number; began = time_at setup s; resets = resets_made (hs_setup (active_in s)) s.hs; limit = n; made = s.made; memory = s.memory })) most
-    (subst (λ (n : ℕ). Has b (record (beginning setup) { number = s.number; began = time_at setup s; resets = n; limit = limit; made = s.made; memory = s.memory })) made
-    (subst (λ (n : ℕ). Has b (record (beginning setup) { number = s.number; began = n; resets = resets; limit = limit; made = s.made; memory = s.memory })) at has))
+    subst (λ (n : ℕ). Has b (record (beginning setup) { number = s.number; began = time_at setup s; resets = resets_made (hs_setup (active_in s)) s.hs; limit = n; pipes = emptied_pipes s.pipes; made = s.made; memory = s.memory })) most
+    (subst (λ (n : ℕ). Has b (record (beginning setup) { number = s.number; began = time_at setup s; resets = n; limit = limit; pipes = emptied_pipes s.pipes; made = s.made; memory = s.memory })) made
+    (subst (λ (n : ℕ). Has b (record (beginning setup) { number = s.number; began = n; resets = resets; limit = limit; pipes = emptied_pipes s.pipes; made = s.made; memory = s.memory })) at has))
 
 -- and where one was asked for
 pub has_behind : (b : Bench) (setup : Setup) (s : State) (resets : Bool) → resets ≡ true → Has b (behind_reset setup s) → Has b (behind resets setup s)

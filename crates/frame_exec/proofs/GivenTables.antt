@@ -17,12 +17,16 @@ use Rattle.hs_tables.specs.Apps as apps
 use Rattle.hs_tables.specs.Events as events
 use Rattle.hs_tables.specs.Counters as counters
 use Rattle.hs_tables.specs.Actions as actions
+use Rattle.lc_watch.specs.Watchpoints as watchpoints
+use Rattle.lc_watch.specs.Actionpoints as actionpoints
+use Rattle.lc_watch.specs.declared.watchpoints.WatchRow.{WatchRow}
+use Rattle.lc_watch.specs.declared.actionpoints.ActRow.{ActRow}
 use Rattle.hs_tables.specs.declared.tables.HsTables.{HsTables}
 use Rattle.cs_slices.specs.Tables.{segments_of, segments_fault_of, blank_segment, blank_segments}
 use Rattle.cs_slices.specs.Given.{is_given as is_segment_given, first_refused as first_refused_segment, SegmentsGiven}
 use Rattle.cs_slices.proofs.Refusing.{none_refused as no_segment_refused}
 use Rattle.table_files.specs.declared.kinds.TableKind.{TableKind}
-use Rattle.table_files.specs.declared.kinds.TableKind.TheVariants.{AppMon, EventMon, ExeCount, MsgActs, Ats, Rts, Dwell, Eeprom, Memory}
+use Rattle.table_files.specs.declared.kinds.TableKind.TheVariants.{AppMon, EventMon, ExeCount, MsgActs, Ats, Rts, Dwell, Eeprom, Memory, Wdt, Adt}
 use Rattle.table_files.specs.Headers.{kind_of_file, payload_of_file}
 use Rattle.frame_exec.specs.Tables.{TableSet, Loaded, AreLoaded, AreGiven, SetGiven, blank_tables, by_kind, by_file, where_well, with_table, with_file, tables_of, said_or, first_said, refused_entry, refused_in, tables_fault, region_fault}
 
@@ -56,6 +60,14 @@ module _ (regions : List Region) (tables : TableSet) (given : SetGiven regions t
   sc_given sc None = record { dwells = given.dwells; eeprom = given.eeprom; memory = given.memory }
   sc_given sc (Some fault) = given
 
+  watch_given : (wdt : List WatchRow) (fault : Option EntryFault) → SetGiven regions (where_well (record tables { wdt = wdt }) tables fault)
+  watch_given wdt None = record { dwells = given.dwells; eeprom = given.eeprom; memory = given.memory }
+  watch_given wdt (Some fault) = given
+
+  act_given : (adt : List ActRow) (fault : Option EntryFault) → SetGiven regions (where_well (record tables { adt = adt }) tables fault)
+  act_given adt None = record { dwells = given.dwells; eeprom = given.eeprom; memory = given.memory }
+  act_given adt (Some fault) = given
+
   table_given : (kind : TableKind) (payload : List ℕ) → refused_entry regions kind payload ≡ None → SetGiven regions (with_table tables kind payload)
   table_given (Dwell n) payload none = dwell_given n payload (dwell_fault_of payload) none
   table_given Eeprom payload none = eeprom_given payload (segments_fault_of payload) none
@@ -66,6 +78,8 @@ module _ (regions : List Region) (tables : TableSet) (given : SetGiven regions t
   table_given MsgActs payload none = hs_given (record tables.hs { acts = actions.rows_of payload }) (actions.rows_fault_of payload)
   table_given (Ats n) payload none = sc_given (slice_set tables.sc (n - 1) (map of_timed (ats_of payload))) (ats_fault_of payload)
   table_given (Rts n) payload none = sc_given (slice_set tables.sc (n + 1) (map of_relative (rts_of payload))) (rts_fault_of payload)
+  table_given Wdt payload none = watch_given (watchpoints.rows_of payload) (watchpoints.rows_fault_of payload)
+  table_given Adt payload none = act_given (actionpoints.rows_of payload) (actionpoints.rows_fault_of payload)
 
   kind_given : (kind : Option TableKind) (payload : List ℕ) → by_kind None (refused_entry regions) kind payload ≡ None → SetGiven regions (by_kind tables (with_table tables) kind payload)
   kind_given None payload none = given

@@ -25,25 +25,29 @@ use Rattle.mm_core.specs.declared.state.Mm.{Mm}
 use Rattle.md_dwell.specs.State.{Stands as MdStands, AllGiven}
 use Rattle.md_dwell.specs.Given.{TablesGiven}
 use Rattle.hs_monitors.specs.State.{Stands as HsStands}
+use Rattle.lc_watch.specs.Histories.{Setup as LcSetup}
+use Rattle.lc_watch.specs.declared.state.Lc.{Lc}
 use Rattle.frame_exec.specs.declared.bench.TheConstants.{DROPS, ACTIVATIONS}
 use Rattle.frame_exec.specs.declared.bench.Bench.{Bench}
 use Rattle.frame_exec.specs.declared.activations.Naming.{Naming}
 use Rattle.frame_exec.specs.declared.activations.Naming.TheVariants.{Accepted, Refused, Running}
 use Rattle.frame_exec.specs.Tables.{TableSet, Loaded, AreGiven, with_table, with_file}
 use Rattle.frame_exec.specs.Activations.{can_activate, naming_of, TakesTable, hs_activated, cs_activated, sc_activated, md_activated, table_event}
-use Rattle.frame_exec.specs.Applications.{cs_tables, sc_begun, hs_setup, mm_stands}
+use Rattle.frame_exec.specs.Applications.{cs_tables, sc_begun, hs_setup, lc_setup, mm_stands, lc_stands}
 use Rattle.frame_exec.specs.Runs.{Setup, State, time_at, active_in, runs_at, naming_at, with_active, after_line, after_naming, after_activation, activated_at, table_events}
+use Rattle.frame_exec.specs.Jobs.{jobs_of}
 use Rattle.frame_exec.specs.Standing.{Has, IsReady}
 use Rattle.frame_exec.specs.Stages.{GoesOn, NamesFile, Activates, IsUpset, time_of}
 use Rattle.scenario.specs.FrameLists.{Frame}
 use Rattle.frame_exec.proofs.Frames.{activations_keep, folded_number}
 use Rattle.frame_exec.proofs.GivenTables.{file_given}
-use Rattle.frame_exec.proofs.Activating.{hs_follow, hs_goes, cs_follow, sc_follow, sc_goes, runs_kept, event_of_table, with_kind, given_file}
+use Rattle.frame_exec.proofs.Activating.{hs_follow, hs_goes, cs_follow, sc_follow, sc_goes, limits_stay, runs_kept, event_of_table, with_kind, given_file}
 
 -- what a bench keeps where a table becomes active
 pub record KeepsRest (old new : Bench) : Type 0 where
   pub sc : new.sc.state ≡ old.sc.state
   pub mm : new.mm.state ≡ old.mm.state
+  pub lc : new.lc.slot.state ≡ old.lc.slot.state
   pub pipes : new.bus ≡ old.bus
   pub log : new.log ≡ old.log
   pub memory : new.ram ≡ old.ram
@@ -81,6 +85,8 @@ module _ (old new : Bench) (kind : TableKind) (payload : List ℕ) (known : IsKn
           );
           mm = subst (λ (state : Box Mm Global). mm_stands s.tables s.mm state.value) (sym keeps.mm) has.apps.mm;
           md = subst (λ (t : TableSet). MdStands s.first.dwells (s.md ++ md_activated kind t.dwells) new.md.state.value) same (takes.dwells s.first.dwells s.md has.apps.md);
+          lc = subst (λ (limits : LcSetup). lc_stands limits s.lc new.lc.slot.state.value) (sym (limits_stay s.tables kind payload can))
+              (subst (λ (state : Box Lc Global). lc_stands (lc_setup s.tables) s.lc state.value) (sym keeps.lc) has.apps.lc);
         };
         pipes = keeps.pipes ∙ has.pipes;
         made = subst (λ (log : List ℕ). LogStands s.made log) (sym keeps.log) has.made;
@@ -170,17 +176,17 @@ named_active old new n kind is known can rests tables takes keeps goes told = re
 }
 
 -- what was told of activations is no part of what a run has come to
-pub has_told : (b : Bench) (events : Held Out) (drops : b.drops.room ≡ DROPS) (jobs : b.crew.jobs ≡ 5) (room : events.room ≡ ACTIVATIONS) (s : State) → Has b s → Has (record b { activations = events; drops_room = drops; five = jobs; activations_room = room }) s
+pub has_told : (b : Bench) (events : Held Out) (drops : b.drops.room ≡ DROPS) (jobs : b.crew.jobs ≡ jobs_of b.bus.watched) (room : events.room ≡ ACTIVATIONS) (s : State) → Has b s → Has (record b { activations = events; drops_room = drops; manned = jobs; activations_room = room }) s
 has_told b events drops jobs room s has = record {
   number = has.number;
   tables = has.tables;
-  apps = record { hs = has.apps.hs; cs = has.apps.cs; sc = has.apps.sc; mm = has.apps.mm; md = has.apps.md };
+  apps = record { hs = has.apps.hs; cs = has.apps.cs; sc = has.apps.sc; mm = has.apps.mm; md = has.apps.md; lc = has.apps.lc };
   pipes = has.pipes;
   made = has.made;
   memory = has.memory;
 }
 
-pub ready_told : (b : Bench) (events : Held Out) (drops : b.drops.room ≡ DROPS) (jobs : b.crew.jobs ≡ 5) (room : events.room ≡ ACTIVATIONS) → IsReady b → IsReady (record b { activations = events; drops_room = drops; five = jobs; activations_room = room })
+pub ready_told : (b : Bench) (events : Held Out) (drops : b.drops.room ≡ DROPS) (jobs : b.crew.jobs ≡ jobs_of b.bus.watched) (room : events.room ≡ ACTIVATIONS) → IsReady b → IsReady (record b { activations = events; drops_room = drops; manned = jobs; activations_room = room })
 ready_told b events drops jobs room ready = record { sc = ready.sc; md = ready.md; given = ready.given }
 
 -- which sequences run is the same behind lines that name files, and so is what becomes of further ones
@@ -201,7 +207,7 @@ events_stay setup s numbers (n ∷ more) =
     ∙ ap (λ (items : List Out). table_event (time_at setup s) (naming_at s (kind_at setup.files n)) ∷ items) (events_stay setup s numbers more)
 
 -- no file more is named
-pub activates_none : (b : Bench) (events : Held Out) (drops : b.drops.room ≡ DROPS) (jobs : b.crew.jobs ≡ 5) (room : events.room ≡ ACTIVATIONS) → events.items ≡ [] → Activates [] [] b (record b { activations = events; drops_room = drops; five = jobs; activations_room = room })
+pub activates_none : (b : Bench) (events : Held Out) (drops : b.drops.room ≡ DROPS) (jobs : b.crew.jobs ≡ jobs_of b.bus.watched) (room : events.room ≡ ACTIVATIONS) → events.items ≡ [] → Activates [] [] b (record b { activations = events; drops_room = drops; manned = jobs; activations_room = room })
 unfolding table_events
 activates_none b events drops jobs room none = record {
   goes = record { waits = refl; epoch = refl; number = refl; failed = refl; files = refl };
@@ -217,7 +223,7 @@ pub upset_none : (b : Bench) → IsUpset [] b b
 upset_none b = record {
   run = record { waits = refl; epoch = refl; number = refl; failed = refl; tables = refl };
   told = refl;
-  apps = record { hs = refl; cs = refl; sc = refl; mm = refl; md = refl };
+  apps = record { hs = refl; cs = refl; sc = refl; mm = refl; md = refl; lc = refl };
   pipes = refl;
   log = refl;
   memory = refl;
@@ -251,9 +257,9 @@ activates_more old middle new numbers more told between same first second =
     }
 
 -- what was told of one file
-pub activates_one : (old middle : Bench) (n : ℕ) (naming : Naming) (time : ℕ) (events : Held Out) (drops : middle.drops.room ≡ DROPS) (jobs : middle.crew.jobs ≡ 5) (room : events.room ≡ ACTIVATIONS)
+pub activates_one : (old middle : Bench) (n : ℕ) (naming : Naming) (time : ℕ) (events : Held Out) (drops : middle.drops.room ≡ DROPS) (jobs : middle.crew.jobs ≡ jobs_of middle.bus.watched) (room : events.room ≡ ACTIVATIONS)
     → ((setup : Setup) (s : State) → old.tables.files ≡ setup.files → Has old s → naming ≡ naming_at s (kind_at setup.files n)) → time ≡ time_of old → NamesFile n old middle
-    → events.items ≡ middle.activations.items ++ table_event time naming ∷ [] → Activates (n ∷ []) old.activations.items old (record middle { activations = events; drops_room = drops; five = jobs; activations_room = room })
+    → events.items ≡ middle.activations.items ++ table_event time naming ∷ [] → Activates (n ∷ []) old.activations.items old (record middle { activations = events; drops_room = drops; manned = jobs; activations_room = room })
 unfolding table_events
 activates_one old middle n naming time events drops jobs room is at names told =
     let told_here : events.items ≡ old.activations.items ++ table_event time naming ∷ [] = told ∙ ap (λ (held : Held Out). held.items ++ table_event time naming ∷ []) names.told in
@@ -278,21 +284,8 @@ pub events_at : (setup : Setup) (s : State) (frame : Frame) (items : List Out) (
 unfolding activated_at
 events_at setup s frame items numbers is told = told ∙ ap (table_events setup s) is ∙ sym (events_stay setup s frame.activations frame.activations)
 
-none_told : (items : List Out) → true ≡ (length items == 0) → items ≡ []
-none_told [] none = refl
-none_told (item ∷ items) none = absurd (grind (arith, nat_tests))
-
--- no file is named, and nothing was told of an earlier frame's
-pub activates_nothing : (b : Bench) (numbers : List ℕ) → true ≡ (length numbers == 0) → true ≡ (length b.activations.items == 0) → Activates numbers [] b b
-unfolding table_events
-activates_nothing b [] none told =
-    let empty = none_told b.activations.items told in
-    record {
-      goes = record { waits = refl; epoch = refl; number = refl; failed = refl; files = refl };
-      memory = refl;
-      many = ap (λ (items : List Out). length items) empty;
-      counted = λ counted. subst (AllPass is_item_counted) (sym empty) counted;
-      events = λ setup s epoch files has. empty;
-      has = λ setup s files has. has;
-    }
-activates_nothing b (n ∷ numbers) none told = absurd (grind (arith, nat_tests))
+-- no file is named
+pub activates_nothing : (b : Bench) (numbers : List ℕ) (events : Held Out) (drops : b.drops.room ≡ DROPS) (jobs : b.crew.jobs ≡ jobs_of b.bus.watched) (room : events.room ≡ ACTIVATIONS) → true ≡ (length numbers == 0) → events.items ≡ []
+    → Activates numbers [] b (record b { activations = events; drops_room = drops; manned = jobs; activations_room = room })
+activates_nothing b [] events drops jobs room none empty = activates_none b events drops jobs room empty
+activates_nothing b (n ∷ numbers) events drops jobs room none empty = absurd (grind (arith, nat_tests))

@@ -1,5 +1,5 @@
 -- The applications of the bench, woken in a frame.
-use Rattle.std.proofs.Common.{◌≡◌, Bool, ℕ, ◌+◌, List, ◌++◌, ◌∙◌, ap, subst, sym, refl}
+use Rattle.std.proofs.Common.{◌≡◌, Bool, not, ℕ, ◌+◌, List, ◌++◌, ◌∙◌, ap, subst, sym, refl}
 use Rattle.std.specs.List.{flat_map, list_any}
 use Rattle.bus_pipes.specs.Delivery.{after_offers, drops_from}
 use Rattle.bus_pipes.specs.Held.{Held}
@@ -15,9 +15,9 @@ use Rattle.scenario.specs.declared.frame.App.TheVariants as names
 use Rattle.scenario.specs.FrameLists.{Frame}
 use Rattle.frame_exec.specs.declared.bench.Bench.{Bench}
 use Rattle.frame_exec.specs.Tables.{TableSet, Loaded}
-use Rattle.frame_exec.specs.Applications.{cs_tables, hs_stands, cs_stands, sc_stands, mm_stands, md_stands, hs_gives, cs_gives, sc_gives, mm_gives, md_gives, hs_reads, cs_reads, sc_reads, mm_reads, md_reads}
+use Rattle.frame_exec.specs.Applications.{cs_tables, lc_setup, hs_stands, cs_stands, sc_stands, mm_stands, md_stands, lc_stands, hs_gives, cs_gives, sc_gives, mm_gives, md_gives, lc_gives, hs_reads, cs_reads, sc_reads, mm_reads, md_reads, lc_reads}
 use Rattle.frame_exec.specs.Wakes.{HasTaken, IsWoken, unless, joined}
-use Rattle.frame_exec.specs.Runs.{Setup, State, table_events, is_held, active_in, time_at, image_at, hs_input_at, cs_input_at, sc_input_at, mm_input_at, md_input_at, items_at, operations_at, left_by, sent_at, resets_at, offers_at, after_wakeups}
+use Rattle.frame_exec.specs.Runs.{Setup, State, table_events, is_held, is_away, active_in, time_at, image_at, hs_input_at, cs_input_at, sc_input_at, mm_input_at, md_input_at, lc_input_at, items_at, operations_at, left_by, sent_at, resets_at, offers_at, after_wakeups}
 use Rattle.frame_exec.specs.Standing.{AppsStand}
 use Rattle.frame_exec.specs.Stages.{Takes, Steps, Sends, RunsIn, loads_in, time_of, items_in}
 use Rattle.frame_exec.proofs.Frames.{apps_kept}
@@ -58,6 +58,9 @@ module _ (setup : Setup) (s : State) (frame : Frame) (start took stepped : Bench
   md_took : HasTaken (is_held names.Md frame) s.pipes.md took.md.held took.md.commands took.md.out.items
   md_took = subst (λ (p : Pipes). HasTaken (is_held names.Md frame) p.md took.md.held took.md.commands took.md.out.items) pipes takes.md
 
+  lc_took : HasTaken (is_away s) s.pipes.lc took.lc.slot.held took.lc.slot.commands took.lc.slot.out.items
+  lc_took = subst (λ (p : Pipes). HasTaken (not p.watched) p.lc took.lc.slot.held took.lc.slot.commands took.lc.slot.out.items) pipes takes.lc
+
   hs_woken : IsWoken (hs_stands (active_in s)) (hs_gives (active_in s)) took.hs.held (hs_reads (time_at setup s) took.hs.commands s.pipes.hs_ev frame.counters) took.hs.state.value stepped.hs.state.value stepped.hs.out.items
   hs_woken =
       seen_by (hs_stands (active_in s)) (hs_gives (active_in s)) (λ events. hs_reads (time_at setup s) took.hs.commands events frame.counters) (is_held names.Hs frame) took.hs.held took.events s.pipes.hs_ev took.hs.state.value
@@ -85,8 +88,15 @@ module _ (setup : Setup) (s : State) (frame : Frame) (start took stepped : Bench
   md_woken = moved (λ (t : TableSet) (n : ℕ) (m : Memory). IsWoken (md_stands (active_in s)) (md_gives (active_in s)) took.md.held (md_reads n took.md.commands m) took.md.state.value stepped.md.state.value stepped.md.out.items)
       took.tables.set s.tables (time_of took) (time_at setup s) took.ram (image_at s frame) same_tables same_time same_image (steps.md (active_in s))
 
+  lc_woken : IsWoken (lc_stands (lc_setup s.tables)) (lc_gives (lc_setup s.tables)) took.lc.slot.held (lc_reads (time_at setup s) took.lc.slot.commands s.pipes.lc_tlm) took.lc.slot.state.value stepped.lc.slot.state.value stepped.lc.slot.out.items
+  lc_woken =
+      seen_by (lc_stands (lc_setup s.tables)) (lc_gives (lc_setup s.tables)) (λ telemetry. lc_reads (time_at setup s) took.lc.slot.commands telemetry) (is_away s) took.lc.slot.held took.lc.telemetry.items s.pipes.lc_tlm took.lc.slot.state.value
+      stepped.lc.slot.state.value stepped.lc.slot.out.items lc_took.same (λ free. takes.telemetry (ap (λ (p : Pipes). not p.watched) pipes ∙ free) ∙ ap (λ (p : Pipes). p.lc_tlm) pipes)
+      (of_both (λ (t : TableSet) (n : ℕ). IsWoken (lc_stands (lc_setup t)) (lc_gives (lc_setup t)) took.lc.slot.held (lc_reads n took.lc.slot.commands took.lc.telemetry.items) took.lc.slot.state.value stepped.lc.slot.state.value stepped.lc.slot.out.items) _ _ _ _ same_tables same_time
+      steps.lc)
+
   pub apps_after : AppsStand stepped (after_wakeups setup s frame)
-  unfolding after_wakeups hs_input_at cs_input_at sc_input_at mm_input_at md_input_at
+  unfolding after_wakeups hs_input_at cs_input_at sc_input_at mm_input_at md_input_at lc_input_at
   apps_after = record {
     hs = woken_state (hs_stands (active_in s)) (hs_gives (active_in s)) (λ commands. hs_reads (time_at setup s) commands s.pipes.hs_ev frame.counters) _ took.hs.held s.pipes.hs took.hs.commands took.hs.out.items stepped.hs.out.items took.hs.state.value
         stepped.hs.state.value s.hs hs_took hs_woken stand.hs;
@@ -98,10 +108,12 @@ module _ (setup : Setup) (s : State) (frame : Frame) (start took stepped : Bench
         stepped.mm.state.value s.mm mm_took mm_woken stand.mm;
     md = woken_state (md_stands (active_in s)) (md_gives (active_in s)) (λ commands. md_reads (time_at setup s) commands (image_at s frame)) _ took.md.held s.pipes.md took.md.commands took.md.out.items stepped.md.out.items took.md.state.value
         stepped.md.state.value s.md md_took md_woken stand.md;
+    lc = woken_state (lc_stands (lc_setup s.tables)) (lc_gives (lc_setup s.tables)) (λ commands. lc_reads (time_at setup s) commands s.pipes.lc_tlm) _ took.lc.slot.held s.pipes.lc took.lc.slot.commands took.lc.slot.out.items stepped.lc.slot.out.items
+        took.lc.slot.state.value stepped.lc.slot.state.value s.lc lc_took lc_woken stand.lc;
   }
 
   pub items_after : items_in stepped ≡ items_at setup s frame
-  unfolding items_at hs_input_at cs_input_at sc_input_at mm_input_at md_input_at
+  unfolding items_at hs_input_at cs_input_at sc_input_at mm_input_at md_input_at lc_input_at
   items_after =
       let hs = woken_items (hs_stands (active_in s)) (hs_gives (active_in s)) (λ commands. hs_reads (time_at setup s) commands s.pipes.hs_ev frame.counters) _ took.hs.held s.pipes.hs took.hs.commands took.hs.out.items stepped.hs.out.items
       took.hs.state.value stepped.hs.state.value s.hs hs_took hs_woken stand.hs in
@@ -113,8 +125,10 @@ module _ (setup : Setup) (s : State) (frame : Frame) (start took stepped : Bench
       took.mm.state.value stepped.mm.state.value s.mm mm_took mm_woken stand.mm in
       let md = woken_items (md_stands (active_in s)) (md_gives (active_in s)) (λ commands. md_reads (time_at setup s) commands (image_at s frame)) _ took.md.held s.pipes.md took.md.commands took.md.out.items stepped.md.out.items
       took.md.state.value stepped.md.state.value s.md md_took md_woken stand.md in
+      let lc = woken_items (lc_stands (lc_setup s.tables)) (lc_gives (lc_setup s.tables)) (λ commands. lc_reads (time_at setup s) commands s.pipes.lc_tlm) _ took.lc.slot.held s.pipes.lc took.lc.slot.commands took.lc.slot.out.items stepped.lc.slot.out.items
+      took.lc.slot.state.value stepped.lc.slot.state.value s.lc lc_took lc_woken stand.lc in
       let told = ap (λ (held : Held Out). held.items) (steps.told ∙ takes.told) ∙ events in
-      rw (told, hs, cs, sc, mm, md) refl
+      rw (told, hs, cs, sc, mm, md, lc) refl
 
   pub operations_after : stepped.ops.value ≡ operations_at setup s frame
   unfolding operations_at mm_input_at

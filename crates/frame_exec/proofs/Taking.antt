@@ -1,8 +1,9 @@
 -- What the jobs of a frame left, taken over by the bench.
-use Rattle.std.proofs.Common.{◌≡◌, ℕ, Bool, true, false, ◌&&◌, ◌==◌, List, [], ◌∷◌, length, ◌∙◌, ap, refl, subst, sym, arith}
+use Rattle.std.proofs.Common.{◌≡◌, ◌≤◌, ℕ, Bool, true, false, ◌&&◌, ◌==◌, List, [], ◌∷◌, length, ◌∙◌, ap, refl, subst, sym, arith}
 use Rattle.std.proofs.lemmas.Bool.Decides.{nat_tests}
 use Rattle.std.proofs.lemmas.Bool.{and_parts}
 use Rattle.std.proofs.lemmas.List.Elements.{All-nil}
+use Rattle.bus_pipes.specs.Counted.{is_item_counted}
 use Rattle.bus_pipes.specs.declared.names.Out.{Out}
 use Rattle.memory_window.specs.Access.{Admitted}
 use Rattle.memory_window.specs.Memory.{Memory}
@@ -10,9 +11,9 @@ use Rattle.memory_window.specs.Operations.{IsBacked}
 use Rattle.memory_window.specs.declared.operations.MemOp.{MemOp}
 use Rattle.mm_core.specs.Step.{mm_operations}
 use Rattle.frame_exec.specs.Applications.{mm_reads}
-use Rattle.frame_exec.specs.Jobs.{Gives, Operates}
+use Rattle.frame_exec.specs.Jobs.{Gives, Operates, jobs_of}
 use Rattle.frame_exec.specs.Landable.{CanLand}
-use Rattle.frame_exec.specs.Wakes.{AreSendable, IsWoken, joined, next_of}
+use Rattle.frame_exec.specs.Wakes.{AreSendable, IsWoken, history_after, unless, joined, next_of}
 
 -- an application that was woken by a job: its state behind it, and what it gave
 module _ {Setup Input State : Type 0} (belongs : Setup → Type 0) (stands : Setup → List Input → State → Type 0) (gives : Setup → List Input → Input → List Out) (most : ℕ) (held : Bool) (input : Input) (old middle new : State) (stays : Bool) (next : State) (left given : List Out)
@@ -40,13 +41,33 @@ empty_told : (told : Bool) (items : List Out) → told ≡ (length items == 0) �
 empty_told told [] is holds = refl
 empty_told told (item ∷ items) is holds = absurd (grind (arith, nat_tests))
 
--- where nothing was told and none of the five gave an item, nothing was given
-pub none_given : (o a b c d e : Bool) (told hs cs sc mm md : List Out) → o ≡ (length told == 0) → (a ≡ true → hs ≡ []) → (b ≡ true → cs ≡ []) → (c ≡ true → sc ≡ []) → (d ≡ true → mm ≡ []) → (e ≡ true → md ≡ [])
-    → (((((o && a) && b) && c) && d) && e) ≡ true → joined (told ∷ hs ∷ cs ∷ sc ∷ mm ∷ md ∷ []) ≡ []
-none_given o a b c d e told hs cs sc mm md n p q r s t all =
-    let five = and_parts ((((o && a) && b) && c) && d) e all in
+-- where nothing was told and none of the six gave an item, nothing was given
+pub none_given : (o a b c d e f : Bool) (told hs cs sc mm md lc : List Out) → o ≡ (length told == 0) → (a ≡ true → hs ≡ []) → (b ≡ true → cs ≡ []) → (c ≡ true → sc ≡ []) → (d ≡ true → mm ≡ []) → (e ≡ true → md ≡ []) → (f ≡ true → lc ≡ [])
+    → ((((((o && a) && b) && c) && d) && e) && f) ≡ true → joined (told ∷ hs ∷ cs ∷ sc ∷ mm ∷ md ∷ lc ∷ []) ≡ []
+none_given o a b c d e f told hs cs sc mm md lc n p q r s t u all =
+    let six = and_parts (((((o && a) && b) && c) && d) && e) f all in
+    let five = and_parts ((((o && a) && b) && c) && d) e six.0 in
     let four = and_parts (((o && a) && b) && c) d five.0 in
     let three = and_parts ((o && a) && b) c four.0 in
     let two = and_parts (o && a) b three.0 in
     let both = and_parts o a two.0 in
-    rw (empty_told o told n both.0, p both.1, q two.1, r three.1, s four.1, t five.1) refl
+    rw (empty_told o told n both.0, p both.1, q two.1, r three.1, s four.1, t five.1, u six.1) refl
+
+-- LC was woken where its pipes are there; else it is as one that is held, its state stays, and it gives nothing
+module _ {Input State : Type 0} (stands : List Input → State → Type 0) (gives : List Input → Input → List Out) (held : Bool) (input : Input) (old new : State) (items : List Out) where
+  pub woken_or_away : (watched : Bool) → (watched ≡ true → IsWoken stands gives held input old new items) → (watched ≡ false → held ≡ true) → (watched ≡ false → (new ≡ old) × (items ≡ [])) → IsWoken stands gives held input old new items
+  woken_or_away true woken away none = woken refl
+  woken_or_away false woken away none = record {
+    state = λ history stood. subst (λ (h : Bool). stands (history_after h history input) new) (sym (away refl)) (subst (stands history) (sym (none refl).0) stood);
+    given = λ history stood. (none refl).1 ∙ sym (ap (λ (h : Bool). unless h (gives history input)) (away refl));
+  }
+
+-- and what it gives can be sent
+pub sendable_or_away : (most : ℕ) (items : List Out) (watched : Bool) → (watched ≡ true → AreSendable most items) → (watched ≡ false → items ≡ []) → AreSendable most items
+sendable_or_away most items true some none = some refl
+sendable_or_away most items false some none = subst (AreSendable most) (sym (none refl)) (record { few = omega arith; counted = All-nil (λ (item : Out). is_item_counted item ≡ true) })
+
+-- there are five jobs at least
+pub five_or_six : (watched : Bool) → 5 ≤ jobs_of watched
+five_or_six true = omega arith
+five_or_six false = omega arith

@@ -10,7 +10,7 @@ use Rattle.scenario.specs.declared.frame.Upset.{Upset}
 use Rattle.scenario.specs.FrameLists.{Frame}
 use Rattle.memory_window.specs.Memory.{Memory}
 use Rattle.frame_exec.specs.Tables.{TableSet}
-use Rattle.frame_exec.specs.Sending.{is_same, taken, upset_by}
+use Rattle.frame_exec.specs.Sending.{is_same, taken, without_limits, upset_by}
 use Rattle.frame_exec.specs.Wakes.{history_after, unless, HasTaken, IsWoken}
 use Rattle.frame_exec.specs.Runs.{State, image_at, left_by}
 
@@ -55,11 +55,11 @@ woken_beside of held is_held packets commands given left took is = is ∙ ap (λ
     by_case false same = ap of (same refl)
 
 -- what the pipes hold once all applications took theirs
-pub left_is : (held : List App) (old b1 b2 b3 b4 b5 b6 : Pipes) (hs cs sc mm md : Bool) → hs ≡ list_any (is_same apps.Hs) held → cs ≡ list_any (is_same apps.Cs) held → sc ≡ list_any (is_same apps.Sc) held
+pub left_is : (held : List App) (old b1 b2 b3 b4 b5 b6 b7 : Pipes) (hs cs sc mm md : Bool) → hs ≡ list_any (is_same apps.Hs) held → cs ≡ list_any (is_same apps.Cs) held → sc ≡ list_any (is_same apps.Sc) held
     → mm ≡ list_any (is_same apps.Mm) held → md ≡ list_any (is_same apps.Md) held → b1 ≡ taken names.Hs hs old → b2 ≡ taken names.HsEv hs b1 → b3 ≡ taken names.Cs cs b2 → b4 ≡ taken names.Sc sc b3
-    → b5 ≡ taken names.Mm mm b4 → b6 ≡ taken names.Md md b5 → b6 ≡ left_by held old
+    → b5 ≡ taken names.Mm mm b4 → b6 ≡ taken names.Md md b5 → b7 ≡ without_limits b6 → b7 ≡ left_by held old
 unfolding left_by
-left_is held old b1 b2 b3 b4 b5 b6 hs cs sc mm md a b c d e f g h i j k = rw (k, j, i, h, g, f, a, b, c, d, e) refl
+left_is held old b1 b2 b3 b4 b5 b6 b7 hs cs sc mm md a b c d e f g h i j k l = rw (l, k, j, i, h, g, f, a, b, c, d, e) refl
 
 -- what an application took, by other names of what holds it and of what its pipe held
 pub taken_by : (held other : Bool) (packets others : List (List ℕ)) (is_held : Bool) (commands : List (List ℕ)) (items : List Out) → held ≡ other → packets ≡ others

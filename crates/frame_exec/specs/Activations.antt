@@ -7,7 +7,7 @@ use Rattle.packet_forms.specs.Built.{event_of}
 use Rattle.bus_pipes.specs.declared.names.Out.{Out}
 use Rattle.bus_pipes.specs.declared.names.Out.TheVariants.{Made}
 use Rattle.table_files.specs.declared.kinds.TableKind.{TableKind}
-use Rattle.table_files.specs.declared.kinds.TableKind.TheVariants.{AppMon, EventMon, ExeCount, MsgActs, Ats, Rts, Dwell, Eeprom, Memory}
+use Rattle.table_files.specs.declared.kinds.TableKind.TheVariants.{AppMon, EventMon, ExeCount, MsgActs, Ats, Rts, Dwell, Eeprom, Memory, Wdt, Adt}
 use Rattle.hs_tables.specs.declared.tables.HsTables.{HsTables}
 use Rattle.hs_monitors.specs.Histories.{Activation as HsActivation, HsEntry, Setup as HsSetup}
 use Rattle.hs_monitors.specs.State.{Stands as HsStands, activation_of as hs_activation}
@@ -38,6 +38,8 @@ can_activate (Rts n) = true
 can_activate (Dwell n) = true
 can_activate Eeprom = true
 can_activate Memory = true
+can_activate Wdt = false
+can_activate Adt = false
 
 -- what becomes of a line that names a table of this kind, by whether its sequence runs
 abbrev pub naming_of : Bool → TableKind → Naming
@@ -59,6 +61,8 @@ md_activation (Ats n) dwells = None
 md_activation (Rts n) dwells = None
 md_activation Eeprom dwells = None
 md_activation Memory dwells = None
+md_activation Wdt dwells = None
+md_activation Adt dwells = None
 
 -- what is activated of CS's tables by a table of this kind, which is active now
 abbrev pub cs_activation : TableKind → TableSet → Option CsActivation
@@ -71,6 +75,8 @@ cs_activation MsgActs tables = None
 cs_activation (Ats n) tables = None
 cs_activation (Rts n) tables = None
 cs_activation (Dwell n) tables = None
+cs_activation Wdt tables = None
+cs_activation Adt tables = None
 
 -- the entries that a table of this kind, which is active now, adds to the histories of HS, CS, SC and MD
 abbrev pub hs_activated : TableKind → HsTables → List HsEntry

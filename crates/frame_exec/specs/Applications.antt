@@ -24,6 +24,10 @@ use Rattle.md_dwell.specs.Histories.{MdEntry}
 use Rattle.md_dwell.specs.Step.{md_items}
 use Rattle.md_dwell.specs.State.{Stands as MdStands}
 use Rattle.md_dwell.specs.declared.state.Md.{Md}
+use Rattle.lc_watch.specs.Histories.{Input as LcInput, Setup as LcSetup, setup_of as lc_setup_of, input_of as lc_input_of}
+use Rattle.lc_watch.specs.Step.{lc_items}
+use Rattle.lc_watch.specs.State.{Stands as LcStands}
+use Rattle.lc_watch.specs.declared.state.Lc.{Lc}
 use Rattle.frame_exec.specs.Tables.{TableSet}
 
 -- the tables with which the histories began, those that are active at their end, the time at which SC's began, and the resets made and their
@@ -47,6 +51,10 @@ cs_tables tables = pair_of tables.eeprom tables.memory
 abbrev pub sc_begun : Active → Beginning
 sc_begun tables = begun_at tables.began tables.first.sc
 
+-- the tables of LC
+abbrev pub lc_setup : TableSet → LcSetup
+lc_setup tables = lc_setup_of tables.wdt tables.adt
+
 -- when a state stands for a history: of HS, CS and SC, where the tables that are active follow from it
 abbrev pub hs_stands : Active → List HsEntry → Hs → Type 0
 hs_stands tables history hs = (tables.now.hs ≡ tables_after (hs_setup tables) history) × HsStands (hs_setup tables) history hs
@@ -62,6 +70,9 @@ mm_stands tables history mm = MmStands history mm
 
 abbrev pub md_stands : Active → List MdEntry → Md → Type 0
 md_stands tables history md = MdStands tables.first.dwells history md
+
+abbrev pub lc_stands : LcSetup → List LcInput → Lc → Type 0
+lc_stands setup history lc = LcStands setup.watch setup.actions history lc
 
 -- what an entry gives behind a history: a wakeup its items, and an activation none
 abbrev pub hs_gives : Active → List HsEntry → HsEntry → List Out
@@ -83,6 +94,9 @@ abbrev pub md_gives : Active → List MdEntry → MdEntry → List Out
 md_gives tables history (Woken input) = md_items tables.first.dwells history input
 md_gives tables history (Activated a) = []
 
+abbrev pub lc_gives : LcSetup → List LcInput → LcInput → List Out
+lc_gives setup history input = lc_items setup history input
+
 -- a wakeup of HS, by its time, the packets of both pipes, and the frame's execution counters
 abbrev pub hs_reads : ℕ → List (List ℕ) → List (List ℕ) → List Counter → HsEntry
 hs_reads time commands events counters = Woken (record { time = time; commands = commands; seen = record { events = events; counters = counters } })
@@ -100,3 +114,7 @@ mm_reads loads time commands memory = record { time = time; commands = commands;
 
 abbrev pub md_reads : ℕ → List (List ℕ) → Memory → MdEntry
 md_reads time commands memory = Woken (record { time = time; commands = commands; seen = memory })
+
+-- and of LC by its time and the packets of both pipes
+abbrev pub lc_reads : ℕ → List (List ℕ) → List (List ℕ) → LcInput
+lc_reads time commands telemetry = lc_input_of time commands telemetry

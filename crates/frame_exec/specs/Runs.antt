@@ -1,8 +1,8 @@
 -- A frame, and a run over a list of frames.
-use Rattle.std.specs.Prelude.{ℕ, ◌+◌, Bool, if◌then◌else◌, List, [], ◌∷◌, ◌++◌, map, fold, Option, Some, None}
+use Rattle.std.specs.Prelude.{ℕ, ◌+◌, Bool, not, if◌then◌else◌, List, [], ◌∷◌, ◌++◌, map, fold, Option, Some, None}
 use Rattle.std.specs.List.{flat_map, list_any}
 use Rattle.histories.specs.Words.{along}
-use Rattle.bus_pipes.specs.Pipes.{Pipes, empty_pipes}
+use Rattle.bus_pipes.specs.Pipes.{Pipes, empty_pipes, emptied_pipes}
 use Rattle.bus_pipes.specs.Delivery.{after_offers, drops_from}
 use Rattle.bus_pipes.specs.declared.names.Out.{Out}
 use Rattle.table_files.specs.Files.{file_at, kind_at, loads_of}
@@ -18,19 +18,20 @@ use Rattle.hs_monitors.specs.Histories.{HsEntry}
 use Rattle.hs_monitors.specs.Step.{resets_made, resets_maximum}
 use Rattle.cs_slices.specs.Histories.{CsEntry}
 use Rattle.md_dwell.specs.Histories.{MdEntry}
+use Rattle.lc_watch.specs.Histories.{Input as LcInput}
 use Rattle.packet_log.specs.Lines.{drop_line}
 use Rattle.packet_log.specs.Items.{item_line}
 use Rattle.scenario.specs.declared.frame.App.{App}
 use Rattle.scenario.specs.declared.frame.App.TheVariants as apps
 use Rattle.scenario.specs.FrameLists.{Frame}
-use Rattle.frame_exec.specs.Tables.{TableSet, with_file, tables_of}
+use Rattle.frame_exec.specs.Tables.{TableSet, with_file, tables_of, lc_named}
 use Rattle.frame_exec.specs.Activations.{naming_of, hs_activated, cs_activated, sc_activated, md_activated, table_event}
 use Rattle.frame_exec.specs.Sending.{is_same, upset_by, left_in_pipe, sent_of, is_reset, offered}
 use Rattle.packet_log.specs.Sent.{makes}
 use Rattle.frame_exec.specs.Wakes.{history_after, unless, joined}
 use Rattle.frame_exec.specs.declared.activations.Naming.{Naming}
 use Rattle.frame_exec.specs.declared.activations.Naming.TheVariants.{Accepted, Refused, Running}
-use Rattle.frame_exec.specs.Applications.{Active, hs_setup, sc_begun, hs_gives, cs_gives, sc_gives, mm_gives, md_gives, hs_reads, cs_reads, sc_reads, mm_reads, md_reads}
+use Rattle.frame_exec.specs.Applications.{Active, hs_setup, sc_begun, lc_setup, hs_gives, cs_gives, sc_gives, mm_gives, md_gives, lc_gives, hs_reads, cs_reads, sc_reads, mm_reads, md_reads, lc_reads}
 
 -- what a run begins with: the time of frame 0, the regions of memory, and the named files
 pub record Setup : Type 0 where
@@ -53,13 +54,15 @@ pub record State : Type 0 where
   pub sc : List ScEntry
   pub mm : List MmInput
   pub md : List MdEntry
+  pub lc : List LcInput
   pub pipes : Pipes
   pub made : List (List ℕ)
   pub memory : Memory
 
--- before the first frame: SC begins at its time, and HS with no reset made, of at most three
+-- before the first frame: SC begins at its time, HS with no reset made, of at most three, and the pipes of LC are there where a table of it is
+-- named
 unfoldable pub beginning : Setup → State
-beginning setup = record { number = 0; began = setup.epoch; resets = 0; limit = 3; first = tables_of setup.files; tables = tables_of setup.files; hs = []; cs = []; sc = []; mm = []; md = []; pipes = empty_pipes; made = []; memory = start_memory setup.regions }
+beginning setup = record { number = 0; began = setup.epoch; resets = 0; limit = 3; first = tables_of setup.files; tables = tables_of setup.files; hs = []; cs = []; sc = []; mm = []; md = []; lc = []; pipes = empty_pipes (lc_named setup.files); made = []; memory = start_memory setup.regions }
 
 -- the tables with which the histories of a run began and those that are active, and what SC's and HS's began with besides
 abbrev pub active_in : State → Active
@@ -109,6 +112,10 @@ activated_at setup s frame = fold (after_activation setup) s frame.activations
 abbrev pub is_held : App → Frame → Bool
 is_held app frame = list_any (is_same app) frame.held
 
+-- LC can't be held; it takes no part where its pipes aren't there
+abbrev pub is_away : State → Bool
+is_away s = not s.pipes.watched
+
 -- the frame's image: memory with the frame's upsets, written in line order
 unfoldable pub image_at : State → Frame → Memory
 image_at s frame = fold upset_by s.memory frame.upsets
@@ -121,7 +128,7 @@ time_at setup s = setup.epoch + s.number
 unfoldable pub table_events : Setup → State → List ℕ → List Out
 table_events setup s numbers = map (λ (n : ℕ). table_event (time_at setup s) (naming_at s (kind_at setup.files n))) numbers
 
--- what HS, CS, SC, MM and MD read in a frame
+-- what HS, CS, SC, MM, MD and LC read in a frame
 unfoldable pub hs_input_at : Setup → State → Frame → HsEntry
 hs_input_at setup s frame = hs_reads (time_at setup s) s.pipes.hs s.pipes.hs_ev frame.counters
 
@@ -137,6 +144,9 @@ mm_input_at setup s frame = mm_reads (loads_of setup.files) (time_at setup s) s.
 unfoldable pub md_input_at : Setup → State → Frame → MdEntry
 md_input_at setup s frame = md_reads (time_at setup s) s.pipes.md (image_at s frame)
 
+unfoldable pub lc_input_at : Setup → State → LcInput
+lc_input_at setup s = lc_reads (time_at setup s) s.pipes.lc s.pipes.lc_tlm
+
 -- what is told of the frame's activations, and what the applications give in it, a list each, in their order
 unfoldable pub items_at : Setup → State → Frame → List (List Out)
 items_at setup s frame =
@@ -146,6 +156,7 @@ items_at setup s frame =
     ∷ unless (is_held apps.Sc frame) (sc_gives (active_in s) s.sc (sc_input_at setup s frame))
     ∷ unless (is_held apps.Mm frame) (mm_gives s.tables s.mm (mm_input_at setup s frame))
     ∷ unless (is_held apps.Md frame) (md_gives (active_in s) s.md (md_input_at setup s frame))
+    ∷ unless (is_away s) (lc_gives (lc_setup s.tables) s.lc (lc_input_at setup s))
     ∷ []
 
 -- the memory operations of a frame, in command order
@@ -155,12 +166,15 @@ operations_at setup s frame = unless (is_held apps.Mm frame) (mm_operations (mm_
 -- what the pipes hold once the applications were woken that aren't among those that are held
 unfoldable pub left_by : List App → Pipes → Pipes
 left_by held pipes = record {
+  watched = pipes.watched;
   hs = left_in_pipe (list_any (is_same apps.Hs) held) pipes.hs;
   hs_ev = left_in_pipe (list_any (is_same apps.Hs) held) pipes.hs_ev;
   cs = left_in_pipe (list_any (is_same apps.Cs) held) pipes.cs;
   sc = left_in_pipe (list_any (is_same apps.Sc) held) pipes.sc;
   mm = left_in_pipe (list_any (is_same apps.Mm) held) pipes.mm;
   md = left_in_pipe (list_any (is_same apps.Md) held) pipes.md;
+  lc = [];
+  lc_tlm = [];
 }
 
 -- the items of a frame as they are sent
@@ -195,6 +209,7 @@ after_wakeups setup s frame = record {
   sc = history_after (is_held apps.Sc frame) s.sc (sc_input_at setup s frame);
   mm = history_after (is_held apps.Mm frame) s.mm (mm_input_at setup s frame);
   md = history_after (is_held apps.Md frame) s.md (md_input_at setup s frame);
+  lc = history_after (is_away s) s.lc (lc_input_at setup s);
   pipes = after_offers (left_by frame.held s.pipes) (offers_at setup s frame);
   made = s.made ++ flat_map makes (joined (items_at setup s frame));
   memory = land (loads_of setup.files) (operations_at setup s frame) (image_at s frame);
@@ -208,6 +223,7 @@ behind_reset setup s = record (beginning setup) {
   began = time_at setup s;
   resets = resets_made (hs_setup (active_in s)) s.hs;
   limit = resets_maximum (hs_setup (active_in s)) s.hs;
+  pipes = emptied_pipes s.pipes;
   made = s.made;
   memory = s.memory;
 }

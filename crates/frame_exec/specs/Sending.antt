@@ -37,6 +37,10 @@ left_in_pipe held packets = if held then packets else []
 abbrev pub taken : PipeName → Bool → Pipes → Pipes
 taken name held pipes = with_packets name (left_in_pipe held (packets_in name pipes)) pipes
 
+-- the pipes once LC took what its two hold
+abbrev pub without_limits : Pipes → Pipes
+without_limits pipes = record pipes { lc = []; lc_tlm = [] }
+
 -- items as they are sent, in order
 unfoldable pub sent_of : List (List ℕ) → List Out → List Out
 sent_of made items = along (λ before item. as_sent (made ++ flat_map makes before) item) items

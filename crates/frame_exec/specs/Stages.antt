@@ -1,5 +1,5 @@
 -- What the stages of a frame change in the bench.
-use Rattle.std.specs.Prelude.{◌≡◌, ℕ, ◌+◌, false, List, [], ◌∷◌, ◌++◌, length, slice_index_or}
+use Rattle.std.specs.Prelude.{◌≡◌, ℕ, ◌+◌, true, false, not, List, [], ◌∷◌, ◌++◌, length, slice_index_or}
 use Rattle.std.specs.List.{AllPass, flat_map, fold, list_any}
 use Rattle.bus_pipes.specs.Delivery.{after_offers, drops_from}
 use Rattle.bus_pipes.specs.Counted.{is_item_counted}
@@ -23,16 +23,17 @@ use Rattle.cs_slices.specs.declared.step.TheConstants.{MOST_ITEMS as cs_most}
 use Rattle.sc_sequences.specs.declared.step.TheConstants.{MOST_ITEMS as sc_most}
 use Rattle.mm_core.specs.declared.step.TheConstants.{MOST_ITEMS as mm_most}
 use Rattle.hs_monitors.specs.declared.step.TheConstants.{MOST_ITEMS as hs_most}
+use Rattle.lc_watch.specs.declared.step.TheConstants.{MOST_ITEMS as lc_most}
 use Rattle.frame_exec.specs.declared.bench.Bench.{Bench}
 use Rattle.frame_exec.specs.Tables.{TableSet}
 use Rattle.frame_exec.specs.Sending.{is_same, upset_by, sent_of, is_reset, offered}
 use Rattle.packet_log.specs.Sent.{makes}
 use Rattle.frame_exec.specs.Wakes.{joined, unless, AreSendable, HasTaken, IsWoken, next_of}
-use Rattle.frame_exec.specs.Applications.{Active, cs_tables, hs_stands, cs_stands, sc_stands, mm_stands, md_stands, hs_gives, cs_gives, sc_gives, mm_gives, md_gives, hs_reads, cs_reads, sc_reads, mm_reads, md_reads}
+use Rattle.frame_exec.specs.Applications.{Active, cs_tables, lc_setup, hs_stands, cs_stands, sc_stands, mm_stands, md_stands, lc_stands, hs_gives, cs_gives, sc_gives, mm_gives, md_gives, lc_gives, hs_reads, cs_reads, sc_reads, mm_reads, md_reads, lc_reads}
 use Rattle.frame_exec.specs.Runs.{Setup, State, after_activation, activated_at, run_of, table_events, image_at, items_at, operations_at, left_by, sent_at, resets_at, offers_at, after_wakeups, behind}
 use Rattle.frame_exec.specs.Landable.{CanLand}
 use Rattle.frame_exec.specs.declared.left.Left.{Left}
-use Rattle.frame_exec.specs.Jobs.{Gives, Operates}
+use Rattle.frame_exec.specs.Jobs.{Gives, Operates, LeftAs, jobs_of}
 use Rattle.frame_exec.specs.Standing.{AppsStand, Has}
 
 -- the time of the frame that comes
@@ -78,10 +79,11 @@ pub record KeepsApps (old new : Bench) : Type 0 where
   pub sc : new.sc.state ≡ old.sc.state
   pub mm : new.mm.state ≡ old.mm.state
   pub md : new.md.state ≡ old.md.state
+  pub lc : new.lc.slot.state ≡ old.lc.slot.state
 
 -- what was told of activations, and what the applications gave, a list each, in their order
 abbrev pub items_in : Bench → List (List Out)
-items_in b = b.activations.items ∷ b.hs.out.items ∷ b.cs.out.items ∷ b.sc.out.items ∷ b.mm.out.items ∷ b.md.out.items ∷ []
+items_in b = b.activations.items ∷ b.hs.out.items ∷ b.cs.out.items ∷ b.sc.out.items ∷ b.mm.out.items ∷ b.md.out.items ∷ b.lc.slot.out.items ∷ []
 
 -- the upsets of a frame were written
 pub record IsUpset (upsets : List Upset) (old new : Bench) : Type 0 where
@@ -92,7 +94,7 @@ pub record IsUpset (upsets : List Upset) (old new : Bench) : Type 0 where
   pub log : new.log ≡ old.log
   pub memory : new.ram ≡ fold upset_by old.ram upsets
 
--- each application took what its pipes held, unless it was held, and gave nothing yet
+-- each application took what its pipes held, unless it was held, and LC where its pipes are there; and gave nothing yet
 pub record Takes (held : List App) (old new : Bench) : Type 0 where
   pub run : IsSameRun old new
   pub told : new.activations ≡ old.activations
@@ -103,6 +105,8 @@ pub record Takes (held : List App) (old new : Bench) : Type 0 where
   pub sc : HasTaken (list_any (is_same names.Sc) held) old.bus.sc new.sc.held new.sc.commands new.sc.out.items
   pub mm : HasTaken (list_any (is_same names.Mm) held) old.bus.mm new.mm.held new.mm.commands new.mm.out.items
   pub md : HasTaken (list_any (is_same names.Md) held) old.bus.md new.md.held new.md.commands new.md.out.items
+  pub lc : HasTaken (not old.bus.watched) old.bus.lc new.lc.slot.held new.lc.slot.commands new.lc.slot.out.items
+  pub telemetry : not old.bus.watched ≡ false → new.lc.telemetry.items ≡ old.bus.lc_tlm
   pub operations : new.ops.value ≡ []
   pub pipes : new.bus ≡ left_by held old.bus
   pub log : new.log ≡ old.log
@@ -116,13 +120,15 @@ pub record Arrives (frame : Frame) (old new : Bench) : Type 0 where
   pub writes : IsUpset frame.upsets active upset
   pub takes : Takes frame.held upset new
 
--- no application gave anything yet
+-- no application gave anything yet, and LC is as one that is held where its pipes aren't there
 pub record IsClear (b : Bench) : Type 0 where
   pub hs : b.hs.out.items ≡ []
   pub cs : b.cs.out.items ≡ []
   pub sc : b.sc.out.items ≡ []
   pub mm : b.mm.out.items ≡ []
   pub md : b.md.out.items ≡ []
+  pub lc : b.lc.slot.out.items ≡ []
+  pub away : b.bus.watched ≡ false → b.lc.slot.held ≡ true
   pub operations : b.ops.value ≡ []
 
 -- the load files that MM reads
@@ -138,6 +144,7 @@ pub record Steps (counters : List Counter) (old new : Bench) : Type 0 where
   pub sc : (tables : Active) → tables.now.sc ≡ old.tables.set.sc → IsWoken (sc_stands tables) (sc_gives tables) old.sc.held (sc_reads (time_of old) old.sc.commands) old.sc.state.value new.sc.state.value new.sc.out.items
   pub mm : (tables : TableSet) → IsWoken (mm_stands tables) (mm_gives tables) old.mm.held (mm_reads (loads_in old) (time_of old) old.mm.commands old.ram) old.mm.state.value new.mm.state.value new.mm.out.items
   pub md : (tables : Active) → IsWoken (md_stands tables) (md_gives tables) old.md.held (md_reads (time_of old) old.md.commands old.ram) old.md.state.value new.md.state.value new.md.out.items
+  pub lc : IsWoken (lc_stands (lc_setup old.tables.set)) (lc_gives (lc_setup old.tables.set)) old.lc.slot.held (lc_reads (time_of old) old.lc.slot.commands old.lc.telemetry.items) old.lc.slot.state.value new.lc.slot.state.value new.lc.slot.out.items
   pub operations : new.ops.value ≡ unless old.mm.held (mm_operations (mm_reads (loads_in old) (time_of old) old.mm.commands old.ram))
   pub pipes : new.bus ≡ old.bus
   pub log : new.log ≡ old.log
@@ -150,6 +157,7 @@ pub record KeepsSlots (old new : Bench) : Type 0 where
   pub sc : new.sc ≡ old.sc
   pub mm : new.mm ≡ old.mm
   pub md : new.md ≡ old.md
+  pub lc : new.lc.slot ≡ old.lc.slot
   pub operations : new.ops ≡ old.ops
   pub pipes : new.bus ≡ old.bus
   pub log : new.log ≡ old.log
@@ -157,7 +165,7 @@ pub record KeepsSlots (old new : Bench) : Type 0 where
 
 -- the result of a job is one of which this holds
 abbrev pub HasLeft : Bench → ℕ → (Left → Type 0) → Type 0
-HasLeft b job P = (left : Left) → slice_index_or b.crew.results job left ≡ left → P left
+HasLeft b job P = LeftAs b.crew.results job P
 
 -- what was taken over is the result of a job
 abbrev pub IsTaken : Bench → ℕ → (Left → Type 0) → Type 0
@@ -168,7 +176,7 @@ pub record AreWoken (counters : List Counter) (old new : Bench) : Type 0 where
   pub run : IsSameRun old new
   pub told : new.activations ≡ old.activations
   pub slots : KeepsSlots old new
-  pub five : length new.crew.results ≡ 5
+  pub manned : length new.crew.results ≡ jobs_of old.bus.watched
   pub hs : HasLeft new 0 (λ left. Gives (λ t. old.tables.set.hs ≡ t.now.hs) hs_stands hs_gives hs_most old.hs.held (hs_reads (time_of old) old.hs.commands old.events counters) old.hs.state.value left.stays left.hs.value left.out.items)
   pub cs : HasLeft new 1 (λ left. Gives (λ t. cs_tables old.tables.set ≡ cs_tables t.now) cs_stands cs_gives cs_most old.cs.held (cs_reads (time_of old) old.cs.commands old.ram) old.cs.state.value left.stays left.cs.value left.out.items)
   pub sc : HasLeft new 2 (λ left. Gives (λ t. old.tables.set.sc ≡ t.now.sc) sc_stands sc_gives sc_most old.sc.held (sc_reads (time_of old) old.sc.commands) old.sc.state.value left.stays left.sc.value left.out.items
@@ -177,6 +185,7 @@ pub record AreWoken (counters : List Counter) (old new : Bench) : Type 0 where
       × Operates (loads_in old) old.mm.held (time_of old) old.mm.commands old.ram left.ops.value)
   pub md : HasLeft new 4 (λ left. Gives {Setup = Active} (λ t. Unit {0}) md_stands md_gives md_most old.md.held (md_reads (time_of old) old.md.commands old.ram) old.md.state.value left.stays left.md.value left.out.items
       × AllGiven (regions_of old.ram.areas) (next_of left.stays left.md.value old.md.state.value))
+  pub lc : old.bus.watched ≡ true → HasLeft new 5 (λ left. Gives (λ t. lc_setup old.tables.set ≡ t) lc_stands lc_gives lc_most old.lc.slot.held (lc_reads (time_of old) old.lc.slot.commands old.lc.telemetry.items) old.lc.slot.state.value left.stays left.lc.value left.out.items)
 
 -- what the jobs left was taken over: the next states, the items and the operations
 pub record TakesOver (old new : Bench) : Type 0 where
@@ -187,6 +196,8 @@ pub record TakesOver (old new : Bench) : Type 0 where
   pub sc : IsTaken old 2 (λ left. (new.sc.state.value ≡ next_of left.stays left.sc.value old.sc.state.value) × (new.sc.out.items ≡ left.out.items))
   pub mm : IsTaken old 3 (λ left. (new.mm.state.value ≡ next_of left.stays left.mm.value old.mm.state.value) × (new.mm.out.items ≡ left.out.items) × (new.ops.value ≡ left.ops.value))
   pub md : IsTaken old 4 (λ left. (new.md.state.value ≡ next_of left.stays left.md.value old.md.state.value) × (new.md.out.items ≡ left.out.items))
+  pub lc : old.bus.watched ≡ true → IsTaken old 5 (λ left. (new.lc.slot.state.value ≡ next_of left.stays left.lc.value old.lc.slot.state.value) × (new.lc.slot.out.items ≡ left.out.items))
+  pub away : old.bus.watched ≡ false → (new.lc.slot.state.value ≡ old.lc.slot.state.value) × (new.lc.slot.out.items ≡ [])
   pub pipes : new.bus ≡ old.bus
   pub log : new.log ≡ old.log
   pub memory : new.ram ≡ old.ram
@@ -199,6 +210,7 @@ pub record CanSend (b : Bench) : Type 0 where
   pub sc : AreSendable sc_most b.sc.out.items
   pub mm : AreSendable mm_most b.mm.out.items
   pub md : AreSendable md_most b.md.out.items
+  pub lc : AreSendable lc_most b.lc.slot.out.items
   pub operations : CanLand (loads_in b) b.ram b.ops.value
 
 -- the items got their sequence counts: they are as they are sent

@@ -10,7 +10,7 @@ use Rattle.scenario.specs.declared.progress.Header.{Header}
 use Rattle.scenario.specs.declared.frame.Upset.{Upset}
 use Rattle.scenario.specs.FrameLists.{Frame}
 use Rattle.frame_exec.specs.declared.bench.Bench.{Bench}
-use Rattle.frame_exec.specs.Applications.{hs_stands, cs_stands, sc_stands, mm_stands, md_stands}
+use Rattle.frame_exec.specs.Applications.{lc_setup, hs_stands, cs_stands, sc_stands, mm_stands, md_stands, lc_stands}
 use Rattle.frame_exec.specs.Tables.{AreGiven}
 use Rattle.frame_exec.specs.Runs.{Setup, State, active_in, image_at, run_of}
 
@@ -21,6 +21,7 @@ pub record AppsStand (b : Bench) (s : State) : Type 0 where
   pub sc : sc_stands (active_in s) s.sc b.sc.state.value
   pub mm : mm_stands s.tables s.mm b.mm.state.value
   pub md : md_stands (active_in s) s.md b.md.state.value
+  pub lc : lc_stands (lc_setup s.tables) s.lc b.lc.slot.state.value
 
 -- the bench has what a run has come to
 pub record Has (b : Bench) (s : State) : Type 0 where

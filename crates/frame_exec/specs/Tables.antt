@@ -1,10 +1,11 @@
 -- The tables that files name, and what is refused of their entries.
-use Rattle.std.specs.Prelude.{◌≡◌, ℕ, ◌+◌, ◌-◌, Bool, true, List, [], ◌∷◌, map, replicate, slice_set, Option, Some, None, option_map, Result, Ok, Err}
+use Rattle.std.specs.Prelude.{◌≡◌, ℕ, ◌+◌, ◌-◌, Bool, true, false, List, [], ◌∷◌, map, replicate, slice_set, Option, Some, None, option_map, Result, Ok, Err}
+use Rattle.std.specs.List.{list_any}
 use Rattle.memory_window.specs.declared.regions.Region.{Region}
 use Rattle.table_files.specs.Headers.{kind_of_file, payload_of_file}
 use Rattle.table_files.specs.declared.fault.EntryFault.{EntryFault}
 use Rattle.table_files.specs.declared.kinds.TableKind.{TableKind}
-use Rattle.table_files.specs.declared.kinds.TableKind.TheVariants.{AppMon, EventMon, ExeCount, MsgActs, Ats, Rts, Dwell, Eeprom, Memory}
+use Rattle.table_files.specs.declared.kinds.TableKind.TheVariants.{AppMon, EventMon, ExeCount, MsgActs, Ats, Rts, Dwell, Eeprom, Memory, Wdt, Adt}
 use Rattle.cs_slices.specs.declared.segments.Segment.{Segment}
 use Rattle.cs_slices.specs.Tables.{blank_segments, segments_of, segments_fault_of}
 use Rattle.cs_slices.specs.Given.{SegmentsGiven, first_refused as first_refused_segment}
@@ -18,17 +19,23 @@ use Rattle.hs_tables.specs.Events as events
 use Rattle.hs_tables.specs.Counters as counters
 use Rattle.hs_tables.specs.Actions as actions
 use Rattle.hs_tables.specs.declared.tables.HsTables.{HsTables}
+use Rattle.lc_watch.specs.Watchpoints as watchpoints
+use Rattle.lc_watch.specs.Actionpoints as actionpoints
+use Rattle.lc_watch.specs.declared.watchpoints.WatchRow.{WatchRow}
+use Rattle.lc_watch.specs.declared.actionpoints.ActRow.{ActRow}
 use Rattle.frame_exec.specs.declared.loading.TablesFault.{TablesFault}
 use Rattle.frame_exec.specs.declared.giving.OpenFault.{OpenFault}
 use Rattle.frame_exec.specs.declared.giving.OpenFault.TheVariants.{Region as AtRegion, NoMemory}
 
--- the tables of the applications: MD's four, CS's two, those of HS, and the commands of SC's sequences, absolute ones first
+-- the tables of the applications: MD's four, CS's two, those of HS, the commands of SC's sequences, absolute ones first, and LC's two
 pub record TableSet : Type 0 where
   pub dwells : List DwellTable
   pub eeprom : List Segment
   pub memory : List Segment
   pub hs : HsTables
   pub sc : List (List TimedCommand)
+  pub wdt : List WatchRow
+  pub adt : List ActRow
 
 -- the tables of HS where no file is named
 abbrev pub blank_hs : HsTables
@@ -40,7 +47,7 @@ blank_sc = replicate 66 []
 
 -- the tables where no file is named: all their bytes are 0
 unfoldable pub blank_tables : TableSet
-blank_tables = record { dwells = replicate 4 blank_table; eeprom = blank_segments; memory = blank_segments; hs = blank_hs; sc = blank_sc }
+blank_tables = record { dwells = replicate 4 blank_table; eeprom = blank_segments; memory = blank_segments; hs = blank_hs; sc = blank_sc; wdt = watchpoints.blank_rows; adt = actionpoints.blank_rows }
 
 -- what is said of a table of this kind and payload, or else of what is no table
 abbrev pub by_kind : {A : Type 0} → A → (TableKind → List ℕ → A) → Option TableKind → List ℕ → A
@@ -67,6 +74,22 @@ is_loaded ExeCount = true
 is_loaded MsgActs = true
 is_loaded (Ats n) = true
 is_loaded (Rts n) = true
+is_loaded Wdt = true
+is_loaded Adt = true
+
+-- whether a table of this kind is one of LC
+abbrev pub is_limits : TableKind → Bool
+is_limits Wdt = true
+is_limits Adt = true
+is_limits (Dwell n) = false
+is_limits Eeprom = false
+is_limits Memory = false
+is_limits AppMon = false
+is_limits EventMon = false
+is_limits ExeCount = false
+is_limits MsgActs = false
+is_limits (Ats n) = false
+is_limits (Rts n) = false
 
 -- the fault of the entries of a table
 abbrev pub entry_fault : TableKind → List ℕ → Option EntryFault
@@ -79,6 +102,8 @@ entry_fault ExeCount payload = counters.rows_fault_of payload
 entry_fault MsgActs payload = actions.rows_fault_of payload
 entry_fault (Ats n) payload = ats_fault_of payload
 entry_fault (Rts n) payload = rts_fault_of payload
+entry_fault Wdt payload = watchpoints.rows_fault_of payload
+entry_fault Adt payload = actionpoints.rows_fault_of payload
 
 -- the tables with one more, where its entries have no fault
 abbrev pub with_table : TableSet → TableKind → List ℕ → TableSet
@@ -91,6 +116,8 @@ with_table tables ExeCount payload = where_well (record tables { hs = record tab
 with_table tables MsgActs payload = where_well (record tables { hs = record tables.hs { acts = actions.rows_of payload } }) tables (actions.rows_fault_of payload)
 with_table tables (Ats n) payload = where_well (record tables { sc = slice_set tables.sc (n - 1) (map of_timed (ats_of payload)) }) tables (ats_fault_of payload)
 with_table tables (Rts n) payload = where_well (record tables { sc = slice_set tables.sc (n + 1) (map of_relative (rts_of payload)) }) tables (rts_fault_of payload)
+with_table tables Wdt payload = where_well (record tables { wdt = watchpoints.rows_of payload }) tables (watchpoints.rows_fault_of payload)
+with_table tables Adt payload = where_well (record tables { adt = actionpoints.rows_of payload }) tables (actionpoints.rows_fault_of payload)
 
 -- the first entry of a table that memory of these regions refuses, where its entries have no fault
 abbrev pub refused_entry : List Region → TableKind → List ℕ → Option ℕ
@@ -103,6 +130,8 @@ refused_entry regions ExeCount payload = None
 refused_entry regions MsgActs payload = None
 refused_entry regions (Ats n) payload = None
 refused_entry regions (Rts n) payload = None
+refused_entry regions Wdt payload = None
+refused_entry regions Adt payload = None
 
 -- the same of files
 abbrev pub entry_fault_in : List ℕ → Option EntryFault
@@ -113,6 +142,13 @@ with_file tables file = by_file tables (with_table tables) file
 
 abbrev pub refused_in : List Region → List ℕ → Option ℕ
 refused_in regions file = by_file None (refused_entry regions) file
+
+-- whether a file is a table of LC, and whether one of these is: LC is there exactly then
+abbrev pub names_limits : List ℕ → Bool
+names_limits file = by_file false (λ kind payload. is_limits kind) file
+
+unfoldable pub lc_named : List (List ℕ) → Bool
+lc_named files = list_any names_limits files
 
 -- the tables that files name: the first file of a kind counts
 unfoldable pub tables_of : List (List ℕ) → TableSet

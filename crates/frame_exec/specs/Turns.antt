@@ -10,10 +10,11 @@ use Rattle.sc_sequences.specs.State.{IsReady as ScIsReady}
 use Rattle.mm_core.specs.declared.state.Mm.{Mm}
 use Rattle.md_dwell.specs.declared.state.Md.{Md}
 use Rattle.md_dwell.specs.State.{AllGiven}
+use Rattle.lc_watch.specs.declared.state.Lc.{Lc}
 use Rattle.frame_exec.specs.declared.slot.Slot.{Slot}
 use Rattle.frame_exec.specs.Tables.{TableSet}
 
--- the slots of the applications, the packets that HS took from its pipe of events, the tables, the files, the frame's image and its
+-- the slots of the applications, the packets that HS took from its pipe of events and LC from that of telemetry, the tables, the files, the frame's image and its
 -- execution counters, and its time
 pub record Seen : Type 0 where
   pub hs : Slot Hs
@@ -22,6 +23,8 @@ pub record Seen : Type 0 where
   pub sc : Slot Sc
   pub mm : Slot Mm
   pub md : Slot Md
+  pub lc : Slot Lc
+  pub telemetry : List (List ℕ)
   pub tables : TableSet
   pub files : List (List ℕ)
   pub memory : Memory

@@ -48,6 +48,8 @@ fn can_activate(kind: TableKind) -> bool
         TableKind::Dwell(_) => true,
         TableKind::Eeprom => true,
         TableKind::Memory => true,
+        TableKind::Wdt => false,
+        TableKind::Adt => false,
     }
 }
 
@@ -116,6 +118,8 @@ fn hand_over_segments(tables: &Tables<'_>, kind: TableKind, cs: &mut CsSlot)
         TableKind::Ats(_) => {}
         TableKind::Rts(_) => {}
         TableKind::Dwell(_) => {}
+        TableKind::Wdt => {}
+        TableKind::Adt => {}
     }
 }
 

@@ -2,12 +2,15 @@
 
 ghost use Rattle.std.specs.Prelude.{◌≡◌};
 ghost use Rattle.frame_exec.specs.declared.bench.TheConstants.{DROPS, ACTIVATIONS};
+ghost use Rattle.frame_exec.specs.Jobs.{jobs_of};
 
 use crate::activations::{Naming, hand_over, naming_of, tell};
 use crate::crowds::obey_frame;
 use crate::cs_slot::CsSlot;
 use crate::cut::Cut;
 use crate::hs_slot::HsSlot;
+use crate::jobs::wake_all;
+use crate::lc_slot::LcSlot;
 use crate::left::Left;
 use crate::md_slot::MdSlot;
 use crate::mm_slot::MmSlot;
@@ -17,12 +20,13 @@ use crate::stages::{
     deliver_all, has_reset, in_order, is_held, put_frame, stamp_all, take_unless, upset_all,
 };
 use crate::tables::Tables;
-use crate::wakeups::{Scene, Wakeup};
+use crate::wakeups::Scene;
 use bus_pipes::{Batch, Bus, Drops, Outbox, PipeName};
 use crew_board::Crew;
 use cs_slices::Cs;
 use fsw_outside::{Failed, Gate, Sink};
 use hs_monitors::Hs;
+use lc_watch::Lc;
 use md_dwell::Md;
 use memory_window::{Ops, Ram};
 use mm_core::Mm;
@@ -34,7 +38,7 @@ use std::thread::Threads;
 use subjects::{Crowd, Subject};
 
 /// How many packets are dropped in a frame at most: all that are sent and all that the applications give.
-pub(crate) const DROPS: u32 = 1525;
+pub(crate) const DROPS: u32 = 1573;
 
 /// How many tables a frame may name to become active.
 pub(crate) const ACTIVATIONS: u32 = 64;
@@ -60,6 +64,7 @@ pub struct Bench<'f> {
     pub(crate) sc: ScSlot,
     pub(crate) mm: MmSlot,
     pub(crate) md: MdSlot,
+    pub(crate) lc: LcSlot,
     // who wakes the applications, with what each left
     pub(crate) crew: Crew<Left>,
     pub(crate) ops: Box<Ops>,
@@ -72,7 +77,7 @@ pub struct Bench<'f> {
     // lines, until they are handed on
     pub(crate) block: Block,
     ghost drops_room: { drops.room ≡ DROPS },
-    ghost five: { crew.jobs ≡ 5 },
+    ghost manned: { crew.jobs ≡ jobs_of bus.watched },
     ghost activations_room: { activations.room ≡ ACTIVATIONS },
 }
 
@@ -350,6 +355,7 @@ impl<'f> Bench<'f> {
         self.sc.begin(Sc::start(self.tables.sc(), time));
         self.mm.begin(Mm::start());
         self.md.begin(Md::start(self.tables.dwells()));
+        self.lc.slot.begin(Lc::start(self.tables.adt()));
         self.bus.clear();
     }
 
@@ -362,7 +368,8 @@ impl<'f> Bench<'f> {
         ensures activates { Activates files.now [] self.old self.new }
         ensures ready { IsReady self.new }
     {
-        if files.is_empty() && self.activations.is_empty() {
+        self.activations.clear();
+        if files.is_empty() {
             return;
         }
         self.activate_all(files);
@@ -440,6 +447,7 @@ impl<'f> Bench<'f> {
             .take(&mut self.bus, PipeName::Mm, is_held(App::Mm, held));
         self.md
             .take(&mut self.bus, PipeName::Md, is_held(App::Md, held));
+        self.lc.take(&mut self.bus);
         self.ops.clear();
     }
 
@@ -472,6 +480,7 @@ impl<'f> Bench<'f> {
             tables: &self.tables,
             files: self.tables.files(),
             events: &self.events,
+            telemetry: &self.lc.telemetry,
             window,
             counters,
             time,
@@ -482,37 +491,16 @@ impl<'f> Bench<'f> {
             sc: &self.sc,
             mm: &self.mm,
             md: &self.md,
+            lc: &self.lc.slot,
             reads,
         };
-        let jobs = [
-            Wakeup {
-                scene: &scene,
-                app: App::Hs,
-            },
-            Wakeup {
-                scene: &scene,
-                app: App::Cs,
-            },
-            Wakeup {
-                scene: &scene,
-                app: App::Sc,
-            },
-            Wakeup {
-                scene: &scene,
-                app: App::Mm,
-            },
-            Wakeup {
-                scene: &scene,
-                app: App::Md,
-            },
-        ];
-        self.crew.run(rt, &jobs, gate);
+        wake_all(&mut self.crew, rt, gate, &scene, self.bus.is_watched());
     }
 
     /// Takes over what the jobs left, in the order of the applications, and tells whether no item was given.
     #[inline(always)]
     fn take_over(&mut self) -> bool
-        requires five { length self.old.crew.results ≡ 5 }
+        requires manned { length self.old.crew.results ≡ jobs_of self.old.bus.watched }
         requires clear { IsClear self.old }
         ensures over { TakesOver self.old self.new }
         ensures none { result ≡ true → joined (items_in self.new) ≡ [] }
@@ -525,7 +513,8 @@ impl<'f> Bench<'f> {
         left.give_operations(&mut self.ops);
         let mm = self.mm.take_over(&mut self.crew, 3);
         let md = self.md.take_over(&mut self.crew, 4);
-        told & hs & cs & sc & mm & md
+        let lc = self.lc.take_over(&mut self.crew, self.bus.is_watched());
+        told & hs & cs & sc & mm & md & lc
     }
 
     /// Sends the items, unless nothing is to be sent, and tells whether nothing was sent nor dropped.
@@ -568,6 +557,7 @@ impl<'f> Bench<'f> {
             &self.sc,
             &self.mm,
             &self.md,
+            &self.lc,
             &mut self.drops,
         );
     }
@@ -583,10 +573,11 @@ impl<'f> Bench<'f> {
         stamp_all(&mut self.log, &mut self.sc.out);
         stamp_all(&mut self.log, &mut self.mm.out);
         stamp_all(&mut self.log, &mut self.md.out);
+        stamp_all(&mut self.log, &mut self.lc.slot.out);
     }
 
-    /// Makes the frame's tables active, writes its upsets, and lets each application take what its pipes hold. A frame without items has
-    /// none of these.
+    /// Makes the frame's tables active, writes its upsets, and lets each application take what its pipes hold. A frame that only sends
+    /// has none of the former.
     #[inline(always)]
     fn arrive(&mut self, input: &FrameInput)
         requires time { self.old.epoch + self.old.number < 4294967296 }
@@ -596,7 +587,7 @@ impl<'f> Bench<'f> {
         ensures few { length input.now.sends + length input.now.activations ≤ 64 }
         ensures ready { IsReady self.new }
     {
-        if input.is_empty() {
+        if input.has_only_sends() {
             self.activations.clear();
             self.take(&[]);
             return;
@@ -680,6 +671,7 @@ impl<'f> Bench<'f> {
             &self.sc,
             &self.mm,
             &self.md,
+            &self.lc,
         );
         put_frame(
             &mut self.block,
@@ -707,6 +699,7 @@ impl<'f> Bench<'f> {
             &self.sc,
             &self.mm,
             &self.md,
+            &self.lc,
         );
         obey_frame(crowd, self.resets, &lists);
     }
@@ -721,6 +714,7 @@ impl<'f> Bench<'f> {
             | has_reset(self.sc.out.items())
             | has_reset(self.mm.out.items())
             | has_reset(self.md.out.items())
+            | has_reset(self.lc.slot.out.items())
     }
 
     /// Whether nothing was sent nor dropped in the frame that was run.
@@ -742,5 +736,6 @@ impl<'f> Bench<'f> {
             && self.sc.out.is_empty()
             && self.mm.out.is_empty()
             && self.md.out.is_empty()
+            && self.lc.slot.out.is_empty()
     }
 }

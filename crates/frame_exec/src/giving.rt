@@ -70,6 +70,8 @@ fn refused_entry(map: &Map, kind: TableKind, payload: &[u8]) -> Option<u32>
         TableKind::MsgActs => None,
         TableKind::Ats(_) => None,
         TableKind::Rts(_) => None,
+        TableKind::Wdt => None,
+        TableKind::Adt => None,
     }
 }
 

@@ -1,6 +1,6 @@
 //! Laws of the definitions, as contracts of functions that do nothing.
 
-ghost use Rattle.std.specs.Prelude.{◌≡◌, ℕ, List, [], ◌∷◌, ◌++◌, true, length, codes};
+ghost use Rattle.std.specs.Prelude.{◌≡◌, ℕ, List, [], ◌∷◌, ◌++◌, true, false, length, codes};
 ghost use Rattle.memory_window.specs.declared.regions.Region.{Region};
 ghost use Rattle.memory_window.specs.declared.regions.Kind.TheVariants.{Ram};
 ghost use Rattle.scenario.specs.FrameLists.{Frame};
@@ -8,10 +8,12 @@ ghost use Rattle.table_files.specs.Kinds.{IsKnown};
 ghost use Rattle.table_files.specs.declared.kinds.TableKind.{TableKind};
 ghost use Rattle.subjects.specs.Plans.{Simulated};
 ghost use Rattle.subjects.specs.Calls.{Call, after_calls};
-ghost use Rattle.frame_exec.specs.Runs.{Setup, State, beginning, activated_at, sent_at, resets_at, after_frame, run_of, frame_lines, log_of};
+ghost use Rattle.frame_exec.specs.Runs.{Setup, State, beginning, is_away, lc_input_at, activated_at, sent_at, resets_at, after_frame, run_of, frame_lines, log_of};
 ghost use Rattle.frame_exec.specs.Crowds.{crowd_after, calls_in, gone_on, course_of};
+ghost use Rattle.frame_exec.specs.Applications.{lc_setup, lc_gives};
+ghost use Rattle.frame_exec.specs.Wakes.{unless};
 ghost use Rattle.frame_exec.specs.Rows.{noop_sent, quiet, none_activated, noop_setup, noop_line, refused_line};
-ghost use Rattle.frame_exec.specs.Tables.{is_loaded};
+ghost use Rattle.frame_exec.specs.Tables.{is_loaded, lc_named};
 
 /// A run and its log without frames, and at one frame more.
 pub fn runs_go_on()
@@ -41,6 +43,13 @@ pub fn crowds_are_called()
 /// Each kind of table that is known by a name has an application that loads it.
 pub fn known_tables_are_loaded()
     ensures { (kind : TableKind) → IsKnown kind → is_loaded kind ≡ true }
+{}
+
+/// The limit checker is there in a run exactly where a table of it is named. Where it isn't, its history stays empty, as no wakeup is its.
+pub fn limit_checker_is_there()
+    ensures there { (setup : Setup) (frames : List Frame) → (run_of setup frames).pipes.watched ≡ lc_named setup.files }
+    ensures away { (setup : Setup) (frames : List Frame) → lc_named setup.files ≡ false → (run_of setup frames).lc ≡ [] }
+    ensures silent { (setup : Setup) (s : State) (frame : Frame) → s.pipes.watched ≡ false → unless (is_away s) (lc_gives (lc_setup s.tables) s.lc (lc_input_at setup s)) ≡ [] }
 {}
 
 /// A run of two frames in which MM alone is woken, and the first of which sends it a no-op: its log is the event that answers it, byte by byte.

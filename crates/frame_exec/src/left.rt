@@ -9,6 +9,7 @@ use cs_slices::{Cs, Segments};
 use fsw_outside::NoMemory;
 use hs_monitors::{Hs, MOST_ITEMS};
 use hs_tables::HsTables;
+use lc_watch::{Adt, Lc};
 use md_dwell::{Dwell, Md};
 use memory_window::Ops;
 use mm_core::Mm;
@@ -27,6 +28,7 @@ pub(crate) struct Left {
     pub(crate) sc: Box<Sc>,
     pub(crate) mm: Box<Mm>,
     pub(crate) md: Box<Md>,
+    pub(crate) lc: Box<Lc>,
     pub(crate) out: Outbox,
     pub(crate) ops: Box<Ops>,
     ghost roomy: { out.room ≡ MOST_ITEMS },
@@ -84,6 +86,14 @@ impl Next for Md {
     }
 }
 
+impl Next for Lc {
+    ghost next = { λ left. left.lc.value };
+
+    fn exchange(left: &mut Left, state: &mut Box<Lc>) {
+        mem::swap(&mut left.lc, state);
+    }
+}
+
 impl Scratch for Left {
     /// The states are those before the first wakeup on blank tables, until a wakeup writes over them.
     fn fresh(alloc: Global) -> Result<Left, NoMemory> {
@@ -96,6 +106,7 @@ impl Scratch for Left {
             sc: Box::new(alloc, Sc::start(&sequences, 0))?,
             mm: Box::new(alloc, Mm::start())?,
             md: Box::new(alloc, Md::start(&[Dwell::blank(); 4]))?,
+            lc: Box::new(alloc, Lc::start(&Adt::blank()))?,
             out: Outbox::open(alloc, MOST_ITEMS)?,
             ops: Box::new(alloc, Ops::new())?,
         })

@@ -9,7 +9,9 @@ mod cs_slot;
 mod cut;
 mod giving;
 mod hs_slot;
+mod jobs;
 pub mod laws;
+mod lc_slot;
 mod left;
 mod loading;
 mod md_slot;
@@ -21,6 +23,7 @@ mod slot;
 mod stages;
 mod tables;
 mod wakeups;
+mod watching;
 
 pub use bench::Bench;
 pub use cut::Cut;

@@ -6,11 +6,14 @@ ghost use Rattle.hs_tables.specs.Apps as apps;
 ghost use Rattle.hs_tables.specs.Events as events;
 ghost use Rattle.hs_tables.specs.Counters as counters;
 ghost use Rattle.hs_tables.specs.Actions as actions;
+ghost use Rattle.lc_watch.specs.Watchpoints as watchpoints;
+ghost use Rattle.lc_watch.specs.Actionpoints as actionpoints;
 ghost use Rattle.table_files.specs.declared.fault.EntryFault.{EntryFault};
 ghost use Rattle.frame_exec.specs.Tables.{where_well, said_or, fault_at};
 
 use cs_slices::Segments;
 use hs_tables::{AppMon, EventMon, ExeCount, MsgActs};
+use lc_watch::{Adt, Wdt};
 use table_files::EntryFault;
 
 /// Why the entries of the files are refused: the first faulty file, counted from 1, and in it the entry and the reason that
@@ -86,6 +89,26 @@ pub(crate) fn put_acts(place: &mut MsgActs, payload: &[u8]) -> Option<EntryFault
     requires { length payload.now ≡ 544 }
     ensures table { place.new ≡ where_well (actions.rows_of payload.now) place.old (actions.rows_fault_of payload.now) }
     ensures fault { result ≡ actions.rows_fault_of payload.now }
+    ensures small { IfSome result (λ fault. fault.reason ≤ 5) }
+{
+    place.read(payload)
+}
+
+/// Puts a watchpoint table in a place, unless its entries have a fault.
+pub(crate) fn put_watch(place: &mut Wdt, payload: &[u8]) -> Option<EntryFault>
+    requires { length payload.now ≡ 512 }
+    ensures table { place.new ≡ where_well (watchpoints.rows_of payload.now) place.old (watchpoints.rows_fault_of payload.now) }
+    ensures fault { result ≡ watchpoints.rows_fault_of payload.now }
+    ensures small { IfSome result (λ fault. fault.reason ≤ 5) }
+{
+    place.read(payload)
+}
+
+/// Puts an actionpoint table in a place, unless its entries have a fault.
+pub(crate) fn put_actions(place: &mut Adt, payload: &[u8]) -> Option<EntryFault>
+    requires { length payload.now ≡ 640 }
+    ensures table { place.new ≡ where_well (actionpoints.rows_of payload.now) place.old (actionpoints.rows_fault_of payload.now) }
+    ensures fault { result ≡ actionpoints.rows_fault_of payload.now }
     ensures small { IfSome result (λ fault. fault.reason ≤ 5) }
 {
     place.read(payload)

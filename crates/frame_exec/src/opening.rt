@@ -2,13 +2,17 @@
 
 use crate::bench::{ACTIVATIONS, Bench, DROPS};
 use crate::giving::{OpenFault, refused_place};
+use crate::jobs::jobs_of;
+use crate::lc_slot::LcSlot;
 use crate::slot::Slot;
 use crate::tables::Tables;
+use crate::watching::names_limit_checker;
 use bus_pipes::{Batch, Bus, Drops, Outbox};
 use crew_board::Crew;
 use cs_slices::Cs;
 use fsw_outside::NoMemory;
 use hs_monitors::Hs;
+use lc_watch::Lc;
 use md_dwell::Md;
 use memory_window::{Ops, Ram};
 use mm_core::Mm;
@@ -17,9 +21,6 @@ use sc_sequences::Sc;
 use scenario::Header;
 use std::alloc::Global;
 use table_files::Files;
-
-/// How many applications are woken in a frame.
-const JOBS: u32 = 5;
 
 impl<'f> Bench<'f> {
     ghost use Rattle.std.specs.Prelude.{ℕ, ◌≡◌, ◌≤◌, List, [], IfOk};
@@ -66,6 +67,7 @@ impl<'f> Bench<'f> {
         requires given { AreGiven header.now.map tables }
         ensures { (files : List (List ℕ)) → AreLoaded files tables.entry → IfOk result (λ bench. Stands bench (setup_in header.now files) []) }
     {
+        let lc = names_limit_checker(tables.files());
         Ok(Bench {
             epoch: header.epoch,
             number: 0,
@@ -78,12 +80,13 @@ impl<'f> Bench<'f> {
             sc: Slot::open(alloc, Sc::start(tables.sc(), header.epoch))?,
             mm: Slot::open(alloc, Mm::start())?,
             md: Slot::open(alloc, Md::start(tables.dwells()))?,
+            lc: LcSlot::open(alloc, Lc::start(tables.adt()))?,
             tables,
             activations: Outbox::open(alloc, ACTIVATIONS)?,
-            crew: Crew::open(alloc, workers, JOBS)?,
+            crew: Crew::open(alloc, workers, jobs_of(lc))?,
             ops: Box::new(alloc, Ops::new())?,
             drops: Drops::open(alloc, DROPS)?,
-            bus: Bus::open(alloc)?,
+            bus: Bus::open(alloc, lc)?,
             log: Log::start(),
             ram: Ram::new(alloc, header.map)?,
             line: Line::new(),

@@ -5,7 +5,7 @@ ghost use Rattle.std.specs.List.{AllPass, flat_map, fold, list_any};
 ghost use Rattle.fsw_outside.specs.Causes.{HasCause};
 ghost use Rattle.bus_pipes.specs.Held.{adding};
 ghost use Rattle.bus_pipes.specs.Counted.{is_item_counted};
-ghost use Rattle.bus_pipes.specs.Pipes.{packets_in};
+ghost use Rattle.bus_pipes.specs.Pipes.{packets_in, depth_of};
 ghost use Rattle.bus_pipes.specs.Delivery.{after_offers, drops_from};
 ghost use Rattle.memory_window.specs.Regions.{is_mapped};
 ghost use Rattle.memory_window.specs.Memory.{regions_of};
@@ -19,6 +19,7 @@ ghost use Rattle.frame_exec.specs.Sending.{place_of, is_same, taken, upset_by, s
 
 use crate::cs_slot::CsSlot;
 use crate::hs_slot::HsSlot;
+use crate::lc_slot::LcSlot;
 use crate::md_slot::MdSlot;
 use crate::mm_slot::MmSlot;
 use crate::sc_slot::ScSlot;
@@ -50,6 +51,7 @@ pub(crate) fn is_held(app: App, held: &[App]) -> bool
 
 /// Takes all packets of a pipe, unless its application is held.
 pub(crate) fn take_unless(bus: &mut Bus, pipe: PipeName, held: bool, batch: &mut Batch)
+    requires { depth_of pipe ≤ 32 }
     ensures pipes { bus.new ≡ taken pipe held bus.old }
     ensures taken { held ≡ false → batch.new ≡ packets_in pipe bus.old }
 {
@@ -140,9 +142,10 @@ pub(crate) fn in_order<'a>(
     sc: &'a ScSlot,
     mm: &'a MmSlot,
     md: &'a MdSlot,
-) -> [&'a [Out]; 6]
-    ensures shown { shown result ≡ joined (activations.now.items ∷ hs.now.out.items ∷ cs.now.out.items ∷ sc.now.out.items ∷ mm.now.out.items ∷ md.now.out.items ∷ []) }
-    ensures six { length result ≡ 6 }
+    lc: &'a LcSlot,
+) -> [&'a [Out]; 7]
+    ensures shown { shown result ≡ joined (activations.now.items ∷ hs.now.out.items ∷ cs.now.out.items ∷ sc.now.out.items ∷ mm.now.out.items ∷ md.now.out.items ∷ lc.now.slot.out.items ∷ []) }
+    ensures seven { length result ≡ 7 }
 {
     [
         activations.items(),
@@ -151,6 +154,7 @@ pub(crate) fn in_order<'a>(
         sc.out.items(),
         mm.out.items(),
         md.out.items(),
+        lc.slot.out.items(),
     ]
 }
 
@@ -164,14 +168,15 @@ pub(crate) fn deliver_all(
     sc: &ScSlot,
     mm: &MmSlot,
     md: &MdSlot,
+    lc: &LcSlot,
     drops: &mut Drops,
 )
-    requires { length drops.old.items + length (joined (activations.now.items ∷ hs.now.out.items ∷ cs.now.out.items ∷ sc.now.out.items ∷ mm.now.out.items ∷ md.now.out.items ∷ [])) ≤ drops.old.room }
-    ensures after { bus.new ≡ after_offers bus.old (flat_map packet_in (joined (activations.now.items ∷ hs.now.out.items ∷ cs.now.out.items ∷ sc.now.out.items ∷ mm.now.out.items ∷ md.now.out.items ∷ []))) }
-    ensures drops { drops.new ≡ adding drops.old (drops_from bus.old (flat_map packet_in (joined (activations.now.items ∷ hs.now.out.items ∷ cs.now.out.items ∷ sc.now.out.items ∷ mm.now.out.items ∷ md.now.out.items ∷ [])))) }
+    requires { length drops.old.items + length (joined (activations.now.items ∷ hs.now.out.items ∷ cs.now.out.items ∷ sc.now.out.items ∷ mm.now.out.items ∷ md.now.out.items ∷ lc.now.slot.out.items ∷ [])) ≤ drops.old.room }
+    ensures after { bus.new ≡ after_offers bus.old (flat_map packet_in (joined (activations.now.items ∷ hs.now.out.items ∷ cs.now.out.items ∷ sc.now.out.items ∷ mm.now.out.items ∷ md.now.out.items ∷ lc.now.slot.out.items ∷ []))) }
+    ensures drops { drops.new ≡ adding drops.old (drops_from bus.old (flat_map packet_in (joined (activations.now.items ∷ hs.now.out.items ∷ cs.now.out.items ∷ sc.now.out.items ∷ mm.now.out.items ∷ md.now.out.items ∷ lc.now.slot.out.items ∷ [])))) }
     ensures room { drops.new.room ≡ drops.old.room }
 {
-    deliver_lists(bus, &in_order(activations, hs, cs, sc, mm, md), drops);
+    deliver_lists(bus, &in_order(activations, hs, cs, sc, mm, md, lc), drops);
 }
 
 /// Offers the packets of lists of items that were sent to their pipes, one list after another.

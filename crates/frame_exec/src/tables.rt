@@ -8,10 +8,12 @@ ghost use Rattle.table_files.specs.declared.kinds.TableKind.{TableKind};
 ghost use Rattle.frame_exec.specs.Tables.{with_table, with_file, entry_fault, entry_fault_in, tables_fault, tables_of};
 
 use crate::loading::{
-    TablesFault, earlier_fault, put_acts, put_apps, put_counts, put_events, put_segments,
+    TablesFault, earlier_fault, put_actions, put_acts, put_apps, put_counts, put_events,
+    put_segments, put_watch,
 };
 use cs_slices::Segments;
 use hs_tables::HsTables;
+use lc_watch::{Adt, Wdt};
 use md_dwell::Dwell;
 use sc_tables::{RtsSet, ScTables};
 use std::marker::Model;
@@ -26,6 +28,8 @@ pub struct Tables<'f> {
     memory: Segments,
     hs: HsTables,
     sc: ScTables<'f>,
+    wdt: Wdt,
+    adt: Adt,
 }
 
 impl<'f> Model for Tables<'f> {
@@ -34,7 +38,7 @@ impl<'f> Model for Tables<'f> {
 
     ghost Value = { Loaded };
 
-    ghost view = { λ t. record { files = t.files.now; set = record { dwells = t.dwells; eeprom = t.eeprom; memory = t.memory; hs = t.hs; sc = t.sc } } };
+    ghost view = { λ t. record { files = t.files.now; set = record { dwells = t.dwells; eeprom = t.eeprom; memory = t.memory; hs = t.hs; sc = t.sc; wdt = t.wdt; adt = t.adt } } };
 
     ghost invariant = { λ t. length t.dwells ≡ 4 };
 }
@@ -54,6 +58,8 @@ impl<'f> Tables<'f> {
             memory: Segments::blank(),
             hs: HsTables::blank(),
             sc: ScTables::new([None; 2], RtsSet::empty()),
+            wdt: Wdt::blank(),
+            adt: Adt::blank(),
         }
     }
 
@@ -148,6 +154,20 @@ impl<'f> Tables<'f> {
         &self.sc
     }
 
+    /// The watchpoints of LC.
+    pub(crate) fn wdt(&self) -> &Wdt
+        ensures { result.now ≡ self.now.set.wdt }
+    {
+        &self.wdt
+    }
+
+    /// The actionpoints of LC.
+    pub(crate) fn adt(&self) -> &Adt
+        ensures { result.now ≡ self.now.set.adt }
+    {
+        &self.adt
+    }
+
     /// Puts the table of a file in its place, if it is one and its entries have no fault.
     fn put_file(&mut self, image: FileImage<'f>) -> Option<EntryFault>
         requires { (file : List ℕ) × Shows file image }
@@ -178,6 +198,8 @@ impl<'f> Tables<'f> {
             TableKind::MsgActs => put_acts(&mut self.hs.acts, payload),
             TableKind::Ats(n) => self.put_ats(n, payload),
             TableKind::Rts(n) => self.put_rts(n, payload),
+            TableKind::Wdt => put_watch(&mut self.wdt, payload),
+            TableKind::Adt => put_actions(&mut self.adt, payload),
         }
     }
 

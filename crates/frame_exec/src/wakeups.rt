@@ -7,8 +7,9 @@ use crate::md_slot::MdSlot;
 use crate::mm_slot::MmSlot;
 use crate::reads::Reads;
 use crate::sc_slot::ScSlot;
+use crate::slot::Slot;
 use crew_board::Task;
-use scenario::App;
+use lc_watch::Lc;
 use std::marker::Model;
 
 /// The applications with what they took, and what all of them read.
@@ -19,6 +20,7 @@ pub(crate) struct Scene<'a, 'r, 'n, 'f> {
     pub(crate) sc: &'a ScSlot,
     pub(crate) mm: &'a MmSlot,
     pub(crate) md: &'a MdSlot,
+    pub(crate) lc: &'a Slot<Lc>,
     pub(crate) reads: Reads<'r, 'n, 'f>,
 }
 
@@ -28,41 +30,50 @@ impl<'a, 'r, 'n, 'f> Model for Scene<'a, 'r, 'n, 'f> {
 
     ghost Value = { Seen };
 
-    ghost view = { λ s. record { hs = s.hs.now; events = s.reads.events.now; cs = s.cs.now; sc = s.sc.now; mm = s.mm.now; md = s.md.now; tables = s.reads.tables.now.set; files = s.reads.files.now; memory = seen s.reads.window; counters = s.reads.counters.now; time = s.reads.time } };
+    ghost view = { λ s. record { hs = s.hs.now; events = s.reads.events.now; cs = s.cs.now; sc = s.sc.now; mm = s.mm.now; md = s.md.now; lc = s.lc.now; telemetry = s.reads.telemetry.now.items; tables = s.reads.tables.now.set; files = s.reads.files.now; memory = seen s.reads.window; counters = s.reads.counters.now; time = s.reads.time } };
 
-    ghost invariant = { λ s. CanWake (record { hs = s.hs.now; events = s.reads.events.now; cs = s.cs.now; sc = s.sc.now; mm = s.mm.now; md = s.md.now; tables = s.reads.tables.now.set; files = s.reads.files.now; memory = seen s.reads.window; counters = s.reads.counters.now; time = s.reads.time }) };
+    ghost invariant = { λ s. CanWake (record { hs = s.hs.now; events = s.reads.events.now; cs = s.cs.now; sc = s.sc.now; mm = s.mm.now; md = s.md.now; lc = s.lc.now; telemetry = s.reads.telemetry.now.items; tables = s.reads.tables.now.set; files = s.reads.files.now; memory = seen s.reads.window; counters = s.reads.counters.now; time = s.reads.time }) };
+}
+
+/// The application that a job wakes.
+#[derive(Clone, Copy, Debug, PartialEq, Eq)]
+pub(crate) enum Job {
+    Hs,
+    Cs,
+    Sc,
+    Mm,
+    Md,
+    Lc,
 }
 
 /// The wakeup of an application, as a job.
 #[derive(Drop)]
-pub(crate) struct Wakeup<'s, 'a, 'r, 'n, 'f> {
-    pub(crate) scene: &'s Scene<'a, 'r, 'n, 'f>,
-    pub(crate) app: App,
-}
+pub(crate) struct Wakeup<'s, 'a, 'r, 'n, 'f>(pub(crate) &'s Scene<'a, 'r, 'n, 'f>, pub(crate) Job);
 
 impl Task for Wakeup<'_, '_, '_, '_, '_> {
     ghost use Rattle.frame_exec.specs.Jobs.{Leaves};
 
     type Work = Left;
 
-    ghost leaves = { λ w left. Leaves w.app w.scene.now left };
+    ghost leaves = { λ w left. Leaves w.1 w.0.now left };
 
     #[inline(always)]
     fn perform(&self, scratch: &mut Left) {
         scratch.out.clear();
-        match self.app {
-            App::Hs => self.scene.wake_hs(scratch),
-            App::Cs => self.scene.wake_cs(scratch),
-            App::Sc => self.scene.wake_sc(scratch),
-            App::Mm => self.scene.wake_mm(scratch),
-            App::Md => self.scene.wake_md(scratch),
+        match self.1 {
+            Job::Hs => self.0.wake_hs(scratch),
+            Job::Cs => self.0.wake_cs(scratch),
+            Job::Sc => self.0.wake_sc(scratch),
+            Job::Mm => self.0.wake_mm(scratch),
+            Job::Md => self.0.wake_md(scratch),
+            Job::Lc => self.0.wake_lc(scratch),
         }
     }
 }
 
 impl<'a, 'r, 'n, 'f> Scene<'a, 'r, 'n, 'f> {
     ghost use Rattle.std.specs.Prelude.{◌≡◌, []};
-    ghost use Rattle.scenario.specs.declared.frame.App.TheVariants as names;
+    ghost use Rattle.frame_exec.specs.declared.wakeups.Job.TheVariants as names;
     ghost use Rattle.frame_exec.specs.Jobs.{Leaves};
 
     /// Wakes HS. The scratch is clear.
@@ -136,6 +147,21 @@ impl<'a, 'r, 'n, 'f> Scene<'a, 'r, 'n, 'f> {
             &self.reads,
             &mut scratch.stays,
             &mut scratch.md,
+            &mut scratch.out,
+            &mut (),
+        );
+    }
+
+    /// Wakes LC. The scratch is clear.
+    #[inline(always)]
+    fn wake_lc(&self, scratch: &mut Left)
+        requires { scratch.old.out.items ≡ [] }
+        ensures { Leaves names.Lc self.now scratch.new }
+    {
+        self.lc.wake(
+            &self.reads,
+            &mut scratch.stays,
+            &mut scratch.lc,
             &mut scratch.out,
             &mut (),
         );

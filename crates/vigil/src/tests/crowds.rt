@@ -11,6 +11,7 @@ use crate::rehearse_given;
 use fsw_outside::{MemSink, OpenGate};
 use packet_forms::Name;
 use rehearsal::{Report, Status, vigil_with};
+use std::alloc::Global;
 use std::process::Abort;
 use std::test::Fail;
 use std::thread::Threads;
@@ -374,73 +375,57 @@ fn flag_alone_counts(rt: HostRuntime) -> Result<(), Fail> {
     Ok(())
 }
 
-/// 64 subjects of the three kinds.
-const CROWD: [Made<'static>; 64] = [
-    ("N00", Sort::Steady),
-    ("N01", Sort::Hanging(1)),
-    ("N02", Sort::Listed(&[2, 5, 6], 1)),
-    ("N03", Sort::Steady),
-    ("N04", Sort::Hanging(4)),
-    ("N05", Sort::Listed(&[5, 5, 6], 1)),
-    ("N06", Sort::Steady),
-    ("N07", Sort::Hanging(7)),
-    ("N08", Sort::Listed(&[8, 5, 6], 1)),
-    ("N09", Sort::Steady),
-    ("N10", Sort::Hanging(10)),
-    ("N11", Sort::Listed(&[11, 5, 6], 1)),
-    ("N12", Sort::Steady),
-    ("N13", Sort::Hanging(13)),
-    ("N14", Sort::Listed(&[14, 5, 6], 1)),
-    ("N15", Sort::Steady),
-    ("N16", Sort::Hanging(16)),
-    ("N17", Sort::Listed(&[17, 5, 6], 1)),
-    ("N18", Sort::Steady),
-    ("N19", Sort::Hanging(19)),
-    ("N20", Sort::Listed(&[20, 5, 6], 1)),
-    ("N21", Sort::Steady),
-    ("N22", Sort::Hanging(22)),
-    ("N23", Sort::Listed(&[23, 5, 6], 1)),
-    ("N24", Sort::Steady),
-    ("N25", Sort::Hanging(25)),
-    ("N26", Sort::Listed(&[26, 5, 6], 1)),
-    ("N27", Sort::Steady),
-    ("N28", Sort::Hanging(28)),
-    ("N29", Sort::Listed(&[29, 5, 6], 1)),
-    ("N30", Sort::Steady),
-    ("N31", Sort::Hanging(31)),
-    ("N32", Sort::Listed(&[32, 5, 6], 1)),
-    ("N33", Sort::Steady),
-    ("N34", Sort::Hanging(34)),
-    ("N35", Sort::Listed(&[35, 5, 6], 1)),
-    ("N36", Sort::Steady),
-    ("N37", Sort::Hanging(37)),
-    ("N38", Sort::Listed(&[38, 5, 6], 1)),
-    ("N39", Sort::Steady),
-    ("N40", Sort::Hanging(40)),
-    ("N41", Sort::Listed(&[41, 5, 6], 1)),
-    ("N42", Sort::Steady),
-    ("N43", Sort::Hanging(43)),
-    ("N44", Sort::Listed(&[44, 5, 6], 1)),
-    ("N45", Sort::Steady),
-    ("N46", Sort::Hanging(46)),
-    ("N47", Sort::Listed(&[47, 5, 6], 1)),
-    ("N48", Sort::Steady),
-    ("N49", Sort::Hanging(49)),
-    ("N50", Sort::Listed(&[50, 5, 6], 1)),
-    ("N51", Sort::Steady),
-    ("N52", Sort::Hanging(52)),
-    ("N53", Sort::Listed(&[53, 5, 6], 1)),
-    ("N54", Sort::Steady),
-    ("N55", Sort::Hanging(55)),
-    ("N56", Sort::Listed(&[56, 5, 6], 1)),
-    ("N57", Sort::Steady),
-    ("N58", Sort::Hanging(58)),
-    ("N59", Sort::Listed(&[59, 5, 6], 1)),
-    ("N60", Sort::Steady),
-    ("N61", Sort::Hanging(61)),
-    ("N62", Sort::Listed(&[62, 5, 6], 1)),
-    ("N63", Sort::Steady),
-];
+/// The names N00 to N63.
+fn crowd_names(alloc: Global) -> Result<Vec<String>, Fail> {
+    let mut names = Vec::new(alloc);
+    for number in 0..64_u32 {
+        names.push(format!(in alloc; "N{number:02}")?)?;
+    }
+    Ok(names)
+}
+
+/// A list for each of 64 subjects, which begins with its number.
+fn crowd_lists(alloc: Global) -> Result<Vec<[u32; 3]>, Fail> {
+    let mut lists = Vec::new(alloc);
+    for number in 0..64_u32 {
+        lists.push([number, 5, 6])?;
+    }
+    Ok(lists)
+}
+
+/// 64 subjects of the three kinds, in turn: steady, hanging once called as often as the number says, and along the list.
+fn crowd_of<'a>(
+    alloc: Global,
+    names: &'a [String],
+    lists: &'a [[u32; 3]],
+) -> Result<Vec<Made<'a>>, Fail> {
+    let mut crowd = Vec::new(alloc);
+    for (name, list) in names.iter().zip(lists.iter()) {
+        let [number, _, _] = *list;
+        let sort = match number % 3 {
+            0 => Sort::Steady,
+            1 => Sort::Hanging(number),
+            _ => Sort::Listed(list, 1),
+        };
+        crowd.push((name.as_str(), sort))?;
+    }
+    Ok(crowd)
+}
+
+/// Execution counters of every second name.
+fn crowd_counts<'a>(alloc: Global, names: &'a [String]) -> Result<Vec<Count<'a>>, Fail> {
+    let mut counts: Vec<Count<'a>> = Vec::new(alloc);
+    let mut place = 1_usize;
+    let mut shown = true;
+    for name in names.iter() {
+        if shown {
+            counts.push((place, name.as_str(), 1))?;
+            place = place.saturating_add(1);
+        }
+        shown = !shown;
+    }
+    Ok(counts)
+}
 
 const CROWD_APPS: [Monitor<'static>; 17] = [
     (1, "N01", 2, 2),
@@ -462,42 +447,6 @@ const CROWD_APPS: [Monitor<'static>; 17] = [
     (17, "N61", 2, 2),
 ];
 
-const CROWD_COUNTS: [Count<'static>; 32] = [
-    (1, "N00", 1),
-    (2, "N02", 1),
-    (3, "N04", 1),
-    (4, "N06", 1),
-    (5, "N08", 1),
-    (6, "N10", 1),
-    (7, "N12", 1),
-    (8, "N14", 1),
-    (9, "N16", 1),
-    (10, "N18", 1),
-    (11, "N20", 1),
-    (12, "N22", 1),
-    (13, "N24", 1),
-    (14, "N26", 1),
-    (15, "N28", 1),
-    (16, "N30", 1),
-    (17, "N32", 1),
-    (18, "N34", 1),
-    (19, "N36", 1),
-    (20, "N38", 1),
-    (21, "N40", 1),
-    (22, "N42", 1),
-    (23, "N44", 1),
-    (24, "N46", 1),
-    (25, "N48", 1),
-    (26, "N50", 1),
-    (27, "N52", 1),
-    (28, "N54", 1),
-    (29, "N56", 1),
-    (30, "N58", 1),
-    (31, "N60", 1),
-    (32, "N62", 1),
-];
-
-/// Housekeeping shows the counters of 32 of them.
 const CROWD_WATCHED: Rehearsal<'static> = Rehearsal {
     frames: 26,
     parts: &[&[(11, "send 18AFC00000010089\n")]],
@@ -523,11 +472,14 @@ const CROWD_WATCHED: Rehearsal<'static> = Rehearsal {
 #[test]
 fn large_crowd_is_watched(rt: HostRuntime) -> Result<(), Fail> {
     let apps = apps_file(rt.alloc(), &CROWD_APPS)?;
-    let counts = counts_file(rt.alloc(), &CROWD_COUNTS)?;
+    let names = crowd_names(rt.alloc())?;
+    let lists = crowd_lists(rt.alloc())?;
+    let crowd = crowd_of(rt.alloc(), &names, &lists)?;
+    let counts = counts_file(rt.alloc(), &crowd_counts(rt.alloc(), &names)?)?;
     let text = text_of(rt.alloc(), HEADER, &CROWD_WATCHED)?;
     let log = log_of(rt.alloc(), CROWD_WATCHED.lines)?;
     for words in WORDS {
-        let ran = run_with(&rt, words, &CROWD, text.as_str(), &[&apps, &counts])?;
+        let ran = run_with(&rt, words, &crowd, text.as_str(), &[&apps, &counts])?;
         assert_ran(&rt, &ran, CROWD_WATCHED.frames, log.as_str());
     }
     Ok(())

@@ -1,4 +1,4 @@
-use Rattle.std.proofs.Common.{◌≡◌, ℕ, List, [], length, true, All, refl, sym, ◌∙◌, ap, subst, arith}
+use Rattle.std.proofs.Common.{◌≡◌, ℕ, List, [], length, true, All, sym, ap, subst, arith}
 use Rattle.memory_window.specs.Regions.{is_mapped}
 use Rattle.memory_window.specs.Memory.{Memory, regions_of}
 use Rattle.memory_window.specs.declared.regions.Region.{Region}
@@ -11,11 +11,11 @@ use Rattle.frame_exec.proofs.Frames.{ready_by, regions_same}
 use Rattle.frame_exec.proofs.Naming.{activates_none, ready_told, upset_none}
 use Rattle.frame_exec.proofs.bench.Bench.arrive.Goals as goal
 
--- the frame has no items
-pub returns-then-is_empty-clause-arrives : goal.returns-then-is_empty-clause-arrives
-returns-then-is_empty-clause-arrives c =
-    let none = c.is_empty.ensures.none c.if-is_empty.true in
-    let active : Bench = record c.args.self.now { activations = c.clear.new.self; drops_room = c.self-1.given.0; five = c.self-1.given.1.0; activations_room = c.self-1.given.1.1.0 } in
+-- the frame has only sends
+pub returns-then-has_only_sends-clause-arrives : goal.returns-then-has_only_sends-clause-arrives
+returns-then-has_only_sends-clause-arrives c =
+    let none = c.has_only_sends.ensures.only c.if-has_only_sends.true in
+    let active : Bench = record c.args.self.now { activations = c.clear.new.self; drops_room = c.self-1.given.0; manned = c.self-1.given.1.0; activations_room = c.self-1.given.1.1.0 } in
     record {
       active = active;
       upset = active;
@@ -24,9 +24,9 @@ returns-then-is_empty-clause-arrives c =
       takes = subst (λ (f : Frame). Takes f.held active c.take.new.self) (sym none) c.take.ensures;
     }
 
-pub returns-then-is_empty-clause-ready : goal.returns-then-is_empty-clause-ready
-returns-then-is_empty-clause-ready c =
-    let active : Bench = record c.args.self.now { activations = c.clear.new.self; drops_room = c.self-1.given.0; five = c.self-1.given.1.0; activations_room = c.self-1.given.1.1.0 } in
+pub returns-then-has_only_sends-clause-ready : goal.returns-then-has_only_sends-clause-ready
+returns-then-has_only_sends-clause-ready c =
+    let active : Bench = record c.args.self.now { activations = c.clear.new.self; drops_room = c.self-1.given.0; manned = c.self-1.given.1.0; activations_room = c.self-1.given.1.1.0 } in
     ready_by active c.take.new.self (ap (λ (m : Memory). regions_of m.areas) c.take.ensures.memory) c.take.ensures.run.tables c.take.ensures.apps (ready_told c.args.self.now c.clear.new.self _ _ _ c.requires.ready)
 
 pub activate-requires-clause-few : goal.activate-requires-clause-few

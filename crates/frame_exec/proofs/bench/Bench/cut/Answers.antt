@@ -2,15 +2,16 @@ use Rattle.std.proofs.Common.{◌≡◌, true}
 use Rattle.std.proofs.Math.Nat.{ℕ_set}
 use Rattle.frame_exec.specs.declared.bench.TheConstants.{DROPS, ACTIVATIONS}
 use Rattle.frame_exec.specs.declared.bench.Bench.{Bench}
+use Rattle.frame_exec.specs.Jobs.{jobs_of}
 use Rattle.frame_exec.proofs.bench.Bench.cut.Goals as goal
 
 -- each room is known in one way, and so is the number of jobs
-same_facts : (b : Bench) (room also_room : b.drops.room ≡ DROPS) (jobs also_jobs : b.crew.jobs ≡ 5) (told also_told : b.activations.room ≡ ACTIVATIONS)
-    → ◌≡◌ {A = Bench} (record b { failed = true; drops_room = room; five = jobs; activations_room = told }) (record b { failed = true; drops_room = also_room; five = also_jobs; activations_room = also_told })
+same_facts : (b : Bench) (room also_room : b.drops.room ≡ DROPS) (jobs also_jobs : b.crew.jobs ≡ jobs_of b.bus.watched) (told also_told : b.activations.room ≡ ACTIVATIONS)
+    → ◌≡◌ {A = Bench} (record b { failed = true; drops_room = room; manned = jobs; activations_room = told }) (record b { failed = true; drops_room = also_room; manned = also_jobs; activations_room = also_told })
 same_facts b room also_room jobs also_jobs told also_told = λ i. record b {
   failed = true;
   drops_room = ℕ_set b.drops.room DROPS room also_room i;
-  five = ℕ_set b.crew.jobs 5 jobs also_jobs i;
+  manned = ℕ_set b.crew.jobs (jobs_of b.bus.watched) jobs also_jobs i;
   activations_room = ℕ_set b.activations.room ACTIVATIONS told also_told i;
 }
 

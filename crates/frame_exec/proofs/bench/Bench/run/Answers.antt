@@ -1,20 +1,16 @@
-use Rattle.std.proofs.Common.{◌≡◌, ℕ, List, length, true, All, refl, sym, ◌∙◌, ap, subst, arith}
+use Rattle.std.proofs.Common.{◌≡◌, length, true, refl, sym, ◌∙◌, ap, subst, arith}
 use Rattle.std.specs.List.{AllPass}
-use Rattle.memory_window.specs.Regions.{is_mapped}
-use Rattle.memory_window.specs.Memory.{Memory, regions_of}
-use Rattle.memory_window.specs.declared.regions.Region.{Region}
-use Rattle.scenario.specs.declared.frame.Upset.{Upset}
+use Rattle.std.specs.Prelude.{not}
 use Rattle.bus_pipes.specs.Held.{Held}
+use Rattle.bus_pipes.specs.Pipes.{Pipes}
 use Rattle.bus_pipes.specs.Counted.{is_item_counted}
 use Rattle.bus_pipes.specs.declared.names.Out.{Out}
 use Rattle.packet_log.specs.Standing.{Stands as LogStands}
-use Rattle.scenario.specs.declared.frame.App.{App}
 use Rattle.frame_exec.specs.Tables.{Loaded}
-use Rattle.frame_exec.specs.Runs.{activated_at}
+use Rattle.frame_exec.specs.Runs.{activated_at, left_by}
 use Rattle.frame_exec.specs.Crowds.{with_counters}
-use Rattle.frame_exec.specs.Stages.{Takes}
 use Rattle.std.proofs.lemmas.List.Elements.{All-nil}
-use Rattle.frame_exec.proofs.Frames.{apps_kept, ready_by, regions_same}
+use Rattle.frame_exec.proofs.Frames.{apps_kept}
 use Rattle.frame_exec.proofs.Naming.{activated_has, events_at}
 use Rattle.frame_exec.proofs.Waking.{image_is}
 use Rattle.frame_exec.proofs.Stepping.{ran}
@@ -25,6 +21,21 @@ step-none-requires-clause-told g c = λ _ _.
     let a = c.arrive.ensures.arrives in
     let told = ap (λ (held : Held Out). held.items) (a.takes.told ∙ a.writes.told) in
     subst (AllPass is_item_counted) (sym told) (a.activates.counted (All-nil (λ (item : Out). is_item_counted item ≡ true)))
+
+pub step-none-requires-clause-clear : goal.step-none-requires-clause-clear
+unfolding left_by
+step-none-requires-clause-clear g c = λ _ _.
+    let takes = c.arrive.ensures.arrives.takes in
+    record {
+      hs = takes.hs.none;
+      cs = takes.cs.none;
+      sc = takes.sc.none;
+      mm = takes.mm.none;
+      md = takes.md.none;
+      lc = takes.lc.none;
+      away = λ away. takes.lc.same ∙ ap not (sym (ap (λ (p : Pipes). p.watched) takes.pipes) ∙ away);
+      operations = takes.operations;
+    }
 
 pub send-requires-clause-few : goal.send-requires-clause-few
 send-requires-clause-few g c =

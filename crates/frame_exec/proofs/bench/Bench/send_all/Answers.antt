@@ -4,8 +4,9 @@ use Rattle.bus_pipes.specs.Held.{Held, adding}
 use Rattle.bus_pipes.specs.Delivery.{after_offers, drops_from}
 use Rattle.bus_pipes.specs.declared.names.Dropped.{Dropped}
 use Rattle.bus_pipes.specs.Pipes.{Pipes}
-use Rattle.bus_pipes.proofs.Deliveries.{after_offers_none, drops_none}
+use Rattle.bus_pipes.proofs.Deliveries.{after_offers_none, drops_none, watched_after}
 use Rattle.frame_exec.specs.Sending.{packet_in, offered}
+use Rattle.frame_exec.specs.Jobs.{jobs_of}
 use Rattle.frame_exec.specs.Stages.{items_in}
 use Rattle.frame_exec.specs.Wakes.{joined}
 use Rattle.frame_exec.proofs.Offers.{offers_two, drops_two}
@@ -21,7 +22,7 @@ returns-then-self c =
     let none : offered c.stamp.new.self.resets c.args.input.now.sends (joined (items_in c.stamp.new.self)) ≡ [] = ap (λ (b : Bool). offered b c.args.input.now.sends (joined (items_in c.stamp.new.self))) c.if-self.true in
     record {
       run = record { waits = run.waits; epoch = run.epoch; number = run.number; failed = run.failed; tables = run.tables };
-      apps = record { hs = apps.hs; cs = apps.cs; sc = apps.sc; mm = apps.mm; md = apps.md };
+      apps = record { hs = apps.hs; cs = apps.cs; sc = apps.sc; mm = apps.mm; md = apps.md; lc = apps.lc };
       operations = stamped.operations;
       sent = stamped.sent;
       made = stamped.made;
@@ -43,7 +44,7 @@ returns c =
     let offered_first = c.deliver.ensures.after ∙ ap (λ (p : Pipes). after_offers p c.sends.result.now) stamped.pipes ∙ ap (after_offers old.bus) sends in
     record {
       run = record { waits = run.waits; epoch = run.epoch; number = run.number; failed = run.failed; tables = run.tables };
-      apps = record { hs = apps.hs; cs = apps.cs; sc = apps.sc; mm = apps.mm; md = apps.md };
+      apps = record { hs = apps.hs; cs = apps.cs; sc = apps.sc; mm = apps.mm; md = apps.md; lc = apps.lc };
       operations = stamped.operations;
       sent = stamped.sent;
       made = stamped.made;
@@ -54,3 +55,10 @@ returns c =
           ∙ ap (λ (p : Pipes). adding old.drops (drops_from p c.sends.result.now)) stamped.pipes ∙ ap (λ (packets : List (List ℕ)). adding old.drops (drops_from old.bus packets)) sends) c.deliver_all.ensures.drops ∙ sym (ap (drops_from old.bus) none);
       memory = stamped.memory;
     }
+
+-- the pipes that are there stay the same
+pub invariant_of-self-2-clause-manned : goal.invariant_of-self-2-clause-manned
+invariant_of-self-2-clause-manned c =
+    let first = ap (λ (p : Pipes). p.watched) c.deliver.ensures.after ∙ watched_after c.stamp.new.self.bus c.sends.result.now in
+    let second = ap (λ (p : Pipes). p.watched) c.deliver_all.ensures.after ∙ watched_after c.deliver.new.self _ in
+    c.stamp.new.self.manned ∙ ap jobs_of (sym (second ∙ first))

@@ -1,4 +1,4 @@
-use Rattle.std.proofs.Common.{◌≡◌, ◌∙◌, List, ap, subst, sym}
+use Rattle.std.proofs.Common.{◌≡◌, ◌∙◌, List, ap, refl, subst, sym}
 use Rattle.table_files.specs.Files.{loads_of}
 use Rattle.memory_window.specs.Memory.{Memory, regions_of}
 use Rattle.memory_window.specs.declared.operations.MemOp.{MemOp}
@@ -8,12 +8,13 @@ use Rattle.md_dwell.specs.State.{AllGiven}
 use Rattle.md_dwell.specs.declared.state.Md.{Md}
 use Rattle.std.specs.List.{AllPass}
 use Rattle.bus_pipes.specs.Held.{Held}
+use Rattle.bus_pipes.specs.Pipes.{Pipes}
 use Rattle.bus_pipes.specs.Counted.{is_item_counted}
 use Rattle.bus_pipes.specs.declared.names.Out.{Out}
 use Rattle.frame_exec.specs.Landable.{CanLand}
 use Rattle.frame_exec.specs.Tables.{Loaded, AreGiven}
 use Rattle.frame_exec.specs.Stages.{loads_in}
-use Rattle.frame_exec.proofs.Taking.{state_is, taken_woken, taken_sendable}
+use Rattle.frame_exec.proofs.Taking.{state_is, taken_woken, taken_sendable, woken_or_away, sendable_or_away}
 use Rattle.frame_exec.proofs.bench.Bench.step.Goals as goal
 
 pub returns-clause-steps : goal.returns-clause-steps
@@ -23,6 +24,7 @@ returns-clause-steps g c =
     let slots = woken.slots in
     let run = woken.run in
     let more = taken.run in
+    let watched = ap (λ (p : Pipes). p.watched) slots.pipes in
     record {
       run = record { waits = more.waits ∙ run.waits; epoch = more.epoch ∙ run.epoch; number = more.number ∙ run.number; failed = more.failed ∙ run.failed; tables = more.tables ∙ run.tables };
       told = taken.told ∙ woken.told;
@@ -31,6 +33,14 @@ returns-clause-steps g c =
       sc = λ tables same. taken_woken _ _ _ _ _ _ _ _ _ _ _ _ _ (woken.sc taken.sc.0 taken.sc.1).0 (ap (λ slot. slot.state.value) slots.sc) taken.sc.2.0 taken.sc.2.1 tables (sym same);
       mm = λ tables. taken_woken _ _ _ _ _ _ _ _ _ _ _ _ _ (woken.mm taken.mm.0 taken.mm.1).0 (ap (λ slot. slot.state.value) slots.mm) taken.mm.2.0 taken.mm.2.1 tables tt;
       md = λ tables. taken_woken _ _ _ _ _ _ _ _ _ _ _ _ _ (woken.md taken.md.0 taken.md.1).0 (ap (λ slot. slot.state.value) slots.md) taken.md.2.0 taken.md.2.1 tables tt;
+      lc = woken_or_away _ _ _ _ _ _ _ c.args.self.now.bus.watched
+          (λ there.
+          let left = taken.lc (watched ∙ there) in
+          taken_woken _ _ _ _ _ _ _ _ _ _ _ _ _ (woken.lc there left.0 left.1) (ap (λ slot. slot.state.value) slots.lc) left.2.0 left.2.1 _ refl)
+          c.requires.clear.away
+          (λ away.
+          let kept = taken.away (watched ∙ away) in
+          (kept.0 ∙ ap (λ slot. slot.state.value) slots.lc, kept.1));
       operations = taken.mm.2.2 ∙ (woken.mm taken.mm.0 taken.mm.1).1.are;
       pipes = taken.pipes ∙ slots.pipes;
       log = taken.log ∙ slots.log;
@@ -45,6 +55,7 @@ returns-clause-can_send g c =
     let taken = c.take_over.ensures.over in
     let slots = woken.slots in
     let land = (woken.mm taken.mm.0 taken.mm.1).1.can_land in
+    let watched = ap (λ (p : Pipes). p.watched) slots.pipes in
     let ram : new.ram ≡ old.ram = taken.memory ∙ slots.memory in
     let tables : new.tables ≡ old.tables = taken.run.tables ∙ woken.run.tables in
     record {
@@ -54,6 +65,11 @@ returns-clause-can_send g c =
       sc = taken_sendable _ _ _ _ _ _ _ _ _ _ _ _ _ (woken.sc taken.sc.0 taken.sc.1).0 (ap (λ slot. slot.state.value) slots.sc) taken.sc.2.0 taken.sc.2.1;
       mm = taken_sendable _ _ _ _ _ _ _ _ _ _ _ _ _ (woken.mm taken.mm.0 taken.mm.1).0 (ap (λ slot. slot.state.value) slots.mm) taken.mm.2.0 taken.mm.2.1;
       md = taken_sendable _ _ _ _ _ _ _ _ _ _ _ _ _ (woken.md taken.md.0 taken.md.1).0 (ap (λ slot. slot.state.value) slots.md) taken.md.2.0 taken.md.2.1;
+      lc = sendable_or_away _ _ c.args.self.now.bus.watched
+          (λ there.
+          let left = taken.lc (watched ∙ there) in
+          taken_sendable _ _ _ _ _ _ _ _ _ _ _ _ _ (woken.lc there left.0 left.1) (ap (λ slot. slot.state.value) slots.lc) left.2.0 left.2.1)
+          (λ away. (taken.away (watched ∙ away)).1);
       operations = subst (λ (t : Loaded). CanLand (loads_of t.files) new.ram new.ops.value) (sym tables)
           (subst (λ (m : Memory). CanLand (loads_in old) m new.ops.value) (sym ram) (subst (λ (ops : List MemOp). CanLand (loads_in old) old.ram ops) (sym taken.mm.2.2) land));
     }
