@@ -300,7 +300,7 @@ fn files_of_a_kind_may_be_several(rt: HostRuntime) -> Result<(), Fail> {
     let file = file_of(rt.alloc(), (TYPE, 8, 0, 204, "MD.DWELL_TABLE1", 319))?;
     let fault = AddFault::File(FileFault::Size);
     assert_eq!(rt; add_to(&mut files, file), Some(Err(fault)));
-    assert_eq!(rt; files.len(), 30);
+    assert_eq!(rt; files.len(), 34);
     assert!(rt; shown(&files, 17) == Some((TableKind::Eeprom, 192)));
     assert!(rt; shown(&files, 18) == Some((TableKind::Eeprom, 192)));
     assert_eq!(rt; last_bytes(&files), [7; 4]);
