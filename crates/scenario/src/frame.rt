@@ -8,7 +8,7 @@ use arrayvec::ArrayVec;
 use packet_forms::{Counter, Packet};
 use std::marker::Model;
 
-/// One of the five applications.
+/// An application that can be held in a frame.
 #[derive(Clone, Copy, Debug, Default, PartialEq, Eq)]
 pub enum App {
     /// Health and Safety.

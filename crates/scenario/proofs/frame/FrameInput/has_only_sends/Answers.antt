@@ -1,4 +1,4 @@
-use Rattle.std.proofs.Common.{sym, ap, subst, ◌≡◌, length, ◌∙◌}
+use Rattle.std.proofs.Common.{sym, subst, ◌≡◌, ◌∙◌}
 use Rattle.std.proofs.lemmas.Bool.{eqb-true}
 use Rattle.scenario.specs.FrameLists.{Frame, no_items}
 use Rattle.scenario.proofs.FrameLemmas.{sends_alone}
