@@ -1,5 +1,5 @@
 -- The subjects of a run, as what calls leave of them.
-use Rattle.std.proofs.Common.{◌≡◌, Bool, true, false, ◌+◌, if◌then◌else◌, List, [], ◌∷◌, ◌++◌, length, fold, refl, sym, ◌∙◌, ap, zero-add, arith}
+use Rattle.std.proofs.Common.{◌≡◌, Bool, true, false, ◌+◌, List, [], ◌∷◌, ◌++◌, length, fold, refl, sym, ◌∙◌, ap, zero-add, arith}
 use Rattle.std.specs.List.{flat_map}
 use Rattle.std.proofs.lemmas.List.{length-append}
 use Rattle.std.proofs.lemmas.List.Sums.{fold_push, fold-append}

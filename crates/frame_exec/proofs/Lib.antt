@@ -8,6 +8,7 @@ pub mod Handing
 pub mod Cutting
 pub mod Upsets
 pub mod Waking
+pub mod Woken
 pub mod Frames
 pub mod Stepping
 pub mod Behind

@@ -176,8 +176,8 @@ named_active old new n kind is known can rests tables takes keeps goes told = re
 }
 
 -- what was told of activations is no part of what a run has come to
-pub has_told : (b : Bench) (events : Held Out) (drops : b.drops.room ≡ DROPS) (jobs : b.crew.jobs ≡ jobs_of b.bus.watched) (room : events.room ≡ ACTIVATIONS) (s : State) → Has b s → Has (record b { activations = events; drops_room = drops; manned = jobs; activations_room = room }) s
-has_told b events drops jobs room s has = record {
+pub has_told : (b : Bench) (events : Held Out) (drops : b.drops.room ≡ DROPS) (jobs : b.crew.jobs ≡ jobs_of b.bus.watched) (there : b.lc.there ≡ b.bus.watched) (room : events.room ≡ ACTIVATIONS) (s : State) → Has b s → Has (record b { activations = events; drops_room = drops; manned = jobs; there = there; activations_room = room }) s
+has_told b events drops jobs there room s has = record {
   number = has.number;
   tables = has.tables;
   apps = record { hs = has.apps.hs; cs = has.apps.cs; sc = has.apps.sc; mm = has.apps.mm; md = has.apps.md; lc = has.apps.lc };
@@ -186,8 +186,8 @@ has_told b events drops jobs room s has = record {
   memory = has.memory;
 }
 
-pub ready_told : (b : Bench) (events : Held Out) (drops : b.drops.room ≡ DROPS) (jobs : b.crew.jobs ≡ jobs_of b.bus.watched) (room : events.room ≡ ACTIVATIONS) → IsReady b → IsReady (record b { activations = events; drops_room = drops; manned = jobs; activations_room = room })
-ready_told b events drops jobs room ready = record { sc = ready.sc; md = ready.md; given = ready.given }
+pub ready_told : (b : Bench) (events : Held Out) (drops : b.drops.room ≡ DROPS) (jobs : b.crew.jobs ≡ jobs_of b.bus.watched) (there : b.lc.there ≡ b.bus.watched) (room : events.room ≡ ACTIVATIONS) → IsReady b → IsReady (record b { activations = events; drops_room = drops; manned = jobs; there = there; activations_room = room })
+ready_told b events drops jobs there room ready = record { sc = ready.sc; md = ready.md; given = ready.given }
 
 -- which sequences run is the same behind lines that name files, and so is what becomes of further ones
 runs_stay : (setup : Setup) (s : State) (numbers : List ℕ) (kind : TableKind) → runs_at (fold (after_activation setup) s numbers) kind ≡ runs_at s kind
@@ -207,15 +207,15 @@ events_stay setup s numbers (n ∷ more) =
     ∙ ap (λ (items : List Out). table_event (time_at setup s) (naming_at s (kind_at setup.files n)) ∷ items) (events_stay setup s numbers more)
 
 -- no file more is named
-pub activates_none : (b : Bench) (events : Held Out) (drops : b.drops.room ≡ DROPS) (jobs : b.crew.jobs ≡ jobs_of b.bus.watched) (room : events.room ≡ ACTIVATIONS) → events.items ≡ [] → Activates [] [] b (record b { activations = events; drops_room = drops; manned = jobs; activations_room = room })
+pub activates_none : (b : Bench) (events : Held Out) (drops : b.drops.room ≡ DROPS) (jobs : b.crew.jobs ≡ jobs_of b.bus.watched) (there : b.lc.there ≡ b.bus.watched) (room : events.room ≡ ACTIVATIONS) → events.items ≡ [] → Activates [] [] b (record b { activations = events; drops_room = drops; manned = jobs; there = there; activations_room = room })
 unfolding table_events
-activates_none b events drops jobs room none = record {
+activates_none b events drops jobs there room none = record {
   goes = record { waits = refl; epoch = refl; number = refl; failed = refl; files = refl };
   memory = refl;
   many = ap (λ (items : List Out). length items) none;
   counted = λ counted. subst (AllPass is_item_counted) (sym none) counted;
   events = λ setup s epoch files has. none;
-  has = λ setup s files has. has_told b events drops jobs room s has;
+  has = λ setup s files has. has_told b events drops jobs there room s has;
 }
 
 -- no upset was written
@@ -257,11 +257,11 @@ activates_more old middle new numbers more told between same first second =
     }
 
 -- what was told of one file
-pub activates_one : (old middle : Bench) (n : ℕ) (naming : Naming) (time : ℕ) (events : Held Out) (drops : middle.drops.room ≡ DROPS) (jobs : middle.crew.jobs ≡ jobs_of middle.bus.watched) (room : events.room ≡ ACTIVATIONS)
+pub activates_one : (old middle : Bench) (n : ℕ) (naming : Naming) (time : ℕ) (events : Held Out) (drops : middle.drops.room ≡ DROPS) (jobs : middle.crew.jobs ≡ jobs_of middle.bus.watched) (there : middle.lc.there ≡ middle.bus.watched) (room : events.room ≡ ACTIVATIONS)
     → ((setup : Setup) (s : State) → old.tables.files ≡ setup.files → Has old s → naming ≡ naming_at s (kind_at setup.files n)) → time ≡ time_of old → NamesFile n old middle
-    → events.items ≡ middle.activations.items ++ table_event time naming ∷ [] → Activates (n ∷ []) old.activations.items old (record middle { activations = events; drops_room = drops; manned = jobs; activations_room = room })
+    → events.items ≡ middle.activations.items ++ table_event time naming ∷ [] → Activates (n ∷ []) old.activations.items old (record middle { activations = events; drops_room = drops; manned = jobs; there = there; activations_room = room })
 unfolding table_events
-activates_one old middle n naming time events drops jobs room is at names told =
+activates_one old middle n naming time events drops jobs there room is at names told =
     let told_here : events.items ≡ old.activations.items ++ table_event time naming ∷ [] = told ∙ ap (λ (held : Held Out). held.items ++ table_event time naming ∷ []) names.told in
     record {
       goes = record { waits = names.goes.waits; epoch = names.goes.epoch; number = names.goes.number; failed = names.goes.failed; files = names.goes.files };
@@ -271,7 +271,7 @@ activates_one old middle n naming time events drops jobs room is at names told =
       events = λ setup s epoch files has.
           told_here ∙ ap (λ (m : Naming). old.activations.items ++ table_event time m ∷ []) (is setup s files has)
           ∙ ap (λ (t : ℕ). old.activations.items ++ table_event t (naming_at s (kind_at setup.files n)) ∷ []) (at ∙ ap (λ (e : ℕ). e + old.number) epoch ∙ ap (λ (k : ℕ). setup.epoch + k) has.number);
-      has = λ setup s files has. has_told middle events drops jobs room (after_activation setup s n) (names.has setup s files has);
+      has = λ setup s files has. has_told middle events drops jobs there room (after_activation setup s n) (names.has setup s files has);
     }
 
 -- a bench that has the state behind the files that a frame names
@@ -285,7 +285,7 @@ unfolding activated_at
 events_at setup s frame items numbers is told = told ∙ ap (table_events setup s) is ∙ sym (events_stay setup s frame.activations frame.activations)
 
 -- no file is named
-pub activates_nothing : (b : Bench) (numbers : List ℕ) (events : Held Out) (drops : b.drops.room ≡ DROPS) (jobs : b.crew.jobs ≡ jobs_of b.bus.watched) (room : events.room ≡ ACTIVATIONS) → true ≡ (length numbers == 0) → events.items ≡ []
-    → Activates numbers [] b (record b { activations = events; drops_room = drops; manned = jobs; activations_room = room })
-activates_nothing b [] events drops jobs room none empty = activates_none b events drops jobs room empty
-activates_nothing b (n ∷ numbers) events drops jobs room none empty = absurd (grind (arith, nat_tests))
+pub activates_nothing : (b : Bench) (numbers : List ℕ) (events : Held Out) (drops : b.drops.room ≡ DROPS) (jobs : b.crew.jobs ≡ jobs_of b.bus.watched) (there : b.lc.there ≡ b.bus.watched) (room : events.room ≡ ACTIVATIONS) → true ≡ (length numbers == 0) → events.items ≡ []
+    → Activates numbers [] b (record b { activations = events; drops_room = drops; manned = jobs; there = there; activations_room = room })
+activates_nothing b [] events drops jobs there room none empty = activates_none b events drops jobs there room empty
+activates_nothing b (n ∷ numbers) events drops jobs there room none empty = absurd (grind (arith, nat_tests))

@@ -42,30 +42,27 @@ empty_told told [] is holds = refl
 empty_told told (item ∷ items) is holds = absurd (grind (arith, nat_tests))
 
 -- where nothing was told and none of the six gave an item, nothing was given
-pub none_given : (o a b c d e f : Bool) (told hs cs sc mm md lc : List Out) → o ≡ (length told == 0) → (a ≡ true → hs ≡ []) → (b ≡ true → cs ≡ []) → (c ≡ true → sc ≡ []) → (d ≡ true → mm ≡ []) → (e ≡ true → md ≡ []) → (f ≡ true → lc ≡ [])
-    → ((((((o && a) && b) && c) && d) && e) && f) ≡ true → joined (told ∷ hs ∷ cs ∷ sc ∷ mm ∷ md ∷ lc ∷ []) ≡ []
-none_given o a b c d e f told hs cs sc mm md lc n p q r s t u all =
-    let six = and_parts (((((o && a) && b) && c) && d) && e) f all in
-    let five = and_parts ((((o && a) && b) && c) && d) e six.0 in
+pub none_given : (o a b c d e : Bool) (told hs cs sc mm md lc : List Out) → o ≡ (length told == 0) → (a ≡ true → hs ≡ []) → (b ≡ true → cs ≡ []) → (c ≡ true → sc ≡ []) → (d ≡ true → mm ≡ []) → (e ≡ true → md ≡ []) → lc ≡ []
+    → (((((o && a) && b) && c) && d) && e) ≡ true → joined (told ∷ hs ∷ cs ∷ sc ∷ mm ∷ md ∷ lc ∷ []) ≡ []
+none_given o a b c d e told hs cs sc mm md lc n p q r s t u all =
+    let five = and_parts ((((o && a) && b) && c) && d) e all in
     let four = and_parts (((o && a) && b) && c) d five.0 in
     let three = and_parts ((o && a) && b) c four.0 in
     let two = and_parts (o && a) b three.0 in
     let both = and_parts o a two.0 in
-    rw (empty_told o told n both.0, p both.1, q two.1, r three.1, s four.1, t five.1, u six.1) refl
+    rw (empty_told o told n both.0, p both.1, q two.1, r three.1, s four.1, t five.1, u) refl
 
--- LC was woken where its pipes are there; else it is as one that is held, its state stays, and it gives nothing
+-- an application that is held, whose state stays, and which gives nothing
 module _ {Input State : Type 0} (stands : List Input → State → Type 0) (gives : List Input → Input → List Out) (held : Bool) (input : Input) (old new : State) (items : List Out) where
-  pub woken_or_away : (watched : Bool) → (watched ≡ true → IsWoken stands gives held input old new items) → (watched ≡ false → held ≡ true) → (watched ≡ false → (new ≡ old) × (items ≡ [])) → IsWoken stands gives held input old new items
-  woken_or_away true woken away none = woken refl
-  woken_or_away false woken away none = record {
-    state = λ history stood. subst (λ (h : Bool). stands (history_after h history input) new) (sym (away refl)) (subst (stands history) (sym (none refl).0) stood);
-    given = λ history stood. (none refl).1 ∙ sym (ap (λ (h : Bool). unless h (gives history input)) (away refl));
+  pub away_woken : held ≡ true → new ≡ old → items ≡ [] → IsWoken stands gives held input old new items
+  away_woken away same none = record {
+    state = λ history stood. subst (λ (h : Bool). stands (history_after h history input) new) (sym away) (subst (stands history) (sym same) stood);
+    given = λ history stood. none ∙ sym (ap (λ (h : Bool). unless h (gives history input)) away);
   }
 
--- and what it gives can be sent
-pub sendable_or_away : (most : ℕ) (items : List Out) (watched : Bool) → (watched ≡ true → AreSendable most items) → (watched ≡ false → items ≡ []) → AreSendable most items
-sendable_or_away most items true some none = some refl
-sendable_or_away most items false some none = subst (AreSendable most) (sym (none refl)) (record { few = omega arith; counted = All-nil (λ (item : Out). is_item_counted item ≡ true) })
+-- no items can be sent
+pub none_sendable : (most : ℕ) (items : List Out) → items ≡ [] → AreSendable most items
+none_sendable most items none = subst (AreSendable most) (sym none) (record { few = omega arith; counted = All-nil (λ (item : Out). is_item_counted item ≡ true) })
 
 -- there are five jobs at least
 pub five_or_six : (watched : Bool) → 5 ≤ jobs_of watched

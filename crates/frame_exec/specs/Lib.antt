@@ -9,6 +9,7 @@ pub mod Wakes
 pub mod Applications
 pub mod Landable
 pub mod Stages
+pub mod Opening
 pub mod Turns
 pub mod Jobs
 pub mod Rows

@@ -120,7 +120,7 @@ pub record Arrives (frame : Frame) (old new : Bench) : Type 0 where
   pub writes : IsUpset frame.upsets active upset
   pub takes : Takes frame.held upset new
 
--- no application gave anything yet, and LC is as one that is held where its pipes aren't there
+-- no application gave anything yet
 pub record IsClear (b : Bench) : Type 0 where
   pub hs : b.hs.out.items ≡ []
   pub cs : b.cs.out.items ≡ []
@@ -128,7 +128,6 @@ pub record IsClear (b : Bench) : Type 0 where
   pub mm : b.mm.out.items ≡ []
   pub md : b.md.out.items ≡ []
   pub lc : b.lc.slot.out.items ≡ []
-  pub away : b.bus.watched ≡ false → b.lc.slot.held ≡ true
   pub operations : b.ops.value ≡ []
 
 -- the load files that MM reads
@@ -157,7 +156,7 @@ pub record KeepsSlots (old new : Bench) : Type 0 where
   pub sc : new.sc ≡ old.sc
   pub mm : new.mm ≡ old.mm
   pub md : new.md ≡ old.md
-  pub lc : new.lc.slot ≡ old.lc.slot
+  pub lc : new.lc ≡ old.lc
   pub operations : new.ops ≡ old.ops
   pub pipes : new.bus ≡ old.bus
   pub log : new.log ≡ old.log
@@ -187,7 +186,7 @@ pub record AreWoken (counters : List Counter) (old new : Bench) : Type 0 where
       × AllGiven (regions_of old.ram.areas) (next_of left.stays left.md.value old.md.state.value))
   pub lc : old.bus.watched ≡ true → HasLeft new 5 (λ left. Gives (λ t. lc_setup old.tables.set ≡ t) lc_stands lc_gives lc_most old.lc.slot.held (lc_reads (time_of old) old.lc.slot.commands old.lc.telemetry.items) old.lc.slot.state.value left.stays left.lc.value left.out.items)
 
--- what the jobs left was taken over: the next states, the items and the operations
+-- what the jobs left but LC's was taken over: the next states, the items and the operations
 pub record TakesOver (old new : Bench) : Type 0 where
   pub run : IsSameRun old new
   pub told : new.activations ≡ old.activations
@@ -196,8 +195,6 @@ pub record TakesOver (old new : Bench) : Type 0 where
   pub sc : IsTaken old 2 (λ left. (new.sc.state.value ≡ next_of left.stays left.sc.value old.sc.state.value) × (new.sc.out.items ≡ left.out.items))
   pub mm : IsTaken old 3 (λ left. (new.mm.state.value ≡ next_of left.stays left.mm.value old.mm.state.value) × (new.mm.out.items ≡ left.out.items) × (new.ops.value ≡ left.ops.value))
   pub md : IsTaken old 4 (λ left. (new.md.state.value ≡ next_of left.stays left.md.value old.md.state.value) × (new.md.out.items ≡ left.out.items))
-  pub lc : old.bus.watched ≡ true → IsTaken old 5 (λ left. (new.lc.slot.state.value ≡ next_of left.stays left.lc.value old.lc.slot.state.value) × (new.lc.slot.out.items ≡ left.out.items))
-  pub away : old.bus.watched ≡ false → (new.lc.slot.state.value ≡ old.lc.slot.state.value) × (new.lc.slot.out.items ≡ [])
   pub pipes : new.bus ≡ old.bus
   pub log : new.log ≡ old.log
   pub memory : new.ram ≡ old.ram

@@ -78,11 +78,12 @@ pub struct Bench<'f> {
     pub(crate) block: Block,
     ghost drops_room: { drops.room ≡ DROPS },
     ghost manned: { crew.jobs ≡ jobs_of bus.watched },
+    ghost there: { lc.there ≡ bus.watched },
     ghost activations_room: { activations.room ≡ ACTIVATIONS },
 }
 
 impl<'f> Bench<'f> {
-    ghost use Rattle.std.specs.Prelude.{ℕ, ◌+◌, ◌-◌, ◌<◌, ◌≤◌, List, [], ◌∷◌, ◌++◌, map, length, true, ◌||◌, All, IfErr, OnOk, OnErr, is_err};
+    ghost use Rattle.std.specs.Prelude.{ℕ, ◌+◌, ◌-◌, ◌<◌, ◌≤◌, List, [], ◌∷◌, ◌++◌, map, length, slice_index_or, true, ◌||◌, All, IfErr, OnOk, OnErr, is_err};
     ghost use Rattle.fsw_outside.specs.Told.{WhereTold};
     ghost use Rattle.fsw_outside.specs.Causes.{HasCause};
     ghost use Rattle.fsw_outside.specs.Written.{WritesAll};
@@ -104,6 +105,7 @@ impl<'f> Bench<'f> {
     ghost use Rattle.frame_exec.specs.Stages.{IsSameRun, GoesOn, NamesFile, Activates, IsUpset, Takes, Arrives, IsClear, Steps, CanSend, AreWoken, TakesOver, Sends, RunsIn, IsSameFrame, Lands, StartsAnew, IsStamped, HasGiven, items_in, loads_in, lines_in};
     ghost use Rattle.frame_exec.specs.Sending.{is_reset};
     ghost use Rattle.frame_exec.specs.Wakes.{joined};
+    ghost use Rattle.frame_exec.specs.declared.left.Left.{Left};
 
     /// Whether a frame of this bench failed.
     pub fn failed(&self) -> bool
@@ -310,9 +312,23 @@ impl<'f> Bench<'f> {
         }
     }
 
-    /// Lands the frame's operations bank by bank on the workers, and goes on to the next frame.
+    /// Lands the frame's operations, if there are any, and goes on to the next frame.
     #[inline(always)]
     fn land<R: Threads + Sync, G: Gate>(&mut self, rt: &R, gate: &G)
+        requires number { self.old.number < 4294967296 }
+        requires can_land { CanLand (loads_in self.old) self.old.ram self.old.ops.value }
+        ensures { Lands self.old self.new }
+    {
+        if self.ops.items().is_empty() {
+            self.number += 1;
+            return;
+        }
+        self.land_all(rt, gate);
+    }
+
+    /// Lands the frame's operations bank by bank on the workers, and goes on to the next frame.
+    #[inline(never)]
+    fn land_all<R: Threads + Sync, G: Gate>(&mut self, rt: &R, gate: &G)
         requires number { self.old.number < 4294967296 }
         requires can_land { CanLand (loads_in self.old) self.old.ram self.old.ops.value }
         ensures { Lands self.old self.new }
@@ -355,7 +371,7 @@ impl<'f> Bench<'f> {
         self.sc.begin(Sc::start(self.tables.sc(), time));
         self.mm.begin(Mm::start());
         self.md.begin(Md::start(self.tables.dwells()));
-        self.lc.slot.begin(Lc::start(self.tables.adt()));
+        self.lc.begin(Lc::start(self.tables.adt()));
         self.bus.clear();
     }
 
@@ -451,7 +467,8 @@ impl<'f> Bench<'f> {
         self.ops.clear();
     }
 
-    /// Wakes the applications on what they took, on execution counters and on the frame's image, and tells whether no item was given.
+    /// Wakes the applications that are there on what they took, on execution counters and on the frame's image, and tells whether no item
+    /// was given.
     #[inline(always)]
     fn step<R: Threads + Sync, G: Gate>(&mut self, rt: &R, gate: &G, counters: &[Counter]) -> bool
         requires time { self.old.epoch + self.old.number < 4294967296 }
@@ -463,13 +480,46 @@ impl<'f> Bench<'f> {
         ensures ready { IsReady self.new }
         ensures none { result ≡ true → joined (items_in self.new) ≡ [] }
     {
-        self.wake(rt, gate, counters);
+        if self.lc.there {
+            return self.step_watched(rt, gate, counters);
+        }
+        self.wake(rt, gate, counters, false);
         self.take_over()
     }
 
-    /// Wakes the applications, each as a job of the crew.
+    /// The same where LC is there.
+    #[inline(never)]
+    fn step_watched<R: Threads + Sync, G: Gate>(
+        &mut self,
+        rt: &R,
+        gate: &G,
+        counters: &[Counter],
+    ) -> bool
+        requires there { self.old.lc.there ≡ true }
+        requires time { self.old.epoch + self.old.number < 4294967296 }
+        requires clear { IsClear self.old }
+        requires told { AllPass is_item_counted self.old.activations.items }
+        requires ready { IsReady self.old }
+        ensures steps { Steps counters.now self.old self.new }
+        ensures can_send { CanSend self.new }
+        ensures ready { IsReady self.new }
+        ensures none { result ≡ true → joined (items_in self.new) ≡ [] }
+    {
+        self.wake(rt, gate, counters, true);
+        let none = self.take_over();
+        none & self.lc.take_over(&mut self.crew)
+    }
+
+    /// Wakes the applications, each as a job of the crew: LC as the last, where it is watching.
     #[inline(always)]
-    fn wake<R: Threads + Sync, G: Gate>(&mut self, rt: &R, gate: &G, counters: &[Counter])
+    fn wake<R: Threads + Sync, G: Gate>(
+        &mut self,
+        rt: &R,
+        gate: &G,
+        counters: &[Counter],
+        watched: bool,
+    )
+        requires watched { self.old.bus.watched ≡ watched }
         requires time { self.old.epoch + self.old.number < 4294967296 }
         requires ready { IsReady self.old }
         ensures { AreWoken counters.now self.old self.new }
@@ -478,9 +528,8 @@ impl<'f> Bench<'f> {
         let window = self.ram.window();
         let reads = Reads {
             tables: &self.tables,
-            files: self.tables.files(),
             events: &self.events,
-            telemetry: &self.lc.telemetry,
+            lc: &self.lc,
             window,
             counters,
             time,
@@ -491,18 +540,20 @@ impl<'f> Bench<'f> {
             sc: &self.sc,
             mm: &self.mm,
             md: &self.md,
-            lc: &self.lc.slot,
             reads,
         };
-        wake_all(&mut self.crew, rt, gate, &scene, self.bus.is_watched());
+        wake_all(&mut self.crew, rt, gate, &scene, watched);
     }
 
-    /// Takes over what the jobs left, in the order of the applications, and tells whether no item was given.
+    /// Takes over what the jobs left but LC's, in the order of the applications, and tells whether no item was given.
     #[inline(always)]
     fn take_over(&mut self) -> bool
-        requires manned { length self.old.crew.results ≡ jobs_of self.old.bus.watched }
+        requires manned { 5 ≤ length self.old.crew.results }
         requires clear { IsClear self.old }
         ensures over { TakesOver self.old self.new }
+        ensures lc { self.new.lc ≡ self.old.lc }
+        ensures last { (left : Left) → slice_index_or self.new.crew.results 5 left ≡ slice_index_or self.old.crew.results 5 left }
+        ensures count { length self.new.crew.results ≡ length self.old.crew.results }
         ensures none { result ≡ true → joined (items_in self.new) ≡ [] }
     {
         let told = self.activations.is_empty();
@@ -513,8 +564,7 @@ impl<'f> Bench<'f> {
         left.give_operations(&mut self.ops);
         let mm = self.mm.take_over(&mut self.crew, 3);
         let md = self.md.take_over(&mut self.crew, 4);
-        let lc = self.lc.take_over(&mut self.crew, self.bus.is_watched());
-        told & hs & cs & sc & mm & md & lc
+        told & hs & cs & sc & mm & md
     }
 
     /// Sends the items, unless nothing is to be sent, and tells whether nothing was sent nor dropped.

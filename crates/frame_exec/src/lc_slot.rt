@@ -32,7 +32,7 @@ impl Application<()> for Lc {
 
     ghost belongs = { λ setup reads. lc_setup reads.tables.now.set ≡ setup };
 
-    ghost input = { λ reads commands. lc_reads reads.time commands reads.telemetry.now.items };
+    ghost input = { λ reads commands. lc_reads reads.time commands reads.lc.now.telemetry.items };
 
     ghost can_step = { λ reads lc. Unit {0} };
 
@@ -42,7 +42,7 @@ impl Application<()> for Lc {
 
     #[inline(always)]
     fn is_idle(&self, reads: &Reads<'_, '_, '_>, commands: &[Packet]) -> bool {
-        self.is_idle(commands, reads.telemetry.items())
+        self.is_idle(commands, reads.lc.telemetry.items())
     }
 
     fn advance(
@@ -57,63 +57,76 @@ impl Application<()> for Lc {
             reads.tables.wdt(),
             reads.tables.adt(),
             commands,
-            reads.telemetry.items(),
+            reads.lc.telemetry.items(),
             reads.time,
             out,
         );
     }
 }
 
-/// LC in the bench: its slot, and the packets that it took from its pipe of telemetry.
+/// LC in the bench: its slot, and the packets that it took from its pipe of telemetry. Where it isn't there it is as one that is held
+/// in each frame.
 #[derive(Drop)]
 pub(crate) struct LcSlot {
+    pub(crate) there: bool,
     pub(crate) slot: Slot<Lc>,
     pub(crate) telemetry: Telemetry,
     ghost roomy: { telemetry.room ≡ TELEMETRY_PIPE_DEPTH },
+    ghost away: { there ≡ false → (slot.held ≡ true) × (slot.out.items ≡ []) },
 }
 
 impl LcSlot {
     ghost use Rattle.frame_exec.specs.declared.left.Left.{Left};
 
     /// LC in this state before the first frame.
-    pub(crate) fn open(alloc: Global, state: Lc) -> Result<LcSlot, NoMemory>
-        ensures { IfOk result (λ lc. lc.slot.state.value ≡ state) }
+    pub(crate) fn open(alloc: Global, state: Lc, there: bool) -> Result<LcSlot, NoMemory>
+        ensures state { IfOk result (λ lc. lc.slot.state.value ≡ state) }
+        ensures there { IfOk result (λ lc. lc.there ≡ there) }
     {
         Ok(LcSlot {
-            slot: Slot::open(alloc, state)?,
+            there,
+            slot: Slot::open(alloc, state, !there)?,
             telemetry: Telemetry::open(alloc, TELEMETRY_PIPE_DEPTH)?,
         })
     }
 
-    /// Takes what its pipes hold. Where they aren't there it is as one that is held.
+    /// Takes what its pipes hold. Where they aren't there nothing changes.
     #[inline(always)]
     pub(crate) fn take(&mut self, bus: &mut Bus)
+        requires there { self.old.there ≡ bus.old.watched }
+        ensures there { self.new.there ≡ self.old.there }
         ensures state { self.new.slot.state ≡ self.old.slot.state }
         ensures takes { HasTaken (not bus.old.watched) bus.old.lc self.new.slot.held self.new.slot.commands self.new.slot.out.items }
         ensures telemetry { not bus.old.watched ≡ false → self.new.telemetry.items ≡ bus.old.lc_tlm }
         ensures pipes { bus.new ≡ without_limits bus.old }
     {
-        let away = !bus.is_watched();
-        self.slot.take(bus, PipeName::Lc, away);
-        if away {
+        if !bus.is_watched() {
             return;
         }
+        self.slot.take(bus, PipeName::Lc, false);
         bus.take_telemetry(&mut self.telemetry);
     }
 
-    /// Takes over what its wakeup left, where it was woken, and tells whether no item was given. It gave nothing yet.
+    /// Takes over what its wakeup left, and tells whether no item was given. It gave nothing yet.
     #[inline(always)]
-    pub(crate) fn take_over(&mut self, crew: &mut Crew<Left>, watched: bool) -> bool
-        requires job { watched ≡ true → 5 < length crew.old.results }
+    pub(crate) fn take_over(&mut self, crew: &mut Crew<Left>) -> bool
+        requires there { self.old.there ≡ true }
+        requires job { 5 < length crew.old.results }
         requires empty { self.old.slot.out.items ≡ [] }
-        ensures from { watched ≡ true → (left : Left) × (slice_index_or crew.old.results 5 left ≡ left) × (self.new.slot.state.value ≡ next_of left.stays left.lc.value self.old.slot.state.value) × (self.new.slot.out.items ≡ left.out.items) }
-        ensures away { watched ≡ false → (self.new.slot.state.value ≡ self.old.slot.state.value) × (self.new.slot.out.items ≡ []) }
+        ensures there { self.new.there ≡ self.old.there }
+        ensures from { (left : Left) × (slice_index_or crew.old.results 5 left ≡ left) × (self.new.slot.state.value ≡ next_of left.stays left.lc.value self.old.slot.state.value) × (self.new.slot.out.items ≡ left.out.items) }
         ensures jobs { crew.new.jobs ≡ crew.old.jobs }
         ensures none { result ≡ true → self.new.slot.out.items ≡ [] }
     {
-        if !watched {
-            return true;
-        }
         self.slot.take_over(crew, 5)
+    }
+
+    /// Goes on from this state.
+    pub(crate) fn begin(&mut self, state: Lc)
+        ensures there { self.new.there ≡ self.old.there }
+        ensures state { self.new.slot.state.value ≡ state }
+        ensures out { self.new.slot.out ≡ self.old.slot.out }
+    {
+        self.slot.begin(state);
     }
 }

@@ -1,9 +1,17 @@
 //! The opening of a bench.
 
+ghost use Rattle.std.specs.Prelude.{IfOk};
+ghost use Rattle.frame_exec.specs.Opening.{AreBegun};
+
 use crate::bench::{ACTIVATIONS, Bench, DROPS};
+use crate::cs_slot::CsSlot;
 use crate::giving::{OpenFault, refused_place};
+use crate::hs_slot::HsSlot;
 use crate::jobs::jobs_of;
 use crate::lc_slot::LcSlot;
+use crate::md_slot::MdSlot;
+use crate::mm_slot::MmSlot;
+use crate::sc_slot::ScSlot;
 use crate::slot::Slot;
 use crate::tables::Tables;
 use crate::watching::names_limit_checker;
@@ -22,8 +30,35 @@ use scenario::Header;
 use std::alloc::Global;
 use table_files::Files;
 
+/// The applications before the first frame.
+#[derive(Drop)]
+pub(crate) struct Slots {
+    pub(crate) hs: HsSlot,
+    pub(crate) cs: CsSlot,
+    pub(crate) sc: ScSlot,
+    pub(crate) mm: MmSlot,
+    pub(crate) md: MdSlot,
+    pub(crate) lc: LcSlot,
+}
+
+impl Slots {
+    /// The applications on these tables, SC at this time, and whether LC is there.
+    fn open(alloc: Global, tables: &Tables<'_>, time: u32, lc: bool) -> Result<Slots, NoMemory>
+        ensures { IfOk result (AreBegun tables.now.set time lc) }
+    {
+        Ok(Slots {
+            hs: Slot::open(alloc, Hs::start(tables.hs(), 0, 3), false)?,
+            cs: Slot::open(alloc, Cs::start(tables.eeprom(), tables.memory()), false)?,
+            sc: Slot::open(alloc, Sc::start(tables.sc(), time), false)?,
+            mm: Slot::open(alloc, Mm::start(), false)?,
+            md: Slot::open(alloc, Md::start(tables.dwells()), false)?,
+            lc: LcSlot::open(alloc, Lc::start(tables.adt()), lc)?,
+        })
+    }
+}
+
 impl<'f> Bench<'f> {
-    ghost use Rattle.std.specs.Prelude.{ℕ, ◌≡◌, ◌≤◌, List, [], IfOk};
+    ghost use Rattle.std.specs.Prelude.{ℕ, ◌≡◌, ◌≤◌, List, []};
     ghost use Rattle.frame_exec.specs.Standing.{Stands, setup_in};
     ghost use Rattle.frame_exec.specs.Following.{Follows};
     ghost use Rattle.frame_exec.specs.Tables.{AreGiven, AreLoaded, Opens, region_fault};
@@ -68,21 +103,22 @@ impl<'f> Bench<'f> {
         ensures { (files : List (List ℕ)) → AreLoaded files tables.entry → IfOk result (λ bench. Stands bench (setup_in header.now files) []) }
     {
         let lc = names_limit_checker(tables.files());
+        let slots = Slots::open(alloc, &tables, header.epoch, lc)?;
         Ok(Bench {
             epoch: header.epoch,
             number: 0,
             failed: false,
             resets: false,
             workers,
-            hs: Slot::open(alloc, Hs::start(tables.hs(), 0, 3))?,
-            events: Batch::new(),
-            cs: Slot::open(alloc, Cs::start(tables.eeprom(), tables.memory()))?,
-            sc: Slot::open(alloc, Sc::start(tables.sc(), header.epoch))?,
-            mm: Slot::open(alloc, Mm::start())?,
-            md: Slot::open(alloc, Md::start(tables.dwells()))?,
-            lc: LcSlot::open(alloc, Lc::start(tables.adt()))?,
             tables,
             activations: Outbox::open(alloc, ACTIVATIONS)?,
+            hs: slots.hs,
+            events: Batch::new(),
+            cs: slots.cs,
+            sc: slots.sc,
+            mm: slots.mm,
+            md: slots.md,
+            lc: slots.lc,
             crew: Crew::open(alloc, workers, jobs_of(lc))?,
             ops: Box::new(alloc, Ops::new())?,
             drops: Drops::open(alloc, DROPS)?,

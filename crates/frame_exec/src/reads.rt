@@ -1,19 +1,18 @@
 //! What the wakeups of a frame read.
 
+use crate::lc_slot::LcSlot;
 use crate::tables::Tables;
-use bus_pipes::{Batch, Telemetry};
+use bus_pipes::Batch;
 use memory_window::Window;
 use packet_forms::Counter;
-use table_files::Files;
 
 /// What an application reads in a frame beside the packets of its pipe: the tables, the files, the packets that HS took from its
 /// pipe of events and LC from that of telemetry, the frame's image, its execution counters, and its time.
 #[derive(Drop)]
 pub(crate) struct Reads<'a, 'n, 'f> {
     pub(crate) tables: &'a Tables<'f>,
-    pub(crate) files: &'f Files,
     pub(crate) events: &'a Batch,
-    pub(crate) telemetry: &'a Telemetry,
+    pub(crate) lc: &'a LcSlot,
     pub(crate) window: Window<'a>,
     pub(crate) counters: &'n [Counter],
     pub(crate) time: u32,

@@ -31,15 +31,17 @@ impl<S> Slot<S> {
     ghost use Rattle.frame_exec.specs.Wakes.{HasTaken, IsWoken, AreSendable};
     ghost use Rattle.frame_exec.specs.declared.left.Left.{Left};
 
-    /// An application in this state before the first frame.
-    pub(crate) fn open(alloc: Global, state: S) -> Result<Slot<S>, NoMemory>
+    /// An application in this state before the first frame, in which it gave nothing; and whether it is held.
+    pub(crate) fn open(alloc: Global, state: S, held: bool) -> Result<Slot<S>, NoMemory>
     where
         S: Drop,
-        ensures { IfOk result (λ slot. slot.state.value ≡ state) }
+        ensures state { IfOk result (λ slot. slot.state.value ≡ state) }
+        ensures held { IfOk result (λ slot. slot.held ≡ held) }
+        ensures none { IfOk result (λ slot. slot.out.items ≡ []) }
     {
         Ok(Slot {
             state: Box::new(alloc, state)?,
-            held: false,
+            held,
             commands: Batch::new(),
             out: Outbox::open(alloc, MOST_ITEMS)?,
         })
@@ -50,6 +52,7 @@ impl<S> Slot<S> {
     where
         S: Drop,
         ensures state { self.new.state.value ≡ state }
+        ensures held { self.new.held ≡ self.old.held }
         ensures out { self.new.out ≡ self.old.out }
     {
         *self.state = state;

@@ -7,9 +7,7 @@ use crate::md_slot::MdSlot;
 use crate::mm_slot::MmSlot;
 use crate::reads::Reads;
 use crate::sc_slot::ScSlot;
-use crate::slot::Slot;
 use crew_board::Task;
-use lc_watch::Lc;
 use std::marker::Model;
 
 /// The applications with what they took, and what all of them read.
@@ -20,7 +18,6 @@ pub(crate) struct Scene<'a, 'r, 'n, 'f> {
     pub(crate) sc: &'a ScSlot,
     pub(crate) mm: &'a MmSlot,
     pub(crate) md: &'a MdSlot,
-    pub(crate) lc: &'a Slot<Lc>,
     pub(crate) reads: Reads<'r, 'n, 'f>,
 }
 
@@ -30,9 +27,9 @@ impl<'a, 'r, 'n, 'f> Model for Scene<'a, 'r, 'n, 'f> {
 
     ghost Value = { Seen };
 
-    ghost view = { λ s. record { hs = s.hs.now; events = s.reads.events.now; cs = s.cs.now; sc = s.sc.now; mm = s.mm.now; md = s.md.now; lc = s.lc.now; telemetry = s.reads.telemetry.now.items; tables = s.reads.tables.now.set; files = s.reads.files.now; memory = seen s.reads.window; counters = s.reads.counters.now; time = s.reads.time } };
+    ghost view = { λ s. record { hs = s.hs.now; events = s.reads.events.now; cs = s.cs.now; sc = s.sc.now; mm = s.mm.now; md = s.md.now; lc = s.reads.lc.now.slot; telemetry = s.reads.lc.now.telemetry.items; tables = s.reads.tables.now.set; files = s.reads.tables.now.files; memory = seen s.reads.window; counters = s.reads.counters.now; time = s.reads.time } };
 
-    ghost invariant = { λ s. CanWake (record { hs = s.hs.now; events = s.reads.events.now; cs = s.cs.now; sc = s.sc.now; mm = s.mm.now; md = s.md.now; lc = s.lc.now; telemetry = s.reads.telemetry.now.items; tables = s.reads.tables.now.set; files = s.reads.files.now; memory = seen s.reads.window; counters = s.reads.counters.now; time = s.reads.time }) };
+    ghost invariant = { λ s. CanWake (record { hs = s.hs.now; events = s.reads.events.now; cs = s.cs.now; sc = s.sc.now; mm = s.mm.now; md = s.md.now; lc = s.reads.lc.now.slot; telemetry = s.reads.lc.now.telemetry.items; tables = s.reads.tables.now.set; files = s.reads.tables.now.files; memory = seen s.reads.window; counters = s.reads.counters.now; time = s.reads.time }) };
 }
 
 /// The application that a job wakes.
@@ -158,7 +155,7 @@ impl<'a, 'r, 'n, 'f> Scene<'a, 'r, 'n, 'f> {
         requires { scratch.old.out.items ≡ [] }
         ensures { Leaves names.Lc self.now scratch.new }
     {
-        self.lc.wake(
+        self.reads.lc.slot.wake(
             &self.reads,
             &mut scratch.stays,
             &mut scratch.lc,

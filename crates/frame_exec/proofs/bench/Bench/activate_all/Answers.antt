@@ -6,7 +6,7 @@ use Rattle.frame_exec.proofs.Naming.{activates_none, activates_more, ready_told}
 use Rattle.frame_exec.proofs.bench.Bench.activate_all.Goals as goal
 
 pub files-init : goal.files-init
-files-init c = record { named = activates_none c.args.self.now c.clear.new.self _ _ _ c.clear.ensures.none; ready = ready_told c.args.self.now c.clear.new.self _ _ _ c.requires.ready }
+files-init c = record { named = activates_none c.args.self.now c.clear.new.self _ _ _ _ c.clear.ensures.none; ready = ready_told c.args.self.now c.clear.new.self _ _ _ _ c.requires.ready }
 
 pub name_file-requires-clause-room : goal.name_file-requires-clause-room
 name_file-requires-clause-room c =

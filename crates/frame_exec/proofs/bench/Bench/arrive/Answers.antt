@@ -15,19 +15,19 @@ use Rattle.frame_exec.proofs.bench.Bench.arrive.Goals as goal
 pub returns-then-has_only_sends-clause-arrives : goal.returns-then-has_only_sends-clause-arrives
 returns-then-has_only_sends-clause-arrives c =
     let none = c.has_only_sends.ensures.only c.if-has_only_sends.true in
-    let active : Bench = record c.args.self.now { activations = c.clear.new.self; drops_room = c.self-1.given.0; manned = c.self-1.given.1.0; activations_room = c.self-1.given.1.1.0 } in
+    let active : Bench = record c.args.self.now { activations = c.clear.new.self; drops_room = c.self-1.given.0; manned = c.self-1.given.1.0; there = c.self-1.given.1.1.0; activations_room = c.self-1.given.1.1.1.0 } in
     record {
       active = active;
       upset = active;
-      activates = subst (λ (f : Frame). Activates f.activations [] c.args.self.now active) (sym none) (activates_none c.args.self.now c.clear.new.self _ _ _ c.clear.ensures.none);
+      activates = subst (λ (f : Frame). Activates f.activations [] c.args.self.now active) (sym none) (activates_none c.args.self.now c.clear.new.self _ _ _ _ c.clear.ensures.none);
       writes = subst (λ (f : Frame). IsUpset f.upsets active active) (sym none) (upset_none active);
       takes = subst (λ (f : Frame). Takes f.held active c.take.new.self) (sym none) c.take.ensures;
     }
 
 pub returns-then-has_only_sends-clause-ready : goal.returns-then-has_only_sends-clause-ready
 returns-then-has_only_sends-clause-ready c =
-    let active : Bench = record c.args.self.now { activations = c.clear.new.self; drops_room = c.self-1.given.0; manned = c.self-1.given.1.0; activations_room = c.self-1.given.1.1.0 } in
-    ready_by active c.take.new.self (ap (λ (m : Memory). regions_of m.areas) c.take.ensures.memory) c.take.ensures.run.tables c.take.ensures.apps (ready_told c.args.self.now c.clear.new.self _ _ _ c.requires.ready)
+    let active : Bench = record c.args.self.now { activations = c.clear.new.self; drops_room = c.self-1.given.0; manned = c.self-1.given.1.0; there = c.self-1.given.1.1.0; activations_room = c.self-1.given.1.1.1.0 } in
+    ready_by active c.take.new.self (ap (λ (m : Memory). regions_of m.areas) c.take.ensures.memory) c.take.ensures.run.tables c.take.ensures.apps (ready_told c.args.self.now c.clear.new.self _ _ _ _ c.requires.ready)
 
 pub activate-requires-clause-few : goal.activate-requires-clause-few
 activate-requires-clause-few c =

@@ -1,15 +1,25 @@
-use Rattle.std.proofs.Common.{ℕ, List, sym, subst, ◌∙◌}
-use Rattle.std.specs.List.{All}
-use Rattle.memory_window.specs.Access.{Admitted}
-use Rattle.memory_window.specs.Operations.{IsBacked}
-use Rattle.memory_window.specs.declared.operations.MemOp.{MemOp}
-use Rattle.table_files.specs.Files.{loads_of}
-use Rattle.frame_exec.proofs.Waking.{of_both}
+use Rattle.std.proofs.Common.{◌≡◌, length, refl, sym, arith}
+use Rattle.std.proofs.lemmas.Bool.Decides.{nat_tests}
+use Rattle.std.proofs.lemmas.List.{nil_from_length}
+use Rattle.memory_window.proofs.BankLanding.{nothing-landed}
+use Rattle.frame_exec.specs.Stages.{loads_in}
 use Rattle.frame_exec.proofs.bench.Bench.land.Goals as goal
 
-pub land_banks_on-requires-clause-admitted : goal.land_banks_on-requires-clause-admitted
-land_banks_on-requires-clause-admitted g c = λ _ _. subst (λ (ops : List MemOp). All (Admitted c.args.self.now.ram) ops) (sym (c.items.ensures.items ∙ c.deref.ensures)) c.requires.can_land.admitted
-
-pub land_banks_on-requires-clause-backed : goal.land_banks_on-requires-clause-backed
-land_banks_on-requires-clause-backed g c = λ _ _.
-    of_both (λ (files : List (List ℕ)) (ops : List MemOp). All (IsBacked (loads_of files)) ops) _ _ _ _ (sym c.files.ensures) (sym (c.items.ensures.items ∙ c.deref.ensures)) c.requires.can_land.backed
+-- no operation changes no memory
+pub returns-then-is_empty : goal.returns-then-is_empty
+returns-then-is_empty g c =
+    let old = c.args.self.now in
+    let none : length old.ops.value ≡ 0 = grind (arith, nat_tests) in
+    record {
+      items = refl;
+      epoch = refl;
+      number = refl;
+      failed = refl;
+      tables = refl;
+      apps = record { hs = refl; cs = refl; sc = refl; mm = refl; md = refl; lc = refl };
+      pipes = refl;
+      log = refl;
+      waits = refl;
+      resets = refl;
+      memory = sym (nothing-landed (loads_in old) old.ops.value old.ram (nil_from_length old.ops.value none));
+    }

@@ -1,13 +1,11 @@
 use Rattle.std.proofs.Common.{◌≡◌, length, true, refl, sym, ◌∙◌, ap, subst, arith}
 use Rattle.std.specs.List.{AllPass}
-use Rattle.std.specs.Prelude.{not}
 use Rattle.bus_pipes.specs.Held.{Held}
-use Rattle.bus_pipes.specs.Pipes.{Pipes}
 use Rattle.bus_pipes.specs.Counted.{is_item_counted}
 use Rattle.bus_pipes.specs.declared.names.Out.{Out}
 use Rattle.packet_log.specs.Standing.{Stands as LogStands}
 use Rattle.frame_exec.specs.Tables.{Loaded}
-use Rattle.frame_exec.specs.Runs.{activated_at, left_by}
+use Rattle.frame_exec.specs.Runs.{activated_at}
 use Rattle.frame_exec.specs.Crowds.{with_counters}
 use Rattle.std.proofs.lemmas.List.Elements.{All-nil}
 use Rattle.frame_exec.proofs.Frames.{apps_kept}
@@ -23,7 +21,6 @@ step-none-requires-clause-told g c = λ _ _.
     subst (AllPass is_item_counted) (sym told) (a.activates.counted (All-nil (λ (item : Out). is_item_counted item ≡ true)))
 
 pub step-none-requires-clause-clear : goal.step-none-requires-clause-clear
-unfolding left_by
 step-none-requires-clause-clear g c = λ _ _.
     let takes = c.arrive.ensures.arrives.takes in
     record {
@@ -33,7 +30,6 @@ step-none-requires-clause-clear g c = λ _ _.
       mm = takes.mm.none;
       md = takes.md.none;
       lc = takes.lc.none;
-      away = λ away. takes.lc.same ∙ ap not (sym (ap (λ (p : Pipes). p.watched) takes.pipes) ∙ away);
       operations = takes.operations;
     }
 

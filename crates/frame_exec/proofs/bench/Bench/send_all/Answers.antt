@@ -57,8 +57,14 @@ returns c =
     }
 
 -- the pipes that are there stay the same
-pub invariant_of-self-2-clause-manned : goal.invariant_of-self-2-clause-manned
-invariant_of-self-2-clause-manned c =
+watched_is : (c : goal.After-deliver_all) → c.stamp.new.self.bus.watched ≡ c.deliver_all.new.bus.watched
+watched_is c =
     let first = ap (λ (p : Pipes). p.watched) c.deliver.ensures.after ∙ watched_after c.stamp.new.self.bus c.sends.result.now in
     let second = ap (λ (p : Pipes). p.watched) c.deliver_all.ensures.after ∙ watched_after c.deliver.new.self _ in
-    c.stamp.new.self.manned ∙ ap jobs_of (sym (second ∙ first))
+    sym (second ∙ first)
+
+pub invariant_of-self-2-clause-manned : goal.invariant_of-self-2-clause-manned
+invariant_of-self-2-clause-manned c = c.stamp.new.self.manned ∙ ap jobs_of (watched_is c)
+
+pub invariant_of-self-2-clause-there : goal.invariant_of-self-2-clause-there
+invariant_of-self-2-clause-there c = c.stamp.new.self.there ∙ watched_is c

@@ -5,8 +5,7 @@ use Rattle.bus_pipes.specs.declared.names.Out.{Out}
 use Rattle.mm_core.specs.declared.state.Mm.{Mm}
 use Rattle.frame_exec.specs.declared.left.Left.{Left}
 use Rattle.frame_exec.specs.Wakes.{next_of}
-use Rattle.frame_exec.specs.Jobs.{jobs_of}
-use Rattle.frame_exec.proofs.Taking.{none_given, five_or_six}
+use Rattle.frame_exec.proofs.Taking.{none_given}
 use Rattle.frame_exec.proofs.bench.Bench.take_over.Goals as goal
 
 pub returns-clause-over : goal.returns-clause-over
@@ -16,13 +15,11 @@ returns-clause-over c =
     let sc = c.take_over-sc.ensures in
     let mm = c.take_over-mm.ensures in
     let md = c.take_over-md.ensures in
-    let lc = c.take_over-lc.ensures in
     let gave = c.give_operations.new.self in
     let left : Left = c.result_mut-left.result.now in
     let behind = c.take_over-sc.new.crew.results in
-    let count : length behind ≡ jobs_of c.args.self.now.bus.watched = sc.count ∙ cs.count ∙ hs.count ∙ c.requires.manned in
-    let some = five_or_six c.args.self.now.bus.watched in
-    let same = sym mm.from.1 ∙ get_or-set_same behind 3 gave mm.from.0 (omega (arith, count, some)) in
+    let count : length behind ≡ length c.args.self.now.crew.results = sc.count ∙ cs.count ∙ hs.count in
+    let same = sym mm.from.1 ∙ get_or-set_same behind 3 gave mm.from.0 (omega (arith, count, c.requires.manned)) in
     record {
       run = record { waits = refl; epoch = refl; number = refl; failed = refl; tables = refl };
       told = refl;
@@ -44,18 +41,15 @@ returns-clause-over c =
             ∙ sym (get_or-set_other behind 3 4 gave md.from.0 (omega arith)) ∙ sym (mm.others 4 md.from.0 (omega arith)) ∙ md.from.1,
         (md.from.2, md.from.3),
       );
-      lc = λ watched.
-          let left = lc.from (c.is_watched.ensures.watched ∙ watched) in (
-            left.0,
-            sym (hs.others 5 left.0 (omega arith)) ∙ sym (cs.others 5 left.0 (omega arith)) ∙ sym (sc.others 5 left.0 (omega arith))
-                ∙ sym (get_or-set_other behind 3 5 gave left.0 (omega arith)) ∙ sym (mm.others 5 left.0 (omega arith)) ∙ sym (md.others 5 left.0 (omega arith)) ∙ left.1,
-            (left.2, left.3),
-          );
-      away = λ away. lc.away (c.is_watched.ensures.watched ∙ away);
       pipes = refl;
       log = refl;
       memory = refl;
     }
 
 pub returns-clause-none : goal.returns-clause-none
-returns-clause-none c = none_given _ _ _ _ _ _ _ _ _ _ _ _ _ _ c.is_empty-told.ensures c.take_over-hs.ensures.none c.take_over-cs.ensures.none c.take_over-sc.ensures.none c.take_over-mm.ensures.none c.take_over-md.ensures.none c.take_over-lc.ensures.none
+returns-clause-none c = none_given _ _ _ _ _ _ _ _ _ _ _ _ _ c.is_empty-told.ensures c.take_over-hs.ensures.none c.take_over-cs.ensures.none c.take_over-sc.ensures.none c.take_over-mm.ensures.none c.take_over-md.ensures.none c.requires.clear.lc
+
+pub returns-clause-last : goal.returns-clause-last
+returns-clause-last c = λ left.
+    c.take_over-md.ensures.others 5 left (omega arith) ∙ c.take_over-mm.ensures.others 5 left (omega arith) ∙ get_or-set_other c.take_over-sc.new.crew.results 3 5 c.give_operations.new.self left (omega arith)
+    ∙ c.take_over-sc.ensures.others 5 left (omega arith) ∙ c.take_over-cs.ensures.others 5 left (omega arith) ∙ c.take_over-hs.ensures.others 5 left (omega arith)

@@ -1,4 +1,4 @@
-use Rattle.std.proofs.Common.{◌≡◌, ℕ, List, ◌+◌, ◌∙◌, ap, refl, sym, subst}
+use Rattle.std.proofs.Common.{◌≡◌, ◌+◌, ◌∙◌, ap, refl, sym, subst}
 use Rattle.memory_window.specs.Memory.{Memory, regions_of}
 use Rattle.md_dwell.specs.State.{AllGiven}
 use Rattle.md_dwell.specs.declared.step.TheConstants.{MOST_ITEMS as md_most}
@@ -9,8 +9,7 @@ use Rattle.cs_slices.specs.Given.{SegmentsGiven}
 use Rattle.frame_exec.specs.Tables.{TableSet}
 use Rattle.frame_exec.specs.Wakes.{next_of}
 use Rattle.frame_exec.specs.Jobs.{Gives, Operates, jobs_of}
-use Rattle.table_files.specs.Files.{loads_of}
-use Rattle.frame_exec.proofs.Waking.{of_both}
+use Rattle.frame_exec.specs.Stages.{loads_in}
 use Rattle.frame_exec.proofs.bench.Bench.wake.Goals as goal
 
 pub invariant_of-scene : goal.invariant_of-scene
@@ -34,14 +33,14 @@ returns g c =
       run = record { waits = refl; epoch = refl; number = refl; failed = refl; tables = refl };
       told = refl;
       slots = record { hs = refl; cs = refl; sc = refl; mm = refl; md = refl; lc = refl; operations = refl; pipes = refl; log = refl; memory = refl };
-      manned = c.wake_all.ensures.count ∙ ap jobs_of c.is_watched.ensures.watched;
+      manned = c.wake_all.ensures.count ∙ ap jobs_of (sym c.requires.watched);
       hs = all.hs;
       cs = λ left at. subst (λ (m : Memory). Gives (λ t. cs_tables old.tables.set ≡ cs_tables t.now) cs_stands cs_gives cs_most old.cs.held (cs_reads time old.cs.commands m) old.cs.state.value left.stays left.cs.value left.out.items) is
           (all.cs left at);
       sc = all.sc;
-      mm = λ left at. of_both (λ (files : List (List ℕ)) (m : Memory). Gives {Setup = TableSet} (λ t. Unit {0}) mm_stands mm_gives mm_most old.mm.held (mm_reads (loads_of files) time old.mm.commands m) old.mm.state.value left.stays left.mm.value left.out.items
-          × Operates (loads_of files) old.mm.held time old.mm.commands m left.ops.value) _ _ _ _ c.files.ensures is (all.mm left at);
+      mm = λ left at. subst (λ (m : Memory). Gives {Setup = TableSet} (λ t. Unit {0}) mm_stands mm_gives mm_most old.mm.held (mm_reads (loads_in old) time old.mm.commands m) old.mm.state.value left.stays left.mm.value left.out.items
+          × Operates (loads_in old) old.mm.held time old.mm.commands m left.ops.value) is (all.mm left at);
       md = λ left at. subst (λ (m : Memory). Gives {Setup = Active} (λ t. Unit {0}) md_stands md_gives md_most old.md.held (md_reads time old.md.commands m) old.md.state.value left.stays left.md.value left.out.items
           × AllGiven (regions_of m.areas) (next_of left.stays left.md.value old.md.state.value)) is (all.md left at);
-      lc = λ watched. all.lc (c.is_watched.ensures.watched ∙ watched);
+      lc = λ watched. all.lc (sym c.requires.watched ∙ watched);
     }

@@ -1,0 +1,100 @@
+-- The applications behind a frame's wakeups: what the jobs left, and what of it the bench took over.
+use Rattle.std.proofs.Common.{◌≡◌, List, ◌∙◌, ap, subst, sym}
+use Rattle.packet_forms.specs.declared.name.Counter.{Counter}
+use Rattle.table_files.specs.Files.{loads_of}
+use Rattle.memory_window.specs.Memory.{Memory, regions_of}
+use Rattle.memory_window.specs.declared.operations.MemOp.{MemOp}
+use Rattle.sc_sequences.specs.State.{IsReady as ScIsReady}
+use Rattle.sc_sequences.specs.declared.state.Sc.{Sc}
+use Rattle.md_dwell.specs.State.{AllGiven}
+use Rattle.md_dwell.specs.declared.state.Md.{Md}
+use Rattle.lc_watch.specs.declared.step.TheConstants.{MOST_ITEMS as lc_most}
+use Rattle.std.specs.List.{AllPass}
+use Rattle.bus_pipes.specs.Held.{Held}
+use Rattle.bus_pipes.specs.Counted.{is_item_counted}
+use Rattle.bus_pipes.specs.declared.names.Out.{Out}
+use Rattle.frame_exec.specs.declared.bench.TheConstants.{DROPS, ACTIVATIONS}
+use Rattle.frame_exec.specs.declared.bench.Bench.{Bench}
+use Rattle.crew_board.specs.Seen.{Seen as Crew}
+use Rattle.frame_exec.specs.declared.left.Left.{Left}
+use Rattle.frame_exec.specs.declared.lc_slot.LcSlot.{LcSlot}
+use Rattle.frame_exec.specs.Applications.{lc_setup, lc_stands, lc_gives, lc_reads}
+use Rattle.frame_exec.specs.Jobs.{jobs_of}
+use Rattle.frame_exec.specs.Landable.{CanLand}
+use Rattle.frame_exec.specs.Standing.{IsReady}
+use Rattle.frame_exec.specs.Tables.{Loaded, AreGiven}
+use Rattle.frame_exec.specs.Wakes.{AreSendable, IsWoken}
+use Rattle.frame_exec.specs.Stages.{AreWoken, CanSend, Steps, TakesOver, loads_in, time_of}
+use Rattle.frame_exec.proofs.Taking.{state_is, taken_woken, taken_sendable}
+
+-- what the jobs left but LC's was taken over, and then LC's: the rest stays as it was
+pub over_beside : (old new : Bench) (lc : LcSlot) (crew : Crew Left) (room : new.drops.room ≡ DROPS) (manned : crew.jobs ≡ jobs_of new.bus.watched) (there : lc.there ≡ new.bus.watched) (told : new.activations.room ≡ ACTIVATIONS)
+    → TakesOver old new → TakesOver old (record new { lc = lc; crew = crew; drops_room = room; manned = manned; there = there; activations_room = told })
+over_beside old new lc crew room manned there told taken = record {
+  run = record { waits = taken.run.waits; epoch = taken.run.epoch; number = taken.run.number; failed = taken.run.failed; tables = taken.run.tables };
+  told = taken.told;
+  hs = taken.hs;
+  cs = taken.cs;
+  sc = taken.sc;
+  mm = taken.mm;
+  md = taken.md;
+  pipes = taken.pipes;
+  log = taken.log;
+  memory = taken.memory;
+}
+
+module _ (counters : List Counter) (old middle new : Bench) (woken : AreWoken counters old middle) (taken : TakesOver middle new) where
+  same_memory : new.ram ≡ old.ram
+  same_memory = taken.memory ∙ woken.slots.memory
+
+  same_tables : new.tables ≡ old.tables
+  same_tables = taken.run.tables ∙ woken.run.tables
+
+  pub all_step : IsWoken (lc_stands (lc_setup old.tables.set)) (lc_gives (lc_setup old.tables.set)) old.lc.slot.held (lc_reads (time_of old) old.lc.slot.commands old.lc.telemetry.items) old.lc.slot.state.value new.lc.slot.state.value new.lc.slot.out.items → Steps counters old new
+  all_step lc =
+      let slots = woken.slots in
+      let run = woken.run in
+      let more = taken.run in
+      record {
+        run = record { waits = more.waits ∙ run.waits; epoch = more.epoch ∙ run.epoch; number = more.number ∙ run.number; failed = more.failed ∙ run.failed; tables = more.tables ∙ run.tables };
+        told = taken.told ∙ woken.told;
+        hs = λ tables same. taken_woken _ _ _ _ _ _ _ _ _ _ _ _ _ (woken.hs taken.hs.0 taken.hs.1) (ap (λ slot. slot.state.value) slots.hs) taken.hs.2.0 taken.hs.2.1 tables (sym same);
+        cs = λ tables same. taken_woken _ _ _ _ _ _ _ _ _ _ _ _ _ (woken.cs taken.cs.0 taken.cs.1) (ap (λ slot. slot.state.value) slots.cs) taken.cs.2.0 taken.cs.2.1 tables (sym same);
+        sc = λ tables same. taken_woken _ _ _ _ _ _ _ _ _ _ _ _ _ (woken.sc taken.sc.0 taken.sc.1).0 (ap (λ slot. slot.state.value) slots.sc) taken.sc.2.0 taken.sc.2.1 tables (sym same);
+        mm = λ tables. taken_woken _ _ _ _ _ _ _ _ _ _ _ _ _ (woken.mm taken.mm.0 taken.mm.1).0 (ap (λ slot. slot.state.value) slots.mm) taken.mm.2.0 taken.mm.2.1 tables tt;
+        md = λ tables. taken_woken _ _ _ _ _ _ _ _ _ _ _ _ _ (woken.md taken.md.0 taken.md.1).0 (ap (λ slot. slot.state.value) slots.md) taken.md.2.0 taken.md.2.1 tables tt;
+        lc = lc;
+        operations = taken.mm.2.2 ∙ (woken.mm taken.mm.0 taken.mm.1).1.are;
+        pipes = taken.pipes ∙ slots.pipes;
+        log = taken.log ∙ slots.log;
+        memory = same_memory;
+      }
+
+  pub all_can_send : AllPass is_item_counted old.activations.items → AreSendable lc_most new.lc.slot.out.items → CanSend new
+  all_can_send told lc =
+      let slots = woken.slots in
+      let land = (woken.mm taken.mm.0 taken.mm.1).1.can_land in
+      record {
+        told = subst (λ (held : Held Out). AllPass is_item_counted held.items) (sym (taken.told ∙ woken.told)) told;
+        hs = taken_sendable _ _ _ _ _ _ _ _ _ _ _ _ _ (woken.hs taken.hs.0 taken.hs.1) (ap (λ slot. slot.state.value) slots.hs) taken.hs.2.0 taken.hs.2.1;
+        cs = taken_sendable _ _ _ _ _ _ _ _ _ _ _ _ _ (woken.cs taken.cs.0 taken.cs.1) (ap (λ slot. slot.state.value) slots.cs) taken.cs.2.0 taken.cs.2.1;
+        sc = taken_sendable _ _ _ _ _ _ _ _ _ _ _ _ _ (woken.sc taken.sc.0 taken.sc.1).0 (ap (λ slot. slot.state.value) slots.sc) taken.sc.2.0 taken.sc.2.1;
+        mm = taken_sendable _ _ _ _ _ _ _ _ _ _ _ _ _ (woken.mm taken.mm.0 taken.mm.1).0 (ap (λ slot. slot.state.value) slots.mm) taken.mm.2.0 taken.mm.2.1;
+        md = taken_sendable _ _ _ _ _ _ _ _ _ _ _ _ _ (woken.md taken.md.0 taken.md.1).0 (ap (λ slot. slot.state.value) slots.md) taken.md.2.0 taken.md.2.1;
+        lc = lc;
+        operations = subst (λ (t : Loaded). CanLand (loads_of t.files) new.ram new.ops.value) (sym same_tables)
+            (subst (λ (m : Memory). CanLand (loads_in old) m new.ops.value) (sym same_memory) (subst (λ (ops : List MemOp). CanLand (loads_in old) old.ram ops) (sym taken.mm.2.2) land));
+      }
+
+  pub all_ready : IsReady old → IsReady new
+  all_ready ready =
+      let slots = woken.slots in
+      let sc = (woken.sc taken.sc.0 taken.sc.1) in
+      let md = (woken.md taken.md.0 taken.md.1) in
+      record {
+        sc = subst (λ (t : Loaded). ScIsReady t.set.sc new.sc.state.value) (sym same_tables)
+            (subst (λ (s : Sc). ScIsReady old.tables.set.sc s) (sym (state_is _ _ _ _ _ _ _ _ _ _ _ _ _ sc.0 (ap (λ slot. slot.state.value) slots.sc) taken.sc.2.0 taken.sc.2.1)) sc.1);
+        md = subst (λ (m : Memory). AllGiven (regions_of m.areas) new.md.state.value) (sym same_memory)
+            (subst (λ (s : Md). AllGiven (regions_of old.ram.areas) s) (sym (state_is _ _ _ _ _ _ _ _ _ _ _ _ _ md.0 (ap (λ slot. slot.state.value) slots.md) taken.md.2.0 taken.md.2.1)) md.1);
+        given = subst (λ (m : Memory). AreGiven (regions_of m.areas) new.tables) (sym same_memory) (subst (AreGiven (regions_of old.ram.areas)) (sym same_tables) ready.given);
+      }
