@@ -1,27 +1,18 @@
--- The applications as a bench is opened.
-use Rattle.std.specs.Prelude.{◌≡◌, ℕ, Bool, List, []}
+-- A bench as it is opened.
+use Rattle.std.specs.Prelude.{◌≡◌, Bool, List}
+use Rattle.bus_pipes.specs.Pipes.{empty_pipes}
+use Rattle.memory_window.specs.Memory.{start_memory}
 use Rattle.memory_window.specs.declared.regions.Region.{Region}
-use Rattle.hs_monitors.specs.Histories.{setup_of}
-use Rattle.hs_monitors.specs.State.{Stands as HsStands}
-use Rattle.cs_slices.specs.State.{Stands as CsStands}
-use Rattle.sc_sequences.specs.Histories.{begun_at}
-use Rattle.sc_sequences.specs.State.{Stands as ScStands, IsReady as ScIsReady}
-use Rattle.mm_core.specs.State.{Stands as MmStands}
-use Rattle.md_dwell.specs.Given.{TablesGiven}
-use Rattle.md_dwell.specs.State.{Stands as MdStands, AllGiven}
-use Rattle.lc_watch.specs.State.{Stands as LcStands}
-use Rattle.frame_exec.specs.declared.opening.Slots.{Slots}
-use Rattle.frame_exec.specs.Applications.{cs_tables}
-use Rattle.frame_exec.specs.Tables.{TableSet}
+use Rattle.packet_log.specs.Blocks.{empty_block}
+use Rattle.frame_exec.specs.declared.bench.TheConstants.{DROPS, ACTIVATIONS}
+use Rattle.frame_exec.specs.declared.opening.Room.{Room}
+use Rattle.frame_exec.specs.Jobs.{jobs_of}
 
--- each application stands for no history on its tables, and can be woken where memory gives what they read
-pub record AreBegun (tables : TableSet) (time : ℕ) (there : Bool) (slots : Slots) : Type 0 where
-  pub hs : HsStands (setup_of tables.hs 0 3) [] slots.hs.state.value
-  pub cs : CsStands (cs_tables tables) [] slots.cs.state.value
-  pub sc : ScStands (begun_at time tables.sc) [] slots.sc.state.value
-  pub ready : ScIsReady tables.sc slots.sc.state.value
-  pub mm : MmStands [] slots.mm.state.value
-  pub md : MdStands tables.dwells [] slots.md.state.value
-  pub given : (regions : List Region) → TablesGiven regions tables.dwells → AllGiven regions slots.md.state.value
-  pub lc : LcStands tables.wdt tables.adt [] slots.lc.slot.state.value
-  pub watches : slots.lc.there ≡ there
+-- the room of a bench before the first frame, by the regions of its memory and whether LC is there
+pub record IsEmpty (regions : List Region) (there : Bool) (room : Room) : Type 0 where
+  pub told : room.activations.room ≡ ACTIVATIONS
+  pub dropped : room.drops.room ≡ DROPS
+  pub manned : room.crew.jobs ≡ jobs_of there
+  pub pipes : room.bus ≡ empty_pipes there
+  pub memory : room.ram ≡ start_memory regions
+  pub lines : room.block ≡ empty_block

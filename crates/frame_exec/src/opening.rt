@@ -1,17 +1,13 @@
 //! The opening of a bench.
 
 ghost use Rattle.std.specs.Prelude.{IfOk};
-ghost use Rattle.frame_exec.specs.Opening.{AreBegun};
+ghost use Rattle.frame_exec.specs.Opening.{IsEmpty};
 
 use crate::bench::{ACTIVATIONS, Bench, DROPS};
-use crate::cs_slot::CsSlot;
 use crate::giving::{OpenFault, refused_place};
-use crate::hs_slot::HsSlot;
 use crate::jobs::jobs_of;
 use crate::lc_slot::LcSlot;
-use crate::md_slot::MdSlot;
-use crate::mm_slot::MmSlot;
-use crate::sc_slot::ScSlot;
+use crate::left::Left;
 use crate::slot::Slot;
 use crate::tables::Tables;
 use crate::watching::names_limit_checker;
@@ -30,29 +26,34 @@ use scenario::Header;
 use std::alloc::Global;
 use table_files::Files;
 
-/// The applications before the first frame.
+/// The room of a bench beside that of its applications.
 #[derive(Drop)]
-pub(crate) struct Slots {
-    pub(crate) hs: HsSlot,
-    pub(crate) cs: CsSlot,
-    pub(crate) sc: ScSlot,
-    pub(crate) mm: MmSlot,
-    pub(crate) md: MdSlot,
-    pub(crate) lc: LcSlot,
+pub(crate) struct Room {
+    pub(crate) activations: Outbox,
+    pub(crate) crew: Crew<Left>,
+    pub(crate) ops: Box<Ops>,
+    pub(crate) drops: Drops,
+    pub(crate) bus: Bus,
+    pub(crate) ram: Ram,
+    pub(crate) block: Block,
 }
 
-impl Slots {
-    /// The applications on these tables, SC at this time, and whether LC is there.
-    fn open(alloc: Global, tables: &Tables<'_>, time: u32, lc: bool) -> Result<Slots, NoMemory>
-        ensures { IfOk result (AreBegun tables.now.set time lc) }
+impl Room {
+    ghost use Rattle.std.specs.Prelude.{◌≤◌};
+
+    /// Room for so many workers, with empty pipes, LC's among them where it is there, and the memory of the header's map.
+    fn open(alloc: Global, header: &Header, workers: u32, lc: bool) -> Result<Room, NoMemory>
+        requires workers { (1 ≤ workers) × (workers ≤ 16) }
+        ensures { IfOk result (IsEmpty header.now.map lc) }
     {
-        Ok(Slots {
-            hs: Slot::open(alloc, Hs::start(tables.hs(), 0, 3), false)?,
-            cs: Slot::open(alloc, Cs::start(tables.eeprom(), tables.memory()), false)?,
-            sc: Slot::open(alloc, Sc::start(tables.sc(), time), false)?,
-            mm: Slot::open(alloc, Mm::start(), false)?,
-            md: Slot::open(alloc, Md::start(tables.dwells()), false)?,
-            lc: LcSlot::open(alloc, Lc::start(tables.adt()), lc)?,
+        Ok(Room {
+            activations: Outbox::open(alloc, ACTIVATIONS)?,
+            crew: Crew::open(alloc, workers, jobs_of(lc))?,
+            ops: Box::new(alloc, Ops::new())?,
+            drops: Drops::open(alloc, DROPS)?,
+            bus: Bus::open(alloc, lc)?,
+            ram: Ram::new(alloc, header.map)?,
+            block: Block::open(alloc)?,
         })
     }
 }
@@ -103,30 +104,30 @@ impl<'f> Bench<'f> {
         ensures { (files : List (List ℕ)) → AreLoaded files tables.entry → IfOk result (λ bench. Stands bench (setup_in header.now files) []) }
     {
         let lc = names_limit_checker(tables.files());
-        let slots = Slots::open(alloc, &tables, header.epoch, lc)?;
+        let room = Room::open(alloc, header, workers, lc)?;
         Ok(Bench {
             epoch: header.epoch,
             number: 0,
             failed: false,
             resets: false,
             workers,
-            tables,
-            activations: Outbox::open(alloc, ACTIVATIONS)?,
-            hs: slots.hs,
+            hs: Slot::open(alloc, Hs::start(tables.hs(), 0, 3), false)?,
             events: Batch::new(),
-            cs: slots.cs,
-            sc: slots.sc,
-            mm: slots.mm,
-            md: slots.md,
-            lc: slots.lc,
-            crew: Crew::open(alloc, workers, jobs_of(lc))?,
-            ops: Box::new(alloc, Ops::new())?,
-            drops: Drops::open(alloc, DROPS)?,
-            bus: Bus::open(alloc, lc)?,
+            cs: Slot::open(alloc, Cs::start(tables.eeprom(), tables.memory()), false)?,
+            sc: Slot::open(alloc, Sc::start(tables.sc(), header.epoch), false)?,
+            mm: Slot::open(alloc, Mm::start(), false)?,
+            md: Slot::open(alloc, Md::start(tables.dwells()), false)?,
+            lc: LcSlot::open(alloc, Lc::start(tables.adt()), lc)?,
+            tables,
+            activations: room.activations,
+            crew: room.crew,
+            ops: room.ops,
+            drops: room.drops,
+            bus: room.bus,
             log: Log::start(),
-            ram: Ram::new(alloc, header.map)?,
+            ram: room.ram,
             line: Line::new(),
-            block: Block::open(alloc)?,
+            block: room.block,
         })
     }
 }
