@@ -9,18 +9,15 @@ use crate::crowds::obey_frame;
 use crate::cs_slot::CsSlot;
 use crate::cut::Cut;
 use crate::hs_slot::HsSlot;
-use crate::jobs::wake_all;
 use crate::lc_slot::LcSlot;
 use crate::left::Left;
 use crate::md_slot::MdSlot;
 use crate::mm_slot::MmSlot;
-use crate::reads::Reads;
 use crate::sc_slot::ScSlot;
 use crate::stages::{
     deliver_all, has_reset, in_order, is_held, put_frame, stamp_all, take_unless, upset_all,
 };
 use crate::tables::Tables;
-use crate::wakeups::Scene;
 use bus_pipes::{Batch, Bus, Drops, Outbox, PipeName};
 use crew_board::Crew;
 use cs_slices::Cs;
@@ -83,7 +80,7 @@ pub struct Bench<'f> {
 }
 
 impl<'f> Bench<'f> {
-    ghost use Rattle.std.specs.Prelude.{ℕ, ◌+◌, ◌-◌, ◌<◌, ◌≤◌, List, [], ◌∷◌, ◌++◌, map, length, slice_index_or, true, ◌||◌, All, IfErr, OnOk, OnErr, is_err};
+    ghost use Rattle.std.specs.Prelude.{ℕ, ◌+◌, ◌-◌, ◌<◌, ◌≤◌, List, [], ◌∷◌, ◌++◌, map, length, true, ◌||◌, All, IfErr, OnOk, OnErr, is_err};
     ghost use Rattle.fsw_outside.specs.Told.{WhereTold};
     ghost use Rattle.fsw_outside.specs.Causes.{HasCause};
     ghost use Rattle.fsw_outside.specs.Written.{WritesAll};
@@ -102,7 +99,7 @@ impl<'f> Bench<'f> {
     ghost use Rattle.std.specs.List.{AllPass, list_any};
     ghost use Rattle.bus_pipes.specs.Counted.{is_item_counted};
     ghost use Rattle.table_files.specs.Files.{kind_at};
-    ghost use Rattle.frame_exec.specs.Stages.{IsSameRun, GoesOn, NamesFile, Activates, IsUpset, Takes, Arrives, IsClear, Steps, CanSend, AreWoken, TakesOver, Sends, RunsIn, IsSameFrame, Lands, StartsAnew, IsStamped, HasGiven, items_in, loads_in, lines_in};
+    ghost use Rattle.frame_exec.specs.Stages.{IsSameRun, GoesOn, NamesFile, Activates, IsUpset, Takes, Arrives, CanSend, Sends, RunsIn, IsSameFrame, Lands, StartsAnew, IsStamped, HasGiven, items_in, loads_in, lines_in};
     ghost use Rattle.frame_exec.specs.Sending.{is_reset};
     ghost use Rattle.frame_exec.specs.Wakes.{joined};
     ghost use Rattle.frame_exec.specs.declared.left.Left.{Left};
@@ -465,106 +462,6 @@ impl<'f> Bench<'f> {
             .take(&mut self.bus, PipeName::Md, is_held(App::Md, held));
         self.lc.take(&mut self.bus);
         self.ops.clear();
-    }
-
-    /// Wakes the applications that are there on what they took, on execution counters and on the frame's image, and tells whether no item
-    /// was given.
-    #[inline(always)]
-    fn step<R: Threads + Sync, G: Gate>(&mut self, rt: &R, gate: &G, counters: &[Counter]) -> bool
-        requires time { self.old.epoch + self.old.number < 4294967296 }
-        requires clear { IsClear self.old }
-        requires told { AllPass is_item_counted self.old.activations.items }
-        requires ready { IsReady self.old }
-        ensures steps { Steps counters.now self.old self.new }
-        ensures can_send { CanSend self.new }
-        ensures ready { IsReady self.new }
-        ensures none { result ≡ true → joined (items_in self.new) ≡ [] }
-    {
-        if self.lc.there {
-            return self.step_watched(rt, gate, counters);
-        }
-        self.wake(rt, gate, counters, false);
-        self.take_over()
-    }
-
-    /// The same where LC is there.
-    #[inline(never)]
-    fn step_watched<R: Threads + Sync, G: Gate>(
-        &mut self,
-        rt: &R,
-        gate: &G,
-        counters: &[Counter],
-    ) -> bool
-        requires there { self.old.lc.there ≡ true }
-        requires time { self.old.epoch + self.old.number < 4294967296 }
-        requires clear { IsClear self.old }
-        requires told { AllPass is_item_counted self.old.activations.items }
-        requires ready { IsReady self.old }
-        ensures steps { Steps counters.now self.old self.new }
-        ensures can_send { CanSend self.new }
-        ensures ready { IsReady self.new }
-        ensures none { result ≡ true → joined (items_in self.new) ≡ [] }
-    {
-        self.wake(rt, gate, counters, true);
-        let none = self.take_over();
-        none & self.lc.take_over(&mut self.crew)
-    }
-
-    /// Wakes the applications, each as a job of the crew: LC as the last, where it is watching.
-    #[inline(always)]
-    fn wake<R: Threads + Sync, G: Gate>(
-        &mut self,
-        rt: &R,
-        gate: &G,
-        counters: &[Counter],
-        watched: bool,
-    )
-        requires watched { self.old.bus.watched ≡ watched }
-        requires time { self.old.epoch + self.old.number < 4294967296 }
-        requires ready { IsReady self.old }
-        ensures { AreWoken counters.now self.old self.new }
-    {
-        let time = self.epoch + self.number as u32;
-        let window = self.ram.window();
-        let reads = Reads {
-            tables: &self.tables,
-            events: &self.events,
-            lc: &self.lc,
-            window,
-            counters,
-            time,
-        };
-        let scene = Scene {
-            hs: &self.hs,
-            cs: &self.cs,
-            sc: &self.sc,
-            mm: &self.mm,
-            md: &self.md,
-            reads,
-        };
-        wake_all(&mut self.crew, rt, gate, &scene, watched);
-    }
-
-    /// Takes over what the jobs left but LC's, in the order of the applications, and tells whether no item was given.
-    #[inline(always)]
-    fn take_over(&mut self) -> bool
-        requires manned { 5 ≤ length self.old.crew.results }
-        requires clear { IsClear self.old }
-        ensures over { TakesOver self.old self.new }
-        ensures lc { self.new.lc ≡ self.old.lc }
-        ensures last { (left : Left) → slice_index_or self.new.crew.results 5 left ≡ slice_index_or self.old.crew.results 5 left }
-        ensures count { length self.new.crew.results ≡ length self.old.crew.results }
-        ensures none { result ≡ true → joined (items_in self.new) ≡ [] }
-    {
-        let told = self.activations.is_empty();
-        let hs = self.hs.take_over(&mut self.crew, 0);
-        let cs = self.cs.take_over(&mut self.crew, 1);
-        let sc = self.sc.take_over(&mut self.crew, 2);
-        let left = self.crew.result_mut(3);
-        left.give_operations(&mut self.ops);
-        let mm = self.mm.take_over(&mut self.crew, 3);
-        let md = self.md.take_over(&mut self.crew, 4);
-        told & hs & cs & sc & mm & md
     }
 
     /// Sends the items, unless nothing is to be sent, and tells whether nothing was sent nor dropped.

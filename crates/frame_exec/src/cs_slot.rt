@@ -40,6 +40,7 @@ impl Application<()> for Cs {
 
     ghost fills = { λ reads commands beside. Unit {0} };
 
+    #[inline(always)]
     fn is_idle(&self, reads: &Reads<'_, '_, '_>, commands: &[Packet]) -> bool {
         let _ = reads;
         self.is_idle(commands)

@@ -21,6 +21,7 @@ mod reads;
 mod sc_slot;
 mod slot;
 mod stages;
+mod steps;
 mod tables;
 mod wakeups;
 mod watching;

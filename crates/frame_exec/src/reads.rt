@@ -6,8 +6,8 @@ use bus_pipes::Batch;
 use memory_window::Window;
 use packet_forms::Counter;
 
-/// What an application reads in a frame beside the packets of its pipe: the tables, the files, the packets that HS took from its
-/// pipe of events and LC from that of telemetry, the frame's image, its execution counters, and its time.
+/// What an application reads in a frame beside the packets of its pipe: the tables with the files, the packets that HS took from its
+/// pipe of events, LC with those that it took from that of telemetry, the frame's image, its execution counters, and its time.
 #[derive(Drop)]
 pub(crate) struct Reads<'a, 'n, 'f> {
     pub(crate) tables: &'a Tables<'f>,

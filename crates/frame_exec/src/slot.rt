@@ -98,14 +98,26 @@ impl<S> Slot<S> {
         ensures room { out.new.room ≡ out.old.room }
     {
         *stays = true;
-        if self.held {
-            return;
-        }
-        if self.state.is_idle(reads, self.commands.packets()) {
+        if self.rests(reads) {
             return;
         }
         *stays = false;
         self.go_on(reads, next, out, beside);
+    }
+
+    /// Whether a wakeup would leave the state as it is and give nothing: the application is held, or has nothing to do.
+    #[inline(always)]
+    pub(crate) fn rests<X>(&self, reads: &Reads<'_, '_, '_>) -> bool
+    where
+        S: Application<X>,
+        ensures woken { (setup : S.Setup) → result ≡ true → S.belongs setup reads.now → IsWoken (S.stands setup) (S.items setup) self.now.held (S.input reads.now self.now.commands) self.now.state.value self.now.state.value [] }
+        ensures fills { (beside : X) → result ≡ true → self.now.held ≡ false → S.is_clear beside → S.fills reads.now self.now.commands beside }
+        ensures here { result ≡ false → self.now.held ≡ false }
+    {
+        if self.held {
+            return true;
+        }
+        self.state.is_idle(reads, self.commands.packets())
     }
 
     /// Leaves the state behind a wakeup in `next`.

@@ -1,0 +1,182 @@
+//! How the applications are woken in a frame.
+
+ghost use Rattle.std.specs.Prelude.{◌≡◌};
+
+use crate::bench::Bench;
+use crate::jobs::wake_all;
+use crate::reads::Reads;
+use crate::wakeups::Scene;
+use fsw_outside::Gate;
+use packet_forms::Counter;
+use std::thread::Threads;
+
+impl<'f> Bench<'f> {
+    ghost use Rattle.std.specs.Prelude.{◌+◌, ◌<◌, ◌≤◌, [], length, slice_index_or, true};
+    ghost use Rattle.std.specs.List.{AllPass};
+    ghost use Rattle.bus_pipes.specs.Counted.{is_item_counted};
+    ghost use Rattle.frame_exec.specs.Standing.{IsReady};
+    ghost use Rattle.frame_exec.specs.Stages.{IsClear, Steps, CanSend, AreWoken, TakesOver, items_in};
+    ghost use Rattle.frame_exec.specs.Wakes.{joined};
+    ghost use Rattle.frame_exec.specs.declared.left.Left.{Left};
+
+    /// Wakes the applications that are there on what they took, on execution counters and on the frame's image, and tells whether no item
+    /// was given. One worker wakes none of them where all rest: then no job is run.
+    #[inline(always)]
+    pub(crate) fn step<R: Threads + Sync, G: Gate>(
+        &mut self,
+        rt: &R,
+        gate: &G,
+        counters: &[Counter],
+    ) -> bool
+        requires time { self.old.epoch + self.old.number < 4294967296 }
+        requires clear { IsClear self.old }
+        requires told { AllPass is_item_counted self.old.activations.items }
+        requires ready { IsReady self.old }
+        ensures steps { Steps counters.now self.old self.new }
+        ensures can_send { CanSend self.new }
+        ensures ready { IsReady self.new }
+        ensures none { result ≡ true → joined (items_in self.new) ≡ [] }
+    {
+        if self.workers <= 1 && self.rests(counters) {
+            return self.activations.is_empty();
+        }
+        self.step_on(rt, gate, counters)
+    }
+
+    /// Whether no application has anything to do in this frame, and LC, which is woken in every frame, isn't there.
+    #[inline(always)]
+    fn rests(&self, counters: &[Counter]) -> bool
+        requires time { self.now.epoch + self.now.number < 4294967296 }
+        requires clear { IsClear self.now }
+        ensures { result ≡ true → Steps counters.now self.now self.now }
+    {
+        let reads = Reads {
+            tables: &self.tables,
+            events: &self.events,
+            lc: &self.lc,
+            window: self.ram.window(),
+            counters,
+            time: self.epoch + self.number as u32,
+        };
+        if !self.mm.rests(&reads) {
+            return false;
+        }
+        if !self.hs.rests(&reads) {
+            return false;
+        }
+        if !self.md.rests(&reads) {
+            return false;
+        }
+        if !self.sc.rests(&reads) {
+            return false;
+        }
+        if self.lc.there {
+            return false;
+        }
+        self.cs.rests(&reads)
+    }
+
+    /// Wakes the applications that are there, each as a job.
+    #[inline(always)]
+    fn step_on<R: Threads + Sync, G: Gate>(
+        &mut self,
+        rt: &R,
+        gate: &G,
+        counters: &[Counter],
+    ) -> bool
+        requires time { self.old.epoch + self.old.number < 4294967296 }
+        requires clear { IsClear self.old }
+        requires told { AllPass is_item_counted self.old.activations.items }
+        requires ready { IsReady self.old }
+        ensures steps { Steps counters.now self.old self.new }
+        ensures can_send { CanSend self.new }
+        ensures ready { IsReady self.new }
+        ensures none { result ≡ true → joined (items_in self.new) ≡ [] }
+    {
+        if self.lc.there {
+            return self.step_watched(rt, gate, counters);
+        }
+        self.wake(rt, gate, counters, false);
+        self.take_over()
+    }
+
+    /// The same where LC is there.
+    #[inline(never)]
+    fn step_watched<R: Threads + Sync, G: Gate>(
+        &mut self,
+        rt: &R,
+        gate: &G,
+        counters: &[Counter],
+    ) -> bool
+        requires there { self.old.lc.there ≡ true }
+        requires time { self.old.epoch + self.old.number < 4294967296 }
+        requires clear { IsClear self.old }
+        requires told { AllPass is_item_counted self.old.activations.items }
+        requires ready { IsReady self.old }
+        ensures steps { Steps counters.now self.old self.new }
+        ensures can_send { CanSend self.new }
+        ensures ready { IsReady self.new }
+        ensures none { result ≡ true → joined (items_in self.new) ≡ [] }
+    {
+        self.wake(rt, gate, counters, true);
+        let none = self.take_over();
+        none & self.lc.take_over(&mut self.crew)
+    }
+
+    /// Wakes the applications, each as a job of the crew: LC as the last, where it is watching.
+    #[inline(always)]
+    fn wake<R: Threads + Sync, G: Gate>(
+        &mut self,
+        rt: &R,
+        gate: &G,
+        counters: &[Counter],
+        watched: bool,
+    )
+        requires watched { self.old.bus.watched ≡ watched }
+        requires time { self.old.epoch + self.old.number < 4294967296 }
+        requires ready { IsReady self.old }
+        ensures { AreWoken counters.now self.old self.new }
+    {
+        let time = self.epoch + self.number as u32;
+        let window = self.ram.window();
+        let reads = Reads {
+            tables: &self.tables,
+            events: &self.events,
+            lc: &self.lc,
+            window,
+            counters,
+            time,
+        };
+        let scene = Scene {
+            hs: &self.hs,
+            cs: &self.cs,
+            sc: &self.sc,
+            mm: &self.mm,
+            md: &self.md,
+            reads,
+        };
+        wake_all(&mut self.crew, rt, gate, &scene, watched);
+    }
+
+    /// Takes over what the jobs left but LC's, in the order of the applications, and tells whether no item was given.
+    #[inline(always)]
+    fn take_over(&mut self) -> bool
+        requires manned { 5 ≤ length self.old.crew.results }
+        requires clear { IsClear self.old }
+        ensures over { TakesOver self.old self.new }
+        ensures lc { self.new.lc ≡ self.old.lc }
+        ensures last { (left : Left) → slice_index_or self.new.crew.results 5 left ≡ slice_index_or self.old.crew.results 5 left }
+        ensures count { length self.new.crew.results ≡ length self.old.crew.results }
+        ensures none { result ≡ true → joined (items_in self.new) ≡ [] }
+    {
+        let told = self.activations.is_empty();
+        let hs = self.hs.take_over(&mut self.crew, 0);
+        let cs = self.cs.take_over(&mut self.crew, 1);
+        let sc = self.sc.take_over(&mut self.crew, 2);
+        let left = self.crew.result_mut(3);
+        left.give_operations(&mut self.ops);
+        let mm = self.mm.take_over(&mut self.crew, 3);
+        let md = self.md.take_over(&mut self.crew, 4);
+        told & hs & cs & sc & mm & md
+    }
+}
