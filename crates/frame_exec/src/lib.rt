@@ -31,6 +31,3 @@ pub use cut::Cut;
 pub use giving::OpenFault;
 pub use loading::TablesFault;
 pub use tables::Tables;
-
-#[cfg(test)]
-mod tests;

@@ -15,6 +15,3 @@ pub use rehearsing::{vigil, vigil_with};
 pub use report::{ErrorLine, Report, Status, line_of, tell};
 pub use source::Source;
 pub use words::{Plan, Words, accept};
-
-#[cfg(test)]
-mod tests;

@@ -1,13 +1,13 @@
 //! Words, lines and a first rehearsal.
 
-use crate::{Plan, Report, Status, Words, accept, line_of, vigil};
 use fsw_outside::{MemShelf, MemSink, OpenGate};
+use rehearsal::{Plan, Report, Status, Words, accept, line_of, vigil};
 use std::alloc::Global;
 use std::process::Abort;
 use std::test::Fail;
 
 /// The words of a text, in which a `/` separates them.
-fn words_of(alloc: Global, text: &str) -> Result<Words, Fail> {
+fn words_in(alloc: Global, text: &str) -> Result<Words, Fail> {
     let mut words = Words::open(alloc)?;
     for word in text.split('/') {
         words.add(word)?;
@@ -90,7 +90,7 @@ fn assert_asked<R: AllocGlobal + Abort>(
     scenario: &str,
     files: &str,
 ) -> Result<(), Fail> {
-    let accepted = accept(rt.alloc(), &words_of(rt.alloc(), text)?)?;
+    let accepted = accept(rt.alloc(), &words_in(rt.alloc(), text)?)?;
     assert_eq!(rt; accepted.is_some(), workers > 0, "at {text}");
     if let Some(plan) = accepted {
         assert_eq!(rt; plan.workers(), workers, "at {text}");
@@ -120,7 +120,7 @@ fn the_flag_is_read(rt: HostRuntime) -> Result<(), Fail> {
 
 #[test]
 fn at_most_a_hundred_files_are_named(rt: HostRuntime) -> Result<(), Fail> {
-    let mut words = words_of(rt.alloc(), "v1.txt")?;
+    let mut words = words_in(rt.alloc(), "v1.txt")?;
     for _ in 0..100 {
         words.add("a")?;
     }
@@ -175,7 +175,7 @@ const RUNS: [(&str, u32, &str); 2] = [
 
 #[test]
 fn scenario_is_rehearsed(rt: HostRuntime) -> Result<(), Fail> {
-    let words = words_of(rt.alloc(), "v1.txt")?;
+    let words = words_in(rt.alloc(), "v1.txt")?;
     for (text, frames, log) in RUNS {
         let mut shelf = MemShelf::new(rt.alloc(), &[])?;
         shelf.put("v1.txt", text.as_bytes())?;
