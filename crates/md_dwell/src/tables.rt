@@ -3,9 +3,10 @@ ghost use Rattle.std.specs.Prelude.{◌≡◌, ◌≤◌, ◌<◌, ◌-◌, ℕ,
 ghost use Rattle.md_dwell.specs.Lists.{list_of, delays};
 ghost use Rattle.md_dwell.specs.Tables.{is_length, is_aligned};
 
+use crate::loading::{find_fault, read_entries};
 use packet_forms::be16;
 use std::marker::Model;
-use table_files::{EntryFault, load_entries};
+use table_files::EntryFault;
 
 /// How many entries a dwell table has.
 pub(crate) const ENTRIES: usize = 25;
@@ -106,8 +107,8 @@ impl Dwell {
         Dwell::of(false, [DwellEntry::BLANK; ENTRIES])
     }
 
-    /// Reads the table of a payload into this one, as `load_dwell` reads it, and copies it once. Where an entry is refused the table stays
-    /// as it was.
+    /// Reads the table of a payload into this one, as `load_dwell` reads it: each entry is stored where it stays. Where an entry is refused
+    /// the table stays as it was.
     pub fn read(&mut self, payload: &[u8]) -> Option<EntryFault>
         requires { length payload.now ≡ 204 }
         ensures table { IfNone result (self.new ≡ dwell_of payload.now) }
@@ -122,12 +123,11 @@ impl Dwell {
                 reason: 2,
             });
         }
-        let mut entries = [DwellEntry::BLANK; ENTRIES];
-        match load_entries(payload, &mut entries) {
+        match find_fault(payload) {
             Some(fault) => Some(fault),
             None => {
                 self.enabled = enabled == 1;
-                self.plan.write_all(&entries);
+                self.plan.read(payload);
                 None
             }
         }
@@ -160,6 +160,7 @@ impl Dwell {
 
 impl Plan {
     ghost use Rattle.md_dwell.specs.Lists.{list_of, delays};
+    ghost use Rattle.md_dwell.specs.Tables.{entries_in};
 
     /// The plan of these entries.
     pub(crate) fn of(entries: [DwellEntry; ENTRIES]) -> Plan
@@ -199,14 +200,14 @@ impl Plan {
         *self = Plan::of(entries);
     }
 
-    /// Writes all entries.
-    pub(crate) fn write_all(&mut self, entries: &[DwellEntry; ENTRIES])
-        ensures { self.new ≡ entries.now }
+    /// Reads the 25 entries of a payload of 204 bytes, each into its place.
+    pub(crate) fn read(&mut self, payload: &[u8])
+        requires { length payload.now ≡ 204 }
+        ensures { self.new ≡ entries_in payload.now }
     {
-        let count = list_len(entries);
-        self.entries = *entries;
-        self.count = count;
-        self.period = delays(&entries[..count]);
+        read_entries(payload, &mut self.entries);
+        self.count = list_len(&self.entries);
+        self.period = delays(&self.entries[..self.count]);
     }
 
     /// The 25 entries.
