@@ -36,10 +36,10 @@ operates loads true time commands image ops none these =
     record { are = none refl; can_land = subst (λ (os : List MemOp). CanLand loads image os) (sym (none refl)) (record { admitted = All-nil (Admitted image); backed = All-nil (IsBacked loads) }) }
 operates loads false time commands image ops none these = record { are = (these refl).0; can_land = (these refl).1 }
 
--- nothing was told where a list is empty
-empty_told : (told : Bool) (items : List Out) → told ≡ (length items == 0) → told ≡ true → items ≡ []
-empty_told told [] is holds = refl
-empty_told told (item ∷ items) is holds = absurd (grind (arith, nat_tests))
+-- a list of no length has nothing
+pub nothing_there : {A : Type 0} (items : List A) → true ≡ (length items == 0) → items ≡ []
+nothing_there [] none = refl
+nothing_there (item ∷ items) none = absurd (grind (arith, nat_tests))
 
 -- where nothing was told and none of the six gave an item, nothing was given
 pub none_given : (o a b c d e : Bool) (told hs cs sc mm md lc : List Out) → o ≡ (length told == 0) → (a ≡ true → hs ≡ []) → (b ≡ true → cs ≡ []) → (c ≡ true → sc ≡ []) → (d ≡ true → mm ≡ []) → (e ≡ true → md ≡ []) → lc ≡ []
@@ -50,7 +50,7 @@ none_given o a b c d e told hs cs sc mm md lc n p q r s t u all =
     let three = and_parts ((o && a) && b) c four.0 in
     let two = and_parts (o && a) b three.0 in
     let both = and_parts o a two.0 in
-    rw (empty_told o told n both.0, p both.1, q two.1, r three.1, s four.1, t five.1, u) refl
+    rw (nothing_there told (sym both.0 ∙ n), p both.1, q two.1, r three.1, s four.1, t five.1, u) refl
 
 -- an application that is held, whose state stays, and which gives nothing
 module _ {Input State : Type 0} (stands : List Input → State → Type 0) (gives : List Input → Input → List Out) (held : Bool) (input : Input) (old new : State) (items : List Out) where

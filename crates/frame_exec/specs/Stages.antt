@@ -25,6 +25,7 @@ use Rattle.mm_core.specs.declared.step.TheConstants.{MOST_ITEMS as mm_most}
 use Rattle.hs_monitors.specs.declared.step.TheConstants.{MOST_ITEMS as hs_most}
 use Rattle.lc_watch.specs.declared.step.TheConstants.{MOST_ITEMS as lc_most}
 use Rattle.frame_exec.specs.declared.bench.Bench.{Bench}
+use Rattle.frame_exec.specs.declared.holds.Holds.{Holds}
 use Rattle.frame_exec.specs.Tables.{TableSet}
 use Rattle.frame_exec.specs.Sending.{is_same, upset_by, sent_of, is_reset, offered}
 use Rattle.packet_log.specs.Sent.{makes}
@@ -93,6 +94,14 @@ pub record IsUpset (upsets : List Upset) (old new : Bench) : Type 0 where
   pub pipes : new.bus ≡ old.bus
   pub log : new.log ≡ old.log
   pub memory : new.ram ≡ fold upset_by old.ram upsets
+
+-- the applications of a list are held, and no others
+pub record AreHeld (held : List App) (holds : Holds) : Type 0 where
+  pub hs : holds.hs ≡ list_any (is_same names.Hs) held
+  pub cs : holds.cs ≡ list_any (is_same names.Cs) held
+  pub sc : holds.sc ≡ list_any (is_same names.Sc) held
+  pub mm : holds.mm ≡ list_any (is_same names.Mm) held
+  pub md : holds.md ≡ list_any (is_same names.Md) held
 
 -- each application took what its pipes held, unless it was held, and LC where its pipes are there; and gave nothing yet
 pub record Takes (held : List App) (old new : Bench) : Type 0 where

@@ -8,6 +8,7 @@ use crate::activations::{Naming, hand_over, naming_of, tell};
 use crate::crowds::obey_frame;
 use crate::cs_slot::CsSlot;
 use crate::cut::Cut;
+use crate::holds::Holds;
 use crate::hs_slot::HsSlot;
 use crate::lc_slot::LcSlot;
 use crate::left::Left;
@@ -15,7 +16,7 @@ use crate::md_slot::MdSlot;
 use crate::mm_slot::MmSlot;
 use crate::sc_slot::ScSlot;
 use crate::stages::{
-    deliver_all, has_reset, in_order, is_held, put_frame, stamp_all, take_unless, upset_all,
+    deliver_all, has_reset, in_order, put_frame, stamp_all, take_unless, upset_all,
 };
 use crate::tables::Tables;
 use bus_pipes::{Batch, Bus, Drops, Outbox, PipeName};
@@ -99,7 +100,7 @@ impl<'f> Bench<'f> {
     ghost use Rattle.std.specs.List.{AllPass, list_any};
     ghost use Rattle.bus_pipes.specs.Counted.{is_item_counted};
     ghost use Rattle.table_files.specs.Files.{kind_at};
-    ghost use Rattle.frame_exec.specs.Stages.{IsSameRun, GoesOn, NamesFile, Activates, IsUpset, Takes, Arrives, CanSend, Sends, RunsIn, IsSameFrame, Lands, StartsAnew, IsStamped, HasGiven, items_in, loads_in, lines_in};
+    ghost use Rattle.frame_exec.specs.Stages.{IsSameRun, GoesOn, NamesFile, Activates, IsUpset, Takes, AreHeld, Arrives, CanSend, Sends, RunsIn, IsSameFrame, Lands, StartsAnew, IsStamped, HasGiven, items_in, loads_in, lines_in};
     ghost use Rattle.frame_exec.specs.Sending.{is_reset};
     ghost use Rattle.frame_exec.specs.Wakes.{joined};
     ghost use Rattle.frame_exec.specs.declared.left.Left.{Left};
@@ -445,21 +446,28 @@ impl<'f> Bench<'f> {
         upset_all(&mut self.ram, upsets);
     }
 
-    /// Each application takes what its pipes hold, unless it is held.
+    /// Each application takes what its pipes hold, unless it is held. In most frames none is.
     fn take(&mut self, held: &[App])
         ensures { Takes held.now self.old self.new }
     {
-        let hs_held = is_held(App::Hs, held);
-        self.hs.take(&mut self.bus, PipeName::Hs, hs_held);
-        take_unless(&mut self.bus, PipeName::HsEv, hs_held, &mut self.events);
-        self.cs
-            .take(&mut self.bus, PipeName::Cs, is_held(App::Cs, held));
-        self.sc
-            .take(&mut self.bus, PipeName::Sc, is_held(App::Sc, held));
-        self.mm
-            .take(&mut self.bus, PipeName::Mm, is_held(App::Mm, held));
-        self.md
-            .take(&mut self.bus, PipeName::Md, is_held(App::Md, held));
+        if held.is_empty() {
+            self.take_all_but(Holds::none());
+            return;
+        }
+        self.take_all_but(Holds::of(held));
+    }
+
+    /// Each application but those that are held takes what its pipes hold.
+    #[inline(always)]
+    fn take_all_but(&mut self, holds: Holds)
+        ensures { (held : List App) → AreHeld held holds → Takes held self.old self.new }
+    {
+        self.hs.take(&mut self.bus, PipeName::Hs, holds.hs);
+        take_unless(&mut self.bus, PipeName::HsEv, holds.hs, &mut self.events);
+        self.cs.take(&mut self.bus, PipeName::Cs, holds.cs);
+        self.sc.take(&mut self.bus, PipeName::Sc, holds.sc);
+        self.mm.take(&mut self.bus, PipeName::Mm, holds.mm);
+        self.md.take(&mut self.bus, PipeName::Md, holds.md);
         self.lc.take(&mut self.bus);
         self.ops.clear();
     }

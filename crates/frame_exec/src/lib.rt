@@ -8,6 +8,7 @@ mod crowds;
 mod cs_slot;
 mod cut;
 mod giving;
+mod holds;
 mod hs_slot;
 mod jobs;
 pub mod laws;

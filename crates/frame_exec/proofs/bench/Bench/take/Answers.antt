@@ -1,39 +1,13 @@
-use Rattle.std.proofs.Common.{refl, ◌∙◌, ap}
-use Rattle.std.specs.Prelude.{Bool, not}
-use Rattle.bus_pipes.specs.Pipes.{Pipes}
-use Rattle.frame_exec.proofs.Waking.{left_is, taken_by}
+use Rattle.std.proofs.Common.{List, sym, subst, ◌∙◌}
+use Rattle.scenario.specs.declared.frame.App.{App}
+use Rattle.frame_exec.specs.Stages.{Takes}
+use Rattle.frame_exec.proofs.Taking.{nothing_there}
 use Rattle.frame_exec.proofs.bench.Bench.take.Goals as goal
 
+-- none is held
+pub returns-then-is_empty : goal.returns-then-is_empty
+returns-then-is_empty c =
+    subst (λ (held : List App). Takes held c.args.self.now c.take_all_but.new.self) (sym (nothing_there _ (sym c.if-is_empty.true ∙ c.is_empty.ensures))) (c.take_all_but.ensures _ c.none.ensures)
+
 pub returns : goal.returns
-returns c =
-    let events = ap (λ (p : Pipes). p.hs_ev) c.take.ensures.pipes in
-    let cs = ap (λ (p : Pipes). p.cs) c.take_unless.ensures.pipes ∙ ap (λ (p : Pipes). p.cs) c.take.ensures.pipes in
-    let sc = ap (λ (p : Pipes). p.sc) c.take-2.ensures.pipes ∙ ap (λ (p : Pipes). p.sc) c.take_unless.ensures.pipes ∙ ap (λ (p : Pipes). p.sc) c.take.ensures.pipes in
-    let mm = ap (λ (p : Pipes). p.mm) c.take-3.ensures.pipes ∙ ap (λ (p : Pipes). p.mm) c.take-2.ensures.pipes ∙ ap (λ (p : Pipes). p.mm) c.take_unless.ensures.pipes ∙ ap (λ (p : Pipes). p.mm) c.take.ensures.pipes in
-    let md = ap (λ (p : Pipes). p.md) c.take-4.ensures.pipes ∙ ap (λ (p : Pipes). p.md) c.take-3.ensures.pipes ∙ ap (λ (p : Pipes). p.md) c.take-2.ensures.pipes ∙ ap (λ (p : Pipes). p.md) c.take_unless.ensures.pipes
-    ∙ ap (λ (p : Pipes). p.md) c.take.ensures.pipes in
-    let lc = ap (λ (p : Pipes). p.lc) c.take-5.ensures.pipes ∙ ap (λ (p : Pipes). p.lc) c.take-4.ensures.pipes ∙ ap (λ (p : Pipes). p.lc) c.take-3.ensures.pipes ∙ ap (λ (p : Pipes). p.lc) c.take-2.ensures.pipes
-    ∙ ap (λ (p : Pipes). p.lc) c.take_unless.ensures.pipes ∙ ap (λ (p : Pipes). p.lc) c.take.ensures.pipes in
-    let telemetry = ap (λ (p : Pipes). p.lc_tlm) c.take-5.ensures.pipes ∙ ap (λ (p : Pipes). p.lc_tlm) c.take-4.ensures.pipes ∙ ap (λ (p : Pipes). p.lc_tlm) c.take-3.ensures.pipes ∙ ap (λ (p : Pipes). p.lc_tlm) c.take-2.ensures.pipes
-    ∙ ap (λ (p : Pipes). p.lc_tlm) c.take_unless.ensures.pipes ∙ ap (λ (p : Pipes). p.lc_tlm) c.take.ensures.pipes in
-    let watched = ap (λ (p : Pipes). p.watched) c.take-5.ensures.pipes ∙ ap (λ (p : Pipes). p.watched) c.take-4.ensures.pipes ∙ ap (λ (p : Pipes). p.watched) c.take-3.ensures.pipes ∙ ap (λ (p : Pipes). p.watched) c.take-2.ensures.pipes
-    ∙ ap (λ (p : Pipes). p.watched) c.take_unless.ensures.pipes ∙ ap (λ (p : Pipes). p.watched) c.take.ensures.pipes in
-    record {
-      run = record { waits = refl; epoch = refl; number = refl; failed = refl; tables = refl };
-      told = refl;
-      apps = record { hs = c.take.ensures.state; cs = c.take-2.ensures.state; sc = c.take-3.ensures.state; mm = c.take-4.ensures.state; md = c.take-5.ensures.state; lc = c.take-6.ensures.state };
-      hs = taken_by _ _ _ _ _ _ _ c.is_held-hs_held.ensures refl c.take.ensures.takes;
-      events = λ free. c.take_unless.ensures.taken (c.is_held-hs_held.ensures ∙ free) ∙ events;
-      cs = taken_by _ _ _ _ _ _ _ c.is_held.ensures cs c.take-2.ensures.takes;
-      sc = taken_by _ _ _ _ _ _ _ c.is_held-2.ensures sc c.take-3.ensures.takes;
-      mm = taken_by _ _ _ _ _ _ _ c.is_held-3.ensures mm c.take-4.ensures.takes;
-      md = taken_by _ _ _ _ _ _ _ c.is_held-4.ensures md c.take-5.ensures.takes;
-      lc = taken_by _ _ _ _ _ _ _ (ap (λ (w : Bool). not w) watched) lc c.take-6.ensures.takes;
-      telemetry = λ there. c.take-6.ensures.telemetry (ap (λ (w : Bool). not w) watched ∙ there) ∙ telemetry;
-      operations = c.clear.ensures;
-      pipes = left_is c.args.held.now c.args.self.now.bus c.take.new.bus c.take_unless.new.bus c.take-2.new.bus c.take-3.new.bus c.take-4.new.bus c.take-5.new.bus c.take-6.new.bus c.is_held-hs_held.result c.is_held.result c.is_held-2.result
-          c.is_held-3.result c.is_held-4.result c.is_held-hs_held.ensures c.is_held.ensures c.is_held-2.ensures c.is_held-3.ensures c.is_held-4.ensures c.take.ensures.pipes c.take_unless.ensures.pipes c.take-2.ensures.pipes
-          c.take-3.ensures.pipes c.take-4.ensures.pipes c.take-5.ensures.pipes c.take-6.ensures.pipes;
-      log = refl;
-      memory = refl;
-    }
+returns c = c.take_all_but-2.ensures c.args.held.now c.of.ensures
