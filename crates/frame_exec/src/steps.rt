@@ -11,7 +11,7 @@ use packet_forms::Counter;
 use std::thread::Threads;
 
 impl<'f> Bench<'f> {
-    ghost use Rattle.std.specs.Prelude.{◌+◌, ◌<◌, ◌≤◌, [], length, slice_index_or, true};
+    ghost use Rattle.std.specs.Prelude.{◌+◌, ◌<◌, ◌≤◌, [], length, slice_index_or, true, false};
     ghost use Rattle.std.specs.List.{AllPass};
     ghost use Rattle.bus_pipes.specs.Counted.{is_item_counted};
     ghost use Rattle.frame_exec.specs.Standing.{IsReady};
@@ -37,15 +37,20 @@ impl<'f> Bench<'f> {
         ensures ready { IsReady self.new }
         ensures none { result ≡ true → joined (items_in self.new) ≡ [] }
     {
+        if self.lc.there {
+            return self.step_watched(rt, gate, counters);
+        }
         if self.workers <= 1 && self.rests(counters) {
             return self.activations.is_empty();
         }
-        self.step_on(rt, gate, counters)
+        self.wake(rt, gate, counters, false);
+        self.take_over()
     }
 
-    /// Whether no application has anything to do in this frame, and LC, which is woken in every frame, isn't there.
+    /// Whether no application has anything to do in this frame. LC, which is woken in every frame, isn't there.
     #[inline(always)]
     fn rests(&self, counters: &[Counter]) -> bool
+        requires away { self.now.lc.there ≡ false }
         requires time { self.now.epoch + self.now.number < 4294967296 }
         requires clear { IsClear self.now }
         ensures { result ≡ true → Steps counters.now self.now self.now }
@@ -70,34 +75,7 @@ impl<'f> Bench<'f> {
         if !self.sc.rests(&reads) {
             return false;
         }
-        if self.lc.there {
-            return false;
-        }
         self.cs.rests(&reads)
-    }
-
-    /// Wakes the applications that are there, each as a job.
-    #[inline(always)]
-    fn step_on<R: Threads + Sync, G: Gate>(
-        &mut self,
-        rt: &R,
-        gate: &G,
-        counters: &[Counter],
-    ) -> bool
-        requires time { self.old.epoch + self.old.number < 4294967296 }
-        requires clear { IsClear self.old }
-        requires told { AllPass is_item_counted self.old.activations.items }
-        requires ready { IsReady self.old }
-        ensures steps { Steps counters.now self.old self.new }
-        ensures can_send { CanSend self.new }
-        ensures ready { IsReady self.new }
-        ensures none { result ≡ true → joined (items_in self.new) ≡ [] }
-    {
-        if self.lc.there {
-            return self.step_watched(rt, gate, counters);
-        }
-        self.wake(rt, gate, counters, false);
-        self.take_over()
     }
 
     /// The same where LC is there.

@@ -30,7 +30,7 @@ returns c = λ all.
           (c.rests.ensures.woken tables c.if-not-rests.false tt);
       md = λ tables. of_both (λ (m : Memory) (items : List Out). IsWoken (md_stands tables) (md_gives tables) b.md.held (md_reads time b.md.commands m) b.md.state.value b.md.state.value items) image b.ram [] b.md.out.items is (sym clear.md)
           (c.rests-3.ensures.woken tables c.if-not-rests-3.false tt);
-      lc = away_woken _ _ _ _ _ _ _ (b.lc.away c.if-self.false).0 refl clear.lc;
+      lc = away_woken _ _ _ _ _ _ _ (b.lc.away c.requires.away).0 refl clear.lc;
       operations = left_unless b.mm.held b.ops.value (mm_operations (mm_reads (loads_in b) time b.mm.commands b.ram)) (λ held. clear.operations)
           (λ here. clear.operations ∙ (c.rests.ensures.fills [] c.if-not-rests.false here refl).0 ∙ ap (λ (m : Memory). mm_operations (mm_reads (loads_in b) time b.mm.commands m)) is);
       pipes = refl;
