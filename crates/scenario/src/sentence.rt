@@ -1,5 +1,5 @@
 //! What a line says by itself, where it stands.
-ghost use Rattle.std.specs.Prelude.{◌≡◌, ◌≤◌, ◌∷◌, ℕ, List, [], length, take, IfOk, IfSome, Some, None, Ok, true};
+ghost use Rattle.std.specs.Prelude.{◌≡◌, ◌≤◌, ◌<◌, ◌∷◌, ℕ, List, [], length, take, IfOk, IfSome, Some, None, Ok, true};
 ghost use Rattle.scenario.specs.Words.{words};
 ghost use Rattle.scenario.specs.Sentences.{Gives, IsPlaced, IsOfVerb, as_said, verb_of, Begins, stands_at, none, one, two, three, number_or_bad, epoch_line, region_line, hex_said, send_line, app_line, upset_line, hold_line, activate_line, bare_line, sentence_of, line_says, packet_of, packet_said, verb_at};
 
@@ -54,8 +54,11 @@ pub(crate) enum Sentence {
     End,
 }
 
+/// The verb of a word of more than five letters, as few lines have.
+#[cold]
 #[tactic(auto, unfolding(crate::specs::Sentences::verb_of))]
-fn known_verb(word: &[u8]) -> Option<Verb>
+fn long_verb(word: &[u8]) -> Option<Verb>
+    requires { 5 < length word.now }
     ensures { result ≡ verb_of word.now }
 {
     if word == b"region".as_slice() {
@@ -63,6 +66,16 @@ fn known_verb(word: &[u8]) -> Option<Verb>
     }
     if word == b"activate".as_slice() {
         return Some(Verb::Activate);
+    }
+    None
+}
+
+#[tactic(auto, unfolding(crate::specs::Sentences::verb_of))]
+fn known_verb(word: &[u8]) -> Option<Verb>
+    ensures { result ≡ verb_of word.now }
+{
+    if word.len() > 5 {
+        return long_verb(word);
     }
     match word {
         b"epoch" => Some(Verb::Epoch),
