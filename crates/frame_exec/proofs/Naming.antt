@@ -1,6 +1,5 @@
 -- A bench whose frame named files, so that their tables are active now.
-use Rattle.std.proofs.Common.{◌≡◌, ◌≢◌, ◌==◌, ℕ, ◌+◌, Bool, true, false, if◌then◌else◌, List, [], ◌∷◌, ◌++◌, length, Option, Some, None, Box, Global, refl, sym, ◌∙◌, ap, subst, append_assoc, arith}
-use Rattle.std.proofs.lemmas.Bool.Decides.{nat_tests}
+use Rattle.std.proofs.Common.{◌≡◌, ◌≢◌, ℕ, ◌+◌, Bool, true, false, if◌then◌else◌, List, [], ◌∷◌, ◌++◌, length, Option, Some, None, Box, Global, refl, sym, ◌∙◌, ap, subst, append_assoc, arith}
 use Rattle.std.specs.Prelude.{fold, map}
 use Rattle.std.proofs.lemmas.List.{map-append}
 use Rattle.std.proofs.lemmas.List.Sums.{fold-append}
@@ -27,7 +26,8 @@ use Rattle.md_dwell.specs.Given.{TablesGiven}
 use Rattle.hs_monitors.specs.State.{Stands as HsStands}
 use Rattle.lc_watch.specs.Histories.{Setup as LcSetup}
 use Rattle.lc_watch.specs.declared.state.Lc.{Lc}
-use Rattle.frame_exec.specs.declared.bench.TheConstants.{DROPS, ACTIVATIONS}
+use Rattle.frame_exec.specs.declared.bench.TheConstants.{DROPS}
+use Rattle.frame_exec.specs.declared.slot.TheConstants.{LIST_ROOM}
 use Rattle.frame_exec.specs.declared.bench.Bench.{Bench}
 use Rattle.frame_exec.specs.declared.activations.Naming.{Naming}
 use Rattle.frame_exec.specs.declared.activations.Naming.TheVariants.{Accepted, Refused, Running}
@@ -176,7 +176,7 @@ named_active old new n kind is known can rests tables takes keeps goes told = re
 }
 
 -- what was told of activations is no part of what a run has come to
-pub has_told : (b : Bench) (events : Held Out) (drops : b.drops.room ≡ DROPS) (jobs : b.crew.jobs ≡ jobs_of b.bus.watched) (there : b.lc.there ≡ b.bus.watched) (room : events.room ≡ ACTIVATIONS) (s : State) → Has b s → Has (record b { activations = events; drops_room = drops; manned = jobs; there = there; activations_room = room }) s
+pub has_told : (b : Bench) (events : Held Out) (drops : b.drops.room ≡ DROPS) (jobs : b.crew.jobs ≡ jobs_of b.bus.watched) (there : b.lc.there ≡ b.bus.watched) (room : events.room ≡ LIST_ROOM) (s : State) → Has b s → Has (record b { activations = events; drops_room = drops; manned = jobs; there = there; activations_room = room }) s
 has_told b events drops jobs there room s has = record {
   number = has.number;
   tables = has.tables;
@@ -186,7 +186,7 @@ has_told b events drops jobs there room s has = record {
   memory = has.memory;
 }
 
-pub ready_told : (b : Bench) (events : Held Out) (drops : b.drops.room ≡ DROPS) (jobs : b.crew.jobs ≡ jobs_of b.bus.watched) (there : b.lc.there ≡ b.bus.watched) (room : events.room ≡ ACTIVATIONS) → IsReady b → IsReady (record b { activations = events; drops_room = drops; manned = jobs; there = there; activations_room = room })
+pub ready_told : (b : Bench) (events : Held Out) (drops : b.drops.room ≡ DROPS) (jobs : b.crew.jobs ≡ jobs_of b.bus.watched) (there : b.lc.there ≡ b.bus.watched) (room : events.room ≡ LIST_ROOM) → IsReady b → IsReady (record b { activations = events; drops_room = drops; manned = jobs; there = there; activations_room = room })
 ready_told b events drops jobs there room ready = record { sc = ready.sc; md = ready.md; given = ready.given }
 
 -- which sequences run is the same behind lines that name files, and so is what becomes of further ones
@@ -207,7 +207,7 @@ events_stay setup s numbers (n ∷ more) =
     ∙ ap (λ (items : List Out). table_event (time_at setup s) (naming_at s (kind_at setup.files n)) ∷ items) (events_stay setup s numbers more)
 
 -- no file more is named
-pub activates_none : (b : Bench) (events : Held Out) (drops : b.drops.room ≡ DROPS) (jobs : b.crew.jobs ≡ jobs_of b.bus.watched) (there : b.lc.there ≡ b.bus.watched) (room : events.room ≡ ACTIVATIONS) → events.items ≡ [] → Activates [] [] b (record b { activations = events; drops_room = drops; manned = jobs; there = there; activations_room = room })
+pub activates_none : (b : Bench) (events : Held Out) (drops : b.drops.room ≡ DROPS) (jobs : b.crew.jobs ≡ jobs_of b.bus.watched) (there : b.lc.there ≡ b.bus.watched) (room : events.room ≡ LIST_ROOM) → events.items ≡ [] → Activates [] [] b (record b { activations = events; drops_room = drops; manned = jobs; there = there; activations_room = room })
 unfolding table_events
 activates_none b events drops jobs there room none = record {
   goes = record { waits = refl; epoch = refl; number = refl; failed = refl; files = refl };
@@ -257,7 +257,7 @@ activates_more old middle new numbers more told between same first second =
     }
 
 -- what was told of one file
-pub activates_one : (old middle : Bench) (n : ℕ) (naming : Naming) (time : ℕ) (events : Held Out) (drops : middle.drops.room ≡ DROPS) (jobs : middle.crew.jobs ≡ jobs_of middle.bus.watched) (there : middle.lc.there ≡ middle.bus.watched) (room : events.room ≡ ACTIVATIONS)
+pub activates_one : (old middle : Bench) (n : ℕ) (naming : Naming) (time : ℕ) (events : Held Out) (drops : middle.drops.room ≡ DROPS) (jobs : middle.crew.jobs ≡ jobs_of middle.bus.watched) (there : middle.lc.there ≡ middle.bus.watched) (room : events.room ≡ LIST_ROOM)
     → ((setup : Setup) (s : State) → old.tables.files ≡ setup.files → Has old s → naming ≡ naming_at s (kind_at setup.files n)) → time ≡ time_of old → NamesFile n old middle
     → events.items ≡ middle.activations.items ++ table_event time naming ∷ [] → Activates (n ∷ []) old.activations.items old (record middle { activations = events; drops_room = drops; manned = jobs; there = there; activations_room = room })
 unfolding table_events
@@ -283,9 +283,3 @@ activated_has b setup s frame numbers is has = subst (λ (ns : List ℕ). Has b 
 pub events_at : (setup : Setup) (s : State) (frame : Frame) (items : List Out) (numbers : List ℕ) → numbers ≡ frame.activations → items ≡ table_events setup s numbers → items ≡ table_events setup (activated_at setup s frame) frame.activations
 unfolding activated_at
 events_at setup s frame items numbers is told = told ∙ ap (table_events setup s) is ∙ sym (events_stay setup s frame.activations frame.activations)
-
--- no file is named
-pub activates_nothing : (b : Bench) (numbers : List ℕ) (events : Held Out) (drops : b.drops.room ≡ DROPS) (jobs : b.crew.jobs ≡ jobs_of b.bus.watched) (there : b.lc.there ≡ b.bus.watched) (room : events.room ≡ ACTIVATIONS) → true ≡ (length numbers == 0) → events.items ≡ []
-    → Activates numbers [] b (record b { activations = events; drops_room = drops; manned = jobs; there = there; activations_room = room })
-activates_nothing b [] events drops jobs there room none empty = activates_none b events drops jobs there room empty
-activates_nothing b (n ∷ numbers) events drops jobs there room none empty = absurd (grind (arith, nat_tests))

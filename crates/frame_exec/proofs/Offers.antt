@@ -85,34 +85,32 @@ pub offers_nothing : (packets : List (List ℕ)) (items : List Out) → true ≡
 offers_nothing [] items none empty = ap (flat_map packet_in) empty
 offers_nothing (p ∷ packets) items none empty = absurd (grind (arith, nat_tests))
 
--- whether an item of seven lists asks for a processor reset
-pub reset_in_seven : (a b c d e f g : List Out)
-    → ((((((list_any is_reset a || list_any is_reset b) || list_any is_reset c) || list_any is_reset d) || list_any is_reset e) || list_any is_reset f) || list_any is_reset g) ≡ list_any is_reset (a ++ (b ++ (c ++ (d ++ (e ++ (f ++ (g ++ [])))))))
-reset_in_seven a b c d e f g =
+-- whether an item of six lists asks for a processor reset
+pub reset_in_six : (a b c d e f : List Out)
+    → (((((list_any is_reset a || list_any is_reset b) || list_any is_reset c) || list_any is_reset d) || list_any is_reset e) || list_any is_reset f) ≡ list_any is_reset (a ++ (b ++ (c ++ (d ++ (e ++ (f ++ []))))))
+reset_in_six a b c d e f =
     let A = list_any is_reset a in
     let B = list_any is_reset b in
     let C = list_any is_reset c in
     let D = list_any is_reset d in
     let E = list_any is_reset e in
     let F = list_any is_reset f in
-    let G = list_any is_reset g in
-    either ((((A || B) || C) || D) || E) F G ∙ either (((A || B) || C) || D) E (F || G) ∙ either ((A || B) || C) D (E || (F || G)) ∙ either (A || B) C (D || (E || (F || G))) ∙ either A B (C || (D || (E || (F || G))))
-    ∙ sym (list_any-append is_reset a (b ++ (c ++ (d ++ (e ++ (f ++ (g ++ [])))))) ∙ ap (λ (r : Bool). A || r)
-    (list_any-append is_reset b (c ++ (d ++ (e ++ (f ++ (g ++ []))))) ∙ ap (λ (r : Bool). B || r)
-    (list_any-append is_reset c (d ++ (e ++ (f ++ (g ++ [])))) ∙ ap (λ (r : Bool). C || r)
-    (list_any-append is_reset d (e ++ (f ++ (g ++ []))) ∙ ap (λ (r : Bool). D || r)
-    (list_any-append is_reset e (f ++ (g ++ [])) ∙ ap (λ (r : Bool). E || r)
-    (list_any-append is_reset f (g ++ []) ∙ ap (λ (r : Bool). F || r) (ap (list_any is_reset) (append-nil g))))))))
+    either (((A || B) || C) || D) E F ∙ either ((A || B) || C) D (E || F) ∙ either (A || B) C (D || (E || F)) ∙ either A B (C || (D || (E || F)))
+    ∙ sym (list_any-append is_reset a (b ++ (c ++ (d ++ (e ++ (f ++ []))))) ∙ ap (λ (r : Bool). A || r)
+    (list_any-append is_reset b (c ++ (d ++ (e ++ (f ++ [])))) ∙ ap (λ (r : Bool). B || r)
+    (list_any-append is_reset c (d ++ (e ++ (f ++ []))) ∙ ap (λ (r : Bool). C || r)
+    (list_any-append is_reset d (e ++ (f ++ [])) ∙ ap (λ (r : Bool). D || r)
+    (list_any-append is_reset e (f ++ []) ∙ ap (λ (r : Bool). E || r) (ap (list_any is_reset) (append-nil f)))))))
   where
     either : (x y z : Bool) → ((x || y) || z) ≡ (x || (y || z))
     either true y z = refl
     either false y z = refl
 
--- seven lists, one after another, that are each as long as another
-pub seven_as_long : (a b c d e f g t u v w x y z : List Out) → length t ≡ length a → length u ≡ length b → length v ≡ length c → length w ≡ length d → length x ≡ length e → length y ≡ length f → length z ≡ length g
-    → length (t ++ (u ++ (v ++ (w ++ (x ++ (y ++ (z ++ []))))))) ≡ length (a ++ (b ++ (c ++ (d ++ (e ++ (f ++ (g ++ [])))))))
-seven_as_long a b c d e f g t u v w x y z one two three four five six seven =
-    as_long t a _ _ one (as_long u b _ _ two (as_long v c _ _ three (as_long w d _ _ four (as_long x e _ _ five (as_long y f _ _ six (as_long z g [] [] seven refl))))))
+-- six lists, one after another, that are each as long as another
+pub six_as_long : (a b c d e f u v w x y z : List Out) → length u ≡ length a → length v ≡ length b → length w ≡ length c → length x ≡ length d → length y ≡ length e → length z ≡ length f
+    → length (u ++ (v ++ (w ++ (x ++ (y ++ (z ++ [])))))) ≡ length (a ++ (b ++ (c ++ (d ++ (e ++ (f ++ []))))))
+six_as_long a b c d e f u v w x y z one two three four five six =
+    as_long u a _ _ one (as_long v b _ _ two (as_long w c _ _ three (as_long x d _ _ four (as_long y e _ _ five (as_long z f [] [] six refl)))))
   where
     as_long : (xs ys more others : List Out) → length xs ≡ length ys → length more ≡ length others → length (xs ++ more) ≡ length (ys ++ others)
     as_long xs ys more others one rest = length-append xs more ∙ ap (λ (n : ℕ). n + length more) one ∙ ap (λ (n : ℕ). length ys + n) rest ∙ sym (length-append ys others)

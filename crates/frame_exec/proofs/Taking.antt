@@ -41,16 +41,15 @@ pub nothing_there : {A : Type 0} (items : List A) → true ≡ (length items == 
 nothing_there [] none = refl
 nothing_there (item ∷ items) none = absurd (grind (arith, nat_tests))
 
--- where nothing was told and none of the six gave an item, nothing was given
-pub none_given : (o a b c d e : Bool) (told hs cs sc mm md lc : List Out) → o ≡ (length told == 0) → (a ≡ true → hs ≡ []) → (b ≡ true → cs ≡ []) → (c ≡ true → sc ≡ []) → (d ≡ true → mm ≡ []) → (e ≡ true → md ≡ []) → lc ≡ []
-    → (((((o && a) && b) && c) && d) && e) ≡ true → joined (told ∷ hs ∷ cs ∷ sc ∷ mm ∷ md ∷ lc ∷ []) ≡ []
-none_given o a b c d e told hs cs sc mm md lc n p q r s t u all =
-    let five = and_parts ((((o && a) && b) && c) && d) e all in
-    let four = and_parts (((o && a) && b) && c) d five.0 in
-    let three = and_parts ((o && a) && b) c four.0 in
-    let two = and_parts (o && a) b three.0 in
-    let both = and_parts o a two.0 in
-    rw (nothing_there told (sym both.0 ∙ n), p both.1, q two.1, r three.1, s four.1, t five.1, u) refl
+-- where none of the six gave an item, nothing was given
+pub none_given : (a b c d e : Bool) (hs cs sc mm md lc : List Out) → (a ≡ true → hs ≡ []) → (b ≡ true → cs ≡ []) → (c ≡ true → sc ≡ []) → (d ≡ true → mm ≡ []) → (e ≡ true → md ≡ []) → lc ≡ []
+    → ((((a && b) && c) && d) && e) ≡ true → joined (hs ∷ cs ∷ sc ∷ mm ∷ md ∷ lc ∷ []) ≡ []
+none_given a b c d e hs cs sc mm md lc p q r s t u all =
+    let four = and_parts (((a && b) && c) && d) e all in
+    let three = and_parts ((a && b) && c) d four.0 in
+    let two = and_parts (a && b) c three.0 in
+    let both = and_parts a b two.0 in
+    rw (p both.0, q both.1, r two.1, s three.1, t four.1, u) refl
 
 -- an application that is held, whose state stays, and which gives nothing
 module _ {Input State : Type 0} (stands : List Input → State → Type 0) (gives : List Input → Input → List Out) (held : Bool) (input : Input) (old new : State) (items : List Out) where

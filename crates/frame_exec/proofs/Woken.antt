@@ -1,5 +1,5 @@
 -- The applications behind a frame's wakeups: what the jobs left, and what of it the bench took over.
-use Rattle.std.proofs.Common.{◌≡◌, List, ◌∙◌, ap, subst, sym}
+use Rattle.std.proofs.Common.{◌≡◌, ◌≤◌, List, length, ◌∙◌, ap, subst, sym}
 use Rattle.packet_forms.specs.declared.name.Counter.{Counter}
 use Rattle.table_files.specs.Files.{loads_of}
 use Rattle.memory_window.specs.Memory.{Memory, regions_of}
@@ -8,12 +8,10 @@ use Rattle.sc_sequences.specs.State.{IsReady as ScIsReady}
 use Rattle.sc_sequences.specs.declared.state.Sc.{Sc}
 use Rattle.md_dwell.specs.State.{AllGiven}
 use Rattle.md_dwell.specs.declared.state.Md.{Md}
+use Rattle.hs_monitors.specs.declared.step.TheConstants.{MOST_ITEMS as hs_most}
 use Rattle.lc_watch.specs.declared.step.TheConstants.{MOST_ITEMS as lc_most}
-use Rattle.std.specs.List.{AllPass}
-use Rattle.bus_pipes.specs.Held.{Held}
-use Rattle.bus_pipes.specs.Counted.{is_item_counted}
-use Rattle.bus_pipes.specs.declared.names.Out.{Out}
-use Rattle.frame_exec.specs.declared.bench.TheConstants.{DROPS, ACTIVATIONS}
+use Rattle.frame_exec.specs.declared.bench.TheConstants.{DROPS}
+use Rattle.frame_exec.specs.declared.slot.TheConstants.{LIST_ROOM}
 use Rattle.frame_exec.specs.declared.bench.Bench.{Bench}
 use Rattle.crew_board.specs.Seen.{Seen as Crew}
 use Rattle.frame_exec.specs.declared.left.Left.{Left}
@@ -28,7 +26,7 @@ use Rattle.frame_exec.specs.Stages.{AreWoken, CanSend, Steps, TakesOver, loads_i
 use Rattle.frame_exec.proofs.Taking.{state_is, taken_woken, taken_sendable}
 
 -- what the jobs left but LC's was taken over, and then LC's: the rest stays as it was
-pub over_beside : (old new : Bench) (lc : LcSlot) (crew : Crew Left) (room : new.drops.room ≡ DROPS) (manned : crew.jobs ≡ jobs_of new.bus.watched) (there : lc.there ≡ new.bus.watched) (told : new.activations.room ≡ ACTIVATIONS)
+pub over_beside : (old new : Bench) (lc : LcSlot) (crew : Crew Left) (room : new.drops.room ≡ DROPS) (manned : crew.jobs ≡ jobs_of new.bus.watched) (there : lc.there ≡ new.bus.watched) (told : new.activations.room ≡ LIST_ROOM)
     → TakesOver old new → TakesOver old (record new { lc = lc; crew = crew; drops_room = room; manned = manned; there = there; activations_room = told })
 over_beside old new lc crew room manned there told taken = record {
   run = record { waits = taken.run.waits; epoch = taken.run.epoch; number = taken.run.number; failed = taken.run.failed; tables = taken.run.tables };
@@ -70,13 +68,18 @@ module _ (counters : List Counter) (old middle new : Bench) (woken : AreWoken co
         memory = same_memory;
       }
 
-  pub all_can_send : AllPass is_item_counted old.activations.items → AreSendable lc_most new.lc.slot.out.items → CanSend new
-  all_can_send told lc =
+  sendable_hs : AreSendable hs_most new.hs.out.items
+  sendable_hs = taken_sendable _ _ _ _ _ _ _ _ _ _ _ _ _ (woken.hs taken.hs.0 taken.hs.1) (ap (λ slot. slot.state.value) woken.slots.hs) taken.hs.2.0 taken.hs.2.1
+
+  pub all_few : length new.hs.out.items ≤ hs_most
+  all_few = sendable_hs.few
+
+  pub all_can_send : AreSendable lc_most new.lc.slot.out.items → CanSend new
+  all_can_send lc =
       let slots = woken.slots in
       let land = (woken.mm taken.mm.0 taken.mm.1).1.can_land in
       record {
-        told = subst (λ (held : Held Out). AllPass is_item_counted held.items) (sym (taken.told ∙ woken.told)) told;
-        hs = taken_sendable _ _ _ _ _ _ _ _ _ _ _ _ _ (woken.hs taken.hs.0 taken.hs.1) (ap (λ slot. slot.state.value) slots.hs) taken.hs.2.0 taken.hs.2.1;
+        hs = sendable_hs.counted;
         cs = taken_sendable _ _ _ _ _ _ _ _ _ _ _ _ _ (woken.cs taken.cs.0 taken.cs.1) (ap (λ slot. slot.state.value) slots.cs) taken.cs.2.0 taken.cs.2.1;
         sc = taken_sendable _ _ _ _ _ _ _ _ _ _ _ _ _ (woken.sc taken.sc.0 taken.sc.1).0 (ap (λ slot. slot.state.value) slots.sc) taken.sc.2.0 taken.sc.2.1;
         mm = taken_sendable _ _ _ _ _ _ _ _ _ _ _ _ _ (woken.mm taken.mm.0 taken.mm.1).0 (ap (λ slot. slot.state.value) slots.mm) taken.mm.2.0 taken.mm.2.1;

@@ -82,9 +82,9 @@ pub record KeepsApps (old new : Bench) : Type 0 where
   pub md : new.md.state ≡ old.md.state
   pub lc : new.lc.slot.state ≡ old.lc.slot.state
 
--- what was told of activations, and what the applications gave, a list each, in their order
+-- what the applications gave, a list each, in their order: before HS's items stands what was told of activations
 abbrev pub items_in : Bench → List (List Out)
-items_in b = b.activations.items ∷ b.hs.out.items ∷ b.cs.out.items ∷ b.sc.out.items ∷ b.mm.out.items ∷ b.md.out.items ∷ b.lc.slot.out.items ∷ []
+items_in b = b.hs.out.items ∷ b.cs.out.items ∷ b.sc.out.items ∷ b.mm.out.items ∷ b.md.out.items ∷ b.lc.slot.out.items ∷ []
 
 -- the upsets of a frame were written
 pub record IsUpset (upsets : List Upset) (old new : Bench) : Type 0 where
@@ -121,12 +121,10 @@ pub record Takes (held : List App) (old new : Bench) : Type 0 where
   pub log : new.log ≡ old.log
   pub memory : new.ram ≡ old.ram
 
--- the tables of a frame became active, its upsets were written, and the applications took what their pipes held
+-- the upsets of a frame were written, and the applications took what their pipes held
 pub record Arrives (frame : Frame) (old new : Bench) : Type 0 where
-  pub active : Bench
   pub upset : Bench
-  pub activates : Activates frame.activations [] old active
-  pub writes : IsUpset frame.upsets active upset
+  pub writes : IsUpset frame.upsets old upset
   pub takes : Takes frame.held upset new
 
 -- no application gave anything yet
@@ -208,10 +206,19 @@ pub record TakesOver (old new : Bench) : Type 0 where
   pub log : new.log ≡ old.log
   pub memory : new.ram ≡ old.ram
 
--- What the wakeups leave can be sent, and landed on the frame's image.
+-- these items were told before what HS gave
+pub record TellsFirst (told : List Out) (old new : Bench) : Type 0 where
+  pub run : IsSameRun old new
+  pub apps : KeepsApps old new
+  pub items : joined (items_in new) ≡ told ++ joined (items_in old)
+  pub operations : new.ops.value ≡ old.ops.value
+  pub pipes : new.bus ≡ old.bus
+  pub log : new.log ≡ old.log
+  pub memory : new.ram ≡ old.ram
+
+-- What the wakeups leave can be sent, and landed on the frame's image. HS's list may hold more items than HS gives.
 pub record CanSend (b : Bench) : Type 0 where
-  pub told : AllPass is_item_counted b.activations.items
-  pub hs : AreSendable hs_most b.hs.out.items
+  pub hs : AllPass is_item_counted b.hs.out.items
   pub cs : AreSendable cs_most b.cs.out.items
   pub sc : AreSendable sc_most b.sc.out.items
   pub mm : AreSendable mm_most b.mm.out.items

@@ -1,7 +1,9 @@
 //! The bench: one frame after another.
 
 ghost use Rattle.std.specs.Prelude.{◌≡◌};
-ghost use Rattle.frame_exec.specs.declared.bench.TheConstants.{DROPS, ACTIVATIONS};
+ghost use Rattle.frame_exec.specs.declared.bench.TheConstants.{DROPS};
+ghost use Rattle.frame_exec.specs.declared.slot.TheConstants.{LIST_ROOM};
+ghost use Rattle.hs_monitors.specs.declared.step.TheConstants.{MOST_ITEMS};
 ghost use Rattle.frame_exec.specs.Jobs.{jobs_of};
 
 use crate::activations::{Naming, hand_over, naming_of, tell};
@@ -16,7 +18,7 @@ use crate::md_slot::MdSlot;
 use crate::mm_slot::MmSlot;
 use crate::sc_slot::ScSlot;
 use crate::stages::{
-    deliver_all, has_reset, in_order, put_frame, stamp_all, take_unless, upset_all,
+    deliver_all, has_reset, in_order, put_behind, put_frame, stamp_all, take_unless, upset_all,
 };
 use crate::tables::Tables;
 use bus_pipes::{Batch, Bus, Drops, Outbox, PipeName};
@@ -32,14 +34,12 @@ use packet_forms::Counter;
 use packet_log::{Block, Line, Log};
 use sc_sequences::Sc;
 use scenario::{App, FrameInput, Upset};
+use std::mem;
 use std::thread::Threads;
 use subjects::{Crowd, Subject};
 
 /// How many packets are dropped in a frame at most: all that are sent and all that the applications give.
 pub(crate) const DROPS: u32 = 1573;
-
-/// How many tables a frame may name to become active.
-pub(crate) const ACTIVATIONS: u32 = 64;
 
 /// The bench, after some frames. It takes all its memory as it is opened, and borrows the files, from which MM loads.
 #[derive(Drop)]
@@ -53,7 +53,7 @@ pub struct Bench<'f> {
     // how many threads may land operations, or cycle a crowd, at once
     pub(crate) workers: u32,
     pub(crate) tables: Tables<'f>,
-    // the events of the frame's activations
+    // the events of the frame's activations, until HS's items stand behind them: then the two lists change places
     pub(crate) activations: Outbox,
     pub(crate) hs: HsSlot,
     // the packets that HS took from its pipe of events
@@ -77,11 +77,11 @@ pub struct Bench<'f> {
     ghost drops_room: { drops.room ≡ DROPS },
     ghost manned: { crew.jobs ≡ jobs_of bus.watched },
     ghost there: { lc.there ≡ bus.watched },
-    ghost activations_room: { activations.room ≡ ACTIVATIONS },
+    ghost activations_room: { activations.room ≡ LIST_ROOM },
 }
 
 impl<'f> Bench<'f> {
-    ghost use Rattle.std.specs.Prelude.{ℕ, ◌+◌, ◌-◌, ◌<◌, ◌≤◌, List, [], ◌∷◌, ◌++◌, map, length, true, ◌||◌, All, IfErr, OnOk, OnErr, is_err};
+    ghost use Rattle.std.specs.Prelude.{ℕ, ◌+◌, ◌-◌, ◌<◌, ◌≤◌, List, [], ◌∷◌, ◌++◌, map, length, true, false, ◌||◌, All, IfErr, OnOk, OnErr, is_err};
     ghost use Rattle.fsw_outside.specs.Told.{WhereTold};
     ghost use Rattle.fsw_outside.specs.Causes.{HasCause};
     ghost use Rattle.fsw_outside.specs.Written.{WritesAll};
@@ -100,7 +100,7 @@ impl<'f> Bench<'f> {
     ghost use Rattle.std.specs.List.{AllPass, list_any};
     ghost use Rattle.bus_pipes.specs.Counted.{is_item_counted};
     ghost use Rattle.table_files.specs.Files.{kind_at};
-    ghost use Rattle.frame_exec.specs.Stages.{IsSameRun, GoesOn, NamesFile, Activates, IsUpset, Takes, AreHeld, Arrives, CanSend, Sends, RunsIn, IsSameFrame, Lands, StartsAnew, IsStamped, HasGiven, items_in, loads_in, lines_in};
+    ghost use Rattle.frame_exec.specs.Stages.{IsSameRun, GoesOn, NamesFile, Activates, TellsFirst, IsUpset, Takes, AreHeld, Arrives, CanSend, Sends, RunsIn, IsSameFrame, Lands, StartsAnew, IsStamped, HasGiven, items_in, loads_in, lines_in};
     ghost use Rattle.frame_exec.specs.Sending.{is_reset};
     ghost use Rattle.frame_exec.specs.Wakes.{joined};
     ghost use Rattle.frame_exec.specs.declared.left.Left.{Left};
@@ -373,24 +373,7 @@ impl<'f> Bench<'f> {
         self.bus.clear();
     }
 
-    /// Makes the tables of these files active, in order, and tells of each whether it is. Most frames name none.
-    #[inline(always)]
-    fn activate(&mut self, files: &[u32])
-        requires time { self.old.epoch + self.old.number < 4294967296 }
-        requires few { length files.now ≤ 64 }
-        requires ready { IsReady self.old }
-        ensures activates { Activates files.now [] self.old self.new }
-        ensures ready { IsReady self.new }
-    {
-        self.activations.clear();
-        if files.is_empty() {
-            return;
-        }
-        self.activate_all(files);
-    }
-
-    /// Forgets what an earlier frame told, and makes the tables of these files active.
-    #[inline(never)]
+    /// Makes the tables of these files active, in order, and tells of each whether it is. What an earlier frame told is forgotten.
     fn activate_all(&mut self, files: &[u32])
         requires time { self.old.epoch + self.old.number < 4294967296 }
         requires few { length files.now ≤ 64 }
@@ -476,7 +459,7 @@ impl<'f> Bench<'f> {
     #[inline(always)]
     fn send(&mut self, input: &FrameInput, none: bool) -> bool
         requires can { CanSend self.old }
-        requires few { length input.now.sends + length self.old.activations.items ≤ 64 }
+        requires few { length input.now.sends + length self.old.hs.out.items ≤ 64 + MOST_ITEMS }
         requires none { none ≡ true → joined (items_in self.old) ≡ [] }
         ensures sends { Sends input.now.sends self.old self.new }
         ensures silent { result ≡ true → lines_in self.new ≡ [] }
@@ -494,7 +477,7 @@ impl<'f> Bench<'f> {
     #[inline(never)]
     fn send_all(&mut self, input: &FrameInput)
         requires can { CanSend self.old }
-        requires few { length input.now.sends + length self.old.activations.items ≤ 64 }
+        requires few { length input.now.sends + length self.old.hs.out.items ≤ 64 + MOST_ITEMS }
         requires none { self.old.drops.items ≡ [] }
         ensures { Sends input.now.sends self.old self.new }
     {
@@ -506,7 +489,6 @@ impl<'f> Bench<'f> {
         self.bus.deliver(input.sends(), &mut self.drops);
         deliver_all(
             &mut self.bus,
-            &self.activations,
             &self.hs,
             &self.cs,
             &self.sc,
@@ -522,7 +504,6 @@ impl<'f> Bench<'f> {
         requires can { CanSend self.old }
         ensures { IsStamped self.old self.new }
     {
-        stamp_all(&mut self.log, &mut self.activations);
         stamp_all(&mut self.log, &mut self.hs.out);
         stamp_all(&mut self.log, &mut self.cs.out);
         stamp_all(&mut self.log, &mut self.sc.out);
@@ -531,23 +512,37 @@ impl<'f> Bench<'f> {
         stamp_all(&mut self.log, &mut self.lc.slot.out);
     }
 
-    /// Makes the frame's tables active, writes its upsets, and lets each application take what its pipes hold. A frame that only sends
-    /// has none of the former.
+    /// Writes the frame's upsets, and lets each application take what its pipes hold: answers whether it did so. Where the frame names
+    /// tables nothing changes, since they become active first. A frame that only sends is asked for nothing else.
     #[inline(always)]
-    fn arrive(&mut self, input: &FrameInput)
-        requires time { self.old.epoch + self.old.number < 4294967296 }
+    fn arrive(&mut self, input: &FrameInput) -> bool
         requires upsets { All (λ (u : Upset). is_mapped (regions_of self.old.ram.areas) u.at ≡ true) input.now.upsets }
         requires ready { IsReady self.old }
-        ensures arrives { Arrives input.now self.old self.new }
-        ensures few { length input.now.sends + length input.now.activations ≤ 64 }
+        ensures arrives { result ≡ true → Arrives input.now self.old self.new }
+        ensures unnamed { result ≡ true → input.now.activations ≡ [] }
+        ensures waits { result ≡ false → self.new ≡ self.old }
+        ensures few { length input.now.sends ≤ 64 }
         ensures ready { IsReady self.new }
     {
         if input.has_only_sends() {
-            self.activations.clear();
-            self.take(&[]);
-            return;
+            self.take_all_but(Holds::none());
+            return true;
         }
-        self.activate(input.activations());
+        if !input.activations().is_empty() {
+            return false;
+        }
+        self.upset_and_take(input);
+        true
+    }
+
+    /// Writes the frame's upsets, and lets each application take what its pipes hold.
+    #[inline(always)]
+    fn upset_and_take(&mut self, input: &FrameInput)
+        requires upsets { All (λ (u : Upset). is_mapped (regions_of self.old.ram.areas) u.at ≡ true) input.now.upsets }
+        requires ready { IsReady self.old }
+        ensures arrives { Arrives input.now self.old self.new }
+        ensures ready { IsReady self.new }
+    {
         self.upset(input.upsets());
         self.take(input.held());
     }
@@ -572,9 +567,52 @@ impl<'f> Bench<'f> {
         ensures ready { IsReady self.new }
         ensures silent { result ≡ true → lines_in self.new ≡ [] }
     {
-        self.arrive(input);
+        if !self.arrive(input) {
+            return self.run_activating(rt, gate, input, counters);
+        }
         let none = self.step(rt, gate, counters);
         self.send(input, none)
+    }
+
+    /// The same of a frame that names tables. What is told of them comes before what HS gives.
+    #[cold]
+    fn run_activating<R: Threads + Sync, G: Gate>(
+        &mut self,
+        rt: &R,
+        gate: &G,
+        input: &FrameInput,
+        counters: &[Counter],
+    ) -> bool
+        requires time { self.old.epoch + self.old.number < 4294967296 }
+        requires upsets { All (λ (u : Upset). is_mapped (regions_of self.old.ram.areas) u.at ≡ true) input.now.upsets }
+        requires ready { IsReady self.old }
+        ensures runs { (setup : Setup) (s : State) → self.old.epoch ≡ setup.epoch → self.old.tables.files ≡ setup.files → Has self.old s
+            → RunsIn setup (activated_at setup s (with_counters counters.now input.now)) (with_counters counters.now input.now) self.new }
+        ensures run { GoesOn self.old self.new }
+        ensures can_land { CanLand (loads_in self.new) self.new.ram self.new.ops.value }
+        ensures ready { IsReady self.new }
+        ensures silent { result ≡ true → lines_in self.new ≡ [] }
+    {
+        self.activate_all(input.activations());
+        self.upset_and_take(input);
+        self.step(rt, gate, counters);
+        self.tell_first();
+        self.send(input, false)
+    }
+
+    /// Puts what was told of activations before what HS gave: both are HS's list then.
+    fn tell_first(&mut self)
+        requires can { CanSend self.old }
+        requires counted { AllPass is_item_counted self.old.activations.items }
+        requires told { length self.old.activations.items ≤ 64 }
+        requires few { length self.old.hs.out.items ≤ MOST_ITEMS }
+        ensures first { TellsFirst self.old.activations.items self.old self.new }
+        ensures can { CanSend self.new }
+        ensures few { length self.new.hs.out.items ≡ length self.old.activations.items + length self.old.hs.out.items }
+        ensures ready { IsReady self.old → IsReady self.new }
+    {
+        put_behind(&mut self.activations, self.hs.out.items());
+        mem::swap(&mut self.activations, &mut self.hs.out);
     }
 
     /// Writes the lines of the frame that was run, all at once.
@@ -619,15 +657,7 @@ impl<'f> Bench<'f> {
         if silent {
             return Ok(());
         }
-        let lists = in_order(
-            &self.activations,
-            &self.hs,
-            &self.cs,
-            &self.sc,
-            &self.mm,
-            &self.md,
-            &self.lc,
-        );
+        let lists = in_order(&self.hs, &self.cs, &self.sc, &self.mm, &self.md, &self.lc);
         put_frame(
             &mut self.block,
             sink,
@@ -647,15 +677,7 @@ impl<'f> Bench<'f> {
         if !self.resets && self.gave_nothing() {
             return;
         }
-        let lists = in_order(
-            &self.activations,
-            &self.hs,
-            &self.cs,
-            &self.sc,
-            &self.mm,
-            &self.md,
-            &self.lc,
-        );
+        let lists = in_order(&self.hs, &self.cs, &self.sc, &self.mm, &self.md, &self.lc);
         obey_frame(crowd, self.resets, &lists);
     }
 
@@ -663,8 +685,7 @@ impl<'f> Bench<'f> {
     fn asks_for_reset(&self) -> bool
         ensures { result ≡ list_any is_reset (joined (items_in self.now)) }
     {
-        has_reset(self.activations.items())
-            | has_reset(self.hs.out.items())
+        has_reset(self.hs.out.items())
             | has_reset(self.cs.out.items())
             | has_reset(self.sc.out.items())
             | has_reset(self.mm.out.items())
@@ -680,13 +701,12 @@ impl<'f> Bench<'f> {
         self.gave_nothing() && self.drops.is_empty()
     }
 
-    /// Whether nothing was told of activations and no application gave anything in the frame that was run.
+    /// Whether nothing was given in the frame that was run.
     #[inline(always)]
     fn gave_nothing(&self) -> bool
         ensures { result ≡ true → joined (items_in self.now) ≡ [] }
     {
-        self.activations.is_empty()
-            && self.hs.out.is_empty()
+        self.hs.out.is_empty()
             && self.cs.out.is_empty()
             && self.sc.out.is_empty()
             && self.mm.out.is_empty()

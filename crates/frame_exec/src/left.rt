@@ -1,13 +1,14 @@
 //! What waking an application leaves, until the bench takes it over.
 
 ghost use Rattle.std.specs.Prelude.{◌≡◌, []};
-ghost use Rattle.hs_monitors.specs.declared.step.TheConstants.{MOST_ITEMS};
+ghost use Rattle.frame_exec.specs.declared.slot.TheConstants.{LIST_ROOM};
 
+use crate::slot::LIST_ROOM;
 use bus_pipes::Outbox;
 use crew_board::Scratch;
 use cs_slices::{Cs, Segments};
 use fsw_outside::NoMemory;
-use hs_monitors::{Hs, MOST_ITEMS};
+use hs_monitors::Hs;
 use hs_tables::HsTables;
 use lc_watch::{Adt, Lc};
 use md_dwell::{Dwell, Md};
@@ -31,7 +32,7 @@ pub(crate) struct Left {
     pub(crate) lc: Box<Lc>,
     pub(crate) out: Outbox,
     pub(crate) ops: Box<Ops>,
-    ghost roomy: { out.room ≡ MOST_ITEMS },
+    ghost roomy: { out.room ≡ LIST_ROOM },
 }
 
 /// A state of an application, as what a wakeup left has it.
@@ -107,7 +108,7 @@ impl Scratch for Left {
             mm: Box::new(alloc, Mm::start())?,
             md: Box::new(alloc, Md::start(&[Dwell::blank(); 4]))?,
             lc: Box::new(alloc, Lc::start(&Adt::blank()))?,
-            out: Outbox::open(alloc, MOST_ITEMS)?,
+            out: Outbox::open(alloc, LIST_ROOM)?,
             ops: Box::new(alloc, Ops::new())?,
         })
     }

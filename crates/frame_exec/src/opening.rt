@@ -3,12 +3,12 @@
 ghost use Rattle.std.specs.Prelude.{IfOk};
 ghost use Rattle.frame_exec.specs.Opening.{IsEmpty};
 
-use crate::bench::{ACTIVATIONS, Bench, DROPS};
+use crate::bench::{Bench, DROPS};
 use crate::giving::{OpenFault, refused_place};
 use crate::jobs::jobs_of;
 use crate::lc_slot::LcSlot;
 use crate::left::Left;
-use crate::slot::Slot;
+use crate::slot::{LIST_ROOM, Slot};
 use crate::tables::Tables;
 use crate::watching::names_limit_checker;
 use bus_pipes::{Batch, Bus, Drops, Outbox};
@@ -47,7 +47,7 @@ impl Room {
         ensures { IfOk result (IsEmpty header.now.map lc) }
     {
         Ok(Room {
-            activations: Outbox::open(alloc, ACTIVATIONS)?,
+            activations: Outbox::open(alloc, LIST_ROOM)?,
             crew: Crew::open(alloc, workers, jobs_of(lc))?,
             ops: Box::new(alloc, Ops::new())?,
             drops: Drops::open(alloc, DROPS)?,

@@ -1,7 +1,7 @@
 //! An application in the bench: its state, the packets that it took, and what it gives in a frame.
 
 ghost use Rattle.std.specs.Prelude.{◌≡◌, ◌≤◌, ℕ, ◌<◌, ◌≢◌, true, false, List, [], ◌∷◌, ◌++◌, length, slice_index_or, IfOk};
-ghost use Rattle.hs_monitors.specs.declared.step.TheConstants.{MOST_ITEMS};
+ghost use Rattle.frame_exec.specs.declared.slot.TheConstants.{LIST_ROOM};
 ghost use Rattle.bus_pipes.specs.Pipes.{packets_in, depth_of};
 ghost use Rattle.frame_exec.specs.Sending.{taken};
 ghost use Rattle.frame_exec.specs.Wakes.{next_of};
@@ -12,9 +12,11 @@ use crate::reads::Reads;
 use bus_pipes::{Batch, Bus, Outbox, PipeName};
 use crew_board::Crew;
 use fsw_outside::NoMemory;
-use hs_monitors::MOST_ITEMS;
 use std::alloc::Global;
 use std::mem;
+
+/// How many items a list has room for: as many as HS gives, which are the most, behind what is told of 64 activations.
+pub(crate) const LIST_ROOM: u32 = 1168;
 
 /// An application's state, what it took from its pipe in the last frame, and the items that it gave then.
 #[derive(Drop)]
@@ -23,7 +25,7 @@ pub(crate) struct Slot<S> {
     pub(crate) held: bool,
     pub(crate) commands: Batch,
     pub(crate) out: Outbox,
-    ghost roomy: { out.room ≡ MOST_ITEMS },
+    ghost roomy: { out.room ≡ LIST_ROOM },
     ghost few: { length commands ≤ 16 },
 }
 
@@ -43,7 +45,7 @@ impl<S> Slot<S> {
             state: Box::new(alloc, state)?,
             held,
             commands: Batch::new(),
-            out: Outbox::open(alloc, MOST_ITEMS)?,
+            out: Outbox::open(alloc, LIST_ROOM)?,
         })
     }
 

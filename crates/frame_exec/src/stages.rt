@@ -84,6 +84,17 @@ pub(crate) fn stamp_all(log: &mut Log, out: &mut Outbox)
     }
 }
 
+/// Puts items behind others.
+pub(crate) fn put_behind(out: &mut Outbox, items: &[Out])
+    requires { length out.old.items + length items.now ≤ out.old.room }
+    ensures after { out.new.items ≡ out.old.items ++ items.now }
+    ensures room { out.new.room ≡ out.old.room }
+{
+    'items: for item in items {
+        out.push(*item);
+    }
+}
+
 /// Whether an item asks for a processor reset.
 fn is_reset(item: &Out) -> bool
     ensures { result ≡ is_reset item.now }
@@ -134,21 +145,19 @@ fn deliver_items(bus: &mut Bus, items: &[Out], drops: &mut Drops)
     }
 }
 
-/// What was told of activations, and what the applications gave, a list each, in their order.
+/// What the applications gave, a list each, in their order: before HS's items stands what was told of activations.
 pub(crate) fn in_order<'a>(
-    activations: &'a Outbox,
     hs: &'a HsSlot,
     cs: &'a CsSlot,
     sc: &'a ScSlot,
     mm: &'a MmSlot,
     md: &'a MdSlot,
     lc: &'a LcSlot,
-) -> [&'a [Out]; 7]
-    ensures shown { shown result ≡ joined (activations.now.items ∷ hs.now.out.items ∷ cs.now.out.items ∷ sc.now.out.items ∷ mm.now.out.items ∷ md.now.out.items ∷ lc.now.slot.out.items ∷ []) }
-    ensures seven { length result ≡ 7 }
+) -> [&'a [Out]; 6]
+    ensures shown { shown result ≡ joined (hs.now.out.items ∷ cs.now.out.items ∷ sc.now.out.items ∷ mm.now.out.items ∷ md.now.out.items ∷ lc.now.slot.out.items ∷ []) }
+    ensures six { length result ≡ 6 }
 {
     [
-        activations.items(),
         hs.out.items(),
         cs.out.items(),
         sc.out.items(),
@@ -158,11 +167,9 @@ pub(crate) fn in_order<'a>(
     ]
 }
 
-/// Offers the packets of what was told of activations and of what the applications sent to their pipes, in the order of the
-/// applications.
+/// Offers the packets of what the applications sent to their pipes, in the order of the applications.
 pub(crate) fn deliver_all(
     bus: &mut Bus,
-    activations: &Outbox,
     hs: &HsSlot,
     cs: &CsSlot,
     sc: &ScSlot,
@@ -171,12 +178,12 @@ pub(crate) fn deliver_all(
     lc: &LcSlot,
     drops: &mut Drops,
 )
-    requires { length drops.old.items + length (joined (activations.now.items ∷ hs.now.out.items ∷ cs.now.out.items ∷ sc.now.out.items ∷ mm.now.out.items ∷ md.now.out.items ∷ lc.now.slot.out.items ∷ [])) ≤ drops.old.room }
-    ensures after { bus.new ≡ after_offers bus.old (flat_map packet_in (joined (activations.now.items ∷ hs.now.out.items ∷ cs.now.out.items ∷ sc.now.out.items ∷ mm.now.out.items ∷ md.now.out.items ∷ lc.now.slot.out.items ∷ []))) }
-    ensures drops { drops.new ≡ adding drops.old (drops_from bus.old (flat_map packet_in (joined (activations.now.items ∷ hs.now.out.items ∷ cs.now.out.items ∷ sc.now.out.items ∷ mm.now.out.items ∷ md.now.out.items ∷ lc.now.slot.out.items ∷ [])))) }
+    requires { length drops.old.items + length (joined (hs.now.out.items ∷ cs.now.out.items ∷ sc.now.out.items ∷ mm.now.out.items ∷ md.now.out.items ∷ lc.now.slot.out.items ∷ [])) ≤ drops.old.room }
+    ensures after { bus.new ≡ after_offers bus.old (flat_map packet_in (joined (hs.now.out.items ∷ cs.now.out.items ∷ sc.now.out.items ∷ mm.now.out.items ∷ md.now.out.items ∷ lc.now.slot.out.items ∷ []))) }
+    ensures drops { drops.new ≡ adding drops.old (drops_from bus.old (flat_map packet_in (joined (hs.now.out.items ∷ cs.now.out.items ∷ sc.now.out.items ∷ mm.now.out.items ∷ md.now.out.items ∷ lc.now.slot.out.items ∷ [])))) }
     ensures room { drops.new.room ≡ drops.old.room }
 {
-    deliver_lists(bus, &in_order(activations, hs, cs, sc, mm, md, lc), drops);
+    deliver_lists(bus, &in_order(hs, cs, sc, mm, md, lc), drops);
 }
 
 /// Offers the packets of lists of items that were sent to their pipes, one list after another.

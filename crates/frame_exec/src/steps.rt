@@ -1,6 +1,7 @@
 //! How the applications are woken in a frame.
 
 ghost use Rattle.std.specs.Prelude.{◌≡◌};
+ghost use Rattle.hs_monitors.specs.declared.step.TheConstants.{MOST_ITEMS};
 
 use crate::bench::Bench;
 use crate::jobs::wake_all;
@@ -12,8 +13,6 @@ use std::thread::Threads;
 
 impl<'f> Bench<'f> {
     ghost use Rattle.std.specs.Prelude.{◌+◌, ◌<◌, ◌≤◌, [], length, slice_index_or, true, false};
-    ghost use Rattle.std.specs.List.{AllPass};
-    ghost use Rattle.bus_pipes.specs.Counted.{is_item_counted};
     ghost use Rattle.frame_exec.specs.Standing.{IsReady};
     ghost use Rattle.frame_exec.specs.Stages.{IsClear, Steps, CanSend, AreWoken, TakesOver, items_in};
     ghost use Rattle.frame_exec.specs.Wakes.{joined};
@@ -30,10 +29,10 @@ impl<'f> Bench<'f> {
     ) -> bool
         requires time { self.old.epoch + self.old.number < 4294967296 }
         requires clear { IsClear self.old }
-        requires told { AllPass is_item_counted self.old.activations.items }
         requires ready { IsReady self.old }
         ensures steps { Steps counters.now self.old self.new }
         ensures can_send { CanSend self.new }
+        ensures few { length self.new.hs.out.items ≤ MOST_ITEMS }
         ensures ready { IsReady self.new }
         ensures none { result ≡ true → joined (items_in self.new) ≡ [] }
     {
@@ -41,7 +40,7 @@ impl<'f> Bench<'f> {
             return self.step_watched(rt, gate, counters);
         }
         if self.workers <= 1 && self.rests(counters) {
-            return self.activations.is_empty();
+            return true;
         }
         self.wake(rt, gate, counters, false);
         self.take_over()
@@ -78,7 +77,7 @@ impl<'f> Bench<'f> {
         self.cs.rests(&reads)
     }
 
-    /// The same where LC is there.
+    /// Wakes the applications with LC as one of them, and tells whether no item was given.
     #[inline(never)]
     fn step_watched<R: Threads + Sync, G: Gate>(
         &mut self,
@@ -89,10 +88,10 @@ impl<'f> Bench<'f> {
         requires there { self.old.lc.there ≡ true }
         requires time { self.old.epoch + self.old.number < 4294967296 }
         requires clear { IsClear self.old }
-        requires told { AllPass is_item_counted self.old.activations.items }
         requires ready { IsReady self.old }
         ensures steps { Steps counters.now self.old self.new }
         ensures can_send { CanSend self.new }
+        ensures few { length self.new.hs.out.items ≤ MOST_ITEMS }
         ensures ready { IsReady self.new }
         ensures none { result ≡ true → joined (items_in self.new) ≡ [] }
     {
@@ -147,7 +146,6 @@ impl<'f> Bench<'f> {
         ensures count { length self.new.crew.results ≡ length self.old.crew.results }
         ensures none { result ≡ true → joined (items_in self.new) ≡ [] }
     {
-        let told = self.activations.is_empty();
         let hs = self.hs.take_over(&mut self.crew, 0);
         let cs = self.cs.take_over(&mut self.crew, 1);
         let sc = self.sc.take_over(&mut self.crew, 2);
@@ -155,6 +153,6 @@ impl<'f> Bench<'f> {
         left.give_operations(&mut self.ops);
         let mm = self.mm.take_over(&mut self.crew, 3);
         let md = self.md.take_over(&mut self.crew, 4);
-        told & hs & cs & sc & mm & md
+        hs & cs & sc & mm & md
     }
 }

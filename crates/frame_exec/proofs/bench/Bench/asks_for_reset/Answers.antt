@@ -1,8 +1,8 @@
-use Rattle.frame_exec.proofs.Offers.{reset_in_seven}
+use Rattle.frame_exec.proofs.Offers.{reset_in_six}
 use Rattle.frame_exec.proofs.bench.Bench.asks_for_reset.Goals as goal
 
 pub returns : goal.returns
 returns c =
     let b = c.args.self.now in
-    rw (c.has_reset.ensures, c.has_reset-2.ensures, c.has_reset-3.ensures, c.has_reset-4.ensures, c.has_reset-5.ensures, c.has_reset-6.ensures, c.has_reset-7.ensures, c.items.ensures, c.items-2.ensures, c.items-3.ensures, c.items-4.ensures, c.items-5.ensures, c.items-6.ensures, c.items-7.ensures)
-    (reset_in_seven b.activations.items b.hs.out.items b.cs.out.items b.sc.out.items b.mm.out.items b.md.out.items b.lc.slot.out.items)
+    rw (c.has_reset.ensures, c.has_reset-2.ensures, c.has_reset-3.ensures, c.has_reset-4.ensures, c.has_reset-5.ensures, c.has_reset-6.ensures, c.items.ensures, c.items-2.ensures, c.items-3.ensures, c.items-4.ensures, c.items-5.ensures, c.items-6.ensures)
+    (reset_in_six b.hs.out.items b.cs.out.items b.sc.out.items b.mm.out.items b.md.out.items b.lc.slot.out.items)

@@ -2,14 +2,13 @@ use Rattle.std.proofs.Common.{ℕ, List, [], ◌++◌, refl, sym, subst, append-
 use Rattle.std.specs.List.{flat_map}
 use Rattle.packet_log.specs.Sent.{makes}
 use Rattle.packet_log.specs.Standing.{Stands as LogStands}
-use Rattle.frame_exec.proofs.Offers.{seven_as_long}
+use Rattle.frame_exec.proofs.Offers.{six_as_long}
 use Rattle.frame_exec.proofs.Stamping.{sent_none, sent_then, made_two}
 use Rattle.frame_exec.proofs.bench.Bench.stamp.Goals as goal
 
 pub returns : goal.returns
 returns c =
     let old = c.args.self.now in
-    let told = old.activations.items in
     let hs = old.hs.out.items in
     let cs = old.cs.out.items in
     let sc = old.sc.out.items in
@@ -26,14 +25,12 @@ returns c =
           let three = c.stamp_all-3.ensures.stands _ two in
           let four = c.stamp_all-4.ensures.stands _ three in
           let five = c.stamp_all-5.ensures.stands _ four in
-          let six = c.stamp_all-6.ensures.stands _ five in
-          sent_then made told _ (hs ++ (cs ++ (sc ++ (mm ++ (md ++ (lc ++ [])))))) _ (c.stamp_all.ensures.sent made stands)
-          (sent_then (made ++ flat_map makes told) hs _ (cs ++ (sc ++ (mm ++ (md ++ (lc ++ []))))) _ (c.stamp_all-2.ensures.sent _ one)
-          (sent_then ((made ++ flat_map makes told) ++ flat_map makes hs) cs _ (sc ++ (mm ++ (md ++ (lc ++ [])))) _ (c.stamp_all-3.ensures.sent _ two)
-          (sent_then (((made ++ flat_map makes told) ++ flat_map makes hs) ++ flat_map makes cs) sc _ (mm ++ (md ++ (lc ++ []))) _ (c.stamp_all-4.ensures.sent _ three)
-          (sent_then ((((made ++ flat_map makes told) ++ flat_map makes hs) ++ flat_map makes cs) ++ flat_map makes sc) mm _ (md ++ (lc ++ [])) _ (c.stamp_all-5.ensures.sent _ four)
-          (sent_then (((((made ++ flat_map makes told) ++ flat_map makes hs) ++ flat_map makes cs) ++ flat_map makes sc) ++ flat_map makes mm) md _ (lc ++ []) _ (c.stamp_all-6.ensures.sent _ five)
-          (sent_then ((((((made ++ flat_map makes told) ++ flat_map makes hs) ++ flat_map makes cs) ++ flat_map makes sc) ++ flat_map makes mm) ++ flat_map makes md) lc _ [] [] (c.stamp_all-7.ensures.sent _ six) (sym (sent_none _))))))));
+          sent_then made hs _ (cs ++ (sc ++ (mm ++ (md ++ (lc ++ []))))) _ (c.stamp_all.ensures.sent made stands)
+          (sent_then (made ++ flat_map makes hs) cs _ (sc ++ (mm ++ (md ++ (lc ++ [])))) _ (c.stamp_all-2.ensures.sent _ one)
+          (sent_then ((made ++ flat_map makes hs) ++ flat_map makes cs) sc _ (mm ++ (md ++ (lc ++ []))) _ (c.stamp_all-3.ensures.sent _ two)
+          (sent_then (((made ++ flat_map makes hs) ++ flat_map makes cs) ++ flat_map makes sc) mm _ (md ++ (lc ++ [])) _ (c.stamp_all-4.ensures.sent _ three)
+          (sent_then ((((made ++ flat_map makes hs) ++ flat_map makes cs) ++ flat_map makes sc) ++ flat_map makes mm) md _ (lc ++ []) _ (c.stamp_all-5.ensures.sent _ four)
+          (sent_then (((((made ++ flat_map makes hs) ++ flat_map makes cs) ++ flat_map makes sc) ++ flat_map makes mm) ++ flat_map makes md) lc _ [] [] (c.stamp_all-6.ensures.sent _ five) (sym (sent_none _)))))));
       made = λ made stands.
           let one = c.stamp_all.ensures.stands made stands in
           let two = c.stamp_all-2.ensures.stands _ one in
@@ -41,15 +38,13 @@ returns c =
           let four = c.stamp_all-4.ensures.stands _ three in
           let five = c.stamp_all-5.ensures.stands _ four in
           let six = c.stamp_all-6.ensures.stands _ five in
-          let seven = c.stamp_all-7.ensures.stands _ six in
-          made_two made told (hs ++ (cs ++ (sc ++ (mm ++ (md ++ (lc ++ [])))))) _
-          (made_two (made ++ flat_map makes told) hs (cs ++ (sc ++ (mm ++ (md ++ (lc ++ []))))) _
-          (made_two ((made ++ flat_map makes told) ++ flat_map makes hs) cs (sc ++ (mm ++ (md ++ (lc ++ [])))) _
-          (made_two (((made ++ flat_map makes told) ++ flat_map makes hs) ++ flat_map makes cs) sc (mm ++ (md ++ (lc ++ []))) _
-          (made_two ((((made ++ flat_map makes told) ++ flat_map makes hs) ++ flat_map makes cs) ++ flat_map makes sc) mm (md ++ (lc ++ [])) _
-          (made_two (((((made ++ flat_map makes told) ++ flat_map makes hs) ++ flat_map makes cs) ++ flat_map makes sc) ++ flat_map makes mm) md (lc ++ []) _
-          (made_two ((((((made ++ flat_map makes told) ++ flat_map makes hs) ++ flat_map makes cs) ++ flat_map makes sc) ++ flat_map makes mm) ++ flat_map makes md) lc [] _ (subst (λ (packets : List (List ℕ)). LogStands packets c.stamp_all-7.new.log) (sym (append-nil _)) seven)))))));
-      few = seven_as_long told hs cs sc mm md lc _ _ _ _ _ _ _ c.stamp_all.ensures.few c.stamp_all-2.ensures.few c.stamp_all-3.ensures.few c.stamp_all-4.ensures.few c.stamp_all-5.ensures.few c.stamp_all-6.ensures.few c.stamp_all-7.ensures.few;
+          made_two made hs (cs ++ (sc ++ (mm ++ (md ++ (lc ++ []))))) _
+          (made_two (made ++ flat_map makes hs) cs (sc ++ (mm ++ (md ++ (lc ++ [])))) _
+          (made_two ((made ++ flat_map makes hs) ++ flat_map makes cs) sc (mm ++ (md ++ (lc ++ []))) _
+          (made_two (((made ++ flat_map makes hs) ++ flat_map makes cs) ++ flat_map makes sc) mm (md ++ (lc ++ [])) _
+          (made_two ((((made ++ flat_map makes hs) ++ flat_map makes cs) ++ flat_map makes sc) ++ flat_map makes mm) md (lc ++ []) _
+          (made_two (((((made ++ flat_map makes hs) ++ flat_map makes cs) ++ flat_map makes sc) ++ flat_map makes mm) ++ flat_map makes md) lc [] _ (subst (λ (packets : List (List ℕ)). LogStands packets c.stamp_all-6.new.log) (sym (append-nil _)) six))))));
+      few = six_as_long hs cs sc mm md lc _ _ _ _ _ _ c.stamp_all.ensures.few c.stamp_all-2.ensures.few c.stamp_all-3.ensures.few c.stamp_all-4.ensures.few c.stamp_all-5.ensures.few c.stamp_all-6.ensures.few;
       resets = refl;
       pipes = refl;
       drops = refl;

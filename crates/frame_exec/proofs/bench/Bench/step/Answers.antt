@@ -1,7 +1,7 @@
 use Rattle.std.proofs.Common.{◌∙◌, ap, sym, arith}
 use Rattle.frame_exec.specs.declared.lc_slot.LcSlot.{LcSlot}
 use Rattle.frame_exec.proofs.Taking.{away_woken, none_sendable, five_or_six}
-use Rattle.frame_exec.proofs.Woken.{all_step, all_can_send, all_ready}
+use Rattle.frame_exec.proofs.Woken.{all_step, all_can_send, all_few, all_ready}
 use Rattle.frame_exec.proofs.bench.Bench.step.Goals as goal
 
 pub wake-requires-clause-watched : goal.wake-requires-clause-watched
@@ -20,7 +20,10 @@ returns-clause-steps g c =
 pub returns-clause-can_send : goal.returns-clause-can_send
 returns-clause-can_send g c =
     let lc = c.take_over.ensures.lc ∙ c.wake.ensures.slots.lc in
-    all_can_send _ _ _ _ c.wake.ensures c.take_over.ensures.over c.requires.told (none_sendable _ _ (ap (λ (l : LcSlot). l.slot.out.items) lc ∙ c.requires.clear.lc))
+    all_can_send _ _ _ _ c.wake.ensures c.take_over.ensures.over (none_sendable _ _ (ap (λ (l : LcSlot). l.slot.out.items) lc ∙ c.requires.clear.lc))
+
+pub returns-clause-few : goal.returns-clause-few
+returns-clause-few g c = all_few _ _ _ _ c.wake.ensures c.take_over.ensures.over
 
 pub returns-clause-ready : goal.returns-clause-ready
 returns-clause-ready g c = all_ready _ _ _ _ c.wake.ensures c.take_over.ensures.over c.requires.ready

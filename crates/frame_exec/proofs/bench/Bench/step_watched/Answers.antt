@@ -1,7 +1,7 @@
 use Rattle.std.proofs.Common.{◌∙◌, ap, refl, sym, arith}
 use Rattle.frame_exec.specs.declared.lc_slot.LcSlot.{LcSlot}
 use Rattle.frame_exec.proofs.Taking.{taken_woken, taken_sendable, five_or_six}
-use Rattle.frame_exec.proofs.Woken.{all_step, all_can_send, all_ready, over_beside}
+use Rattle.frame_exec.proofs.Woken.{all_step, all_can_send, all_few, all_ready, over_beside}
 use Rattle.frame_exec.proofs.bench.Bench.step_watched.Goals as goal
 
 pub wake-requires-clause-watched : goal.wake-requires-clause-watched
@@ -25,8 +25,11 @@ returns-clause-can_send g c =
     let over = c.take_over-none.ensures in
     let lc = c.take_over.ensures in
     let same = ap (λ (l : LcSlot). l.slot.state.value) (over.lc ∙ woken.slots.lc) in
-    all_can_send _ _ _ _ woken (over_beside _ _ _ _ _ _ _ _ over.over) c.requires.told
+    all_can_send _ _ _ _ woken (over_beside _ _ _ _ _ _ _ _ over.over)
     (taken_sendable _ _ _ _ _ _ _ _ _ _ _ _ _ (woken.lc (sym c.args.self.now.there ∙ c.requires.there) lc.from.0 (sym (over.last lc.from.0) ∙ lc.from.1)) same lc.from.2 lc.from.3)
+
+pub returns-clause-few : goal.returns-clause-few
+returns-clause-few g c = all_few _ _ _ _ c.wake.ensures c.take_over-none.ensures.over
 
 pub returns-clause-ready : goal.returns-clause-ready
 returns-clause-ready g c = all_ready _ _ _ _ c.wake.ensures (over_beside _ _ _ _ _ _ _ _ c.take_over-none.ensures.over) c.requires.ready

@@ -47,7 +47,7 @@ returns-clause-over c =
     }
 
 pub returns-clause-none : goal.returns-clause-none
-returns-clause-none c = none_given _ _ _ _ _ _ _ _ _ _ _ _ _ c.is_empty-told.ensures c.take_over-hs.ensures.none c.take_over-cs.ensures.none c.take_over-sc.ensures.none c.take_over-mm.ensures.none c.take_over-md.ensures.none c.requires.clear.lc
+returns-clause-none c = none_given _ _ _ _ _ _ _ _ _ _ _ c.take_over-hs.ensures.none c.take_over-cs.ensures.none c.take_over-sc.ensures.none c.take_over-mm.ensures.none c.take_over-md.ensures.none c.requires.clear.lc
 
 pub returns-clause-last : goal.returns-clause-last
 returns-clause-last c = λ left.
