@@ -64,6 +64,8 @@ fn write_summary<O: Sink>(summary: &Summary, out: &mut O, report: Report) -> Rep
 /// Runs the generated scenario of this number, which is at most 999,999, with these tables, beside the crowd where there is
 /// one. The summary of its log is written behind the last frame, and nothing else is. Its text ends well and no read of it
 /// fails.
+// In one stack frame with its caller, which has room for a bench as well.
+#[inline(always)]
 pub fn run_drill<'f, R: Threads + Sync, C: Subject + Send, O: Sink, G: Gate>(
     rt: &R,
     alloc: Global,
