@@ -9,4 +9,3 @@ pub mod BeginLemmas
 pub mod PassLemmas
 pub mod FirstLemmas
 pub mod DrillLemmas
-pub mod FrameLemmas

@@ -1,5 +1,5 @@
 //! What one frame is given.
-ghost use Rattle.std.specs.Prelude.{◌≡◌, ◌≤◌, ◌<◌, ◌++◌, ◌∷◌, ◌==◌, [], length, true, false, Ok};
+ghost use Rattle.std.specs.Prelude.{◌≡◌, ◌≤◌, ◌<◌, ◌+◌, ◌++◌, ◌∷◌, ◌==◌, [], length, true, false, Ok};
 ghost use Rattle.scenario.specs.Sentences.{packet_of};
 ghost use Rattle.scenario.specs.FrameLists.{no_items, items_in};
 
@@ -41,6 +41,8 @@ pub struct FrameInput {
     sends: SendList,
     counters: ArrayVec<Counter, 64>,
     upsets: ArrayVec<Upset, 64>,
+    // how many items hold an application or name a table, so that a frame that does neither is asked for both at once
+    special: usize,
     held: ArrayVec<App, 64>,
     activations: ArrayVec<u32, 64>,
 }
@@ -53,7 +55,7 @@ impl Model for FrameInput {
 
     ghost view = { λ f. record { sends = f.sends; counters = f.counters.items; upsets = f.upsets.items; held = f.held.items; activations = f.activations.items } };
 
-    ghost invariant = { λ f. (f.count ≡ length f.sends + length f.counters.items + length f.upsets.items + length f.held.items + length f.activations.items) × (f.count ≤ 64) };
+    ghost invariant = { λ f. (f.count ≡ length f.sends + length f.counters.items + length f.upsets.items + f.special) × (f.special ≡ length f.held.items + length f.activations.items) × (f.count ≤ 64) };
 }
 
 impl FrameInput {
@@ -65,6 +67,7 @@ impl FrameInput {
             sends: SendList::new(),
             counters: ArrayVec::new(),
             upsets: ArrayVec::new(),
+            special: 0,
             held: ArrayVec::new(),
             activations: ArrayVec::new(),
         }
@@ -73,22 +76,20 @@ impl FrameInput {
     pub(crate) fn clear(&mut self)
         ensures { self.new ≡ no_items }
     {
-        if self.is_empty() {
+        if self.count == 0 {
             return;
         }
         self.count = 0;
         self.sends.clear();
         self.counters.clear();
         self.upsets.clear();
-        self.held.clear();
+        if self.special == 0 {
+            return;
+        }
+        self.special = 0;
+        // A new list of 64 bytes is written in fewer instructions than the used part of this one is wiped.
+        self.held = ArrayVec::new();
         self.activations.clear();
-    }
-
-    #[inline(always)]
-    fn is_empty(&self) -> bool
-        ensures { result ≡ true → self.now ≡ no_items }
-    {
-        self.count == 0
     }
 
     pub(crate) fn len(&self) -> usize
@@ -106,6 +107,15 @@ impl FrameInput {
         ensures limit { items_in self.now ≤ 64 }
     {
         self.count == self.sends.len()
+    }
+
+    /// Whether the frame neither holds an application nor names a table: most frames do neither, and aren't asked for each.
+    #[inline(always)]
+    pub fn is_plain(&self) -> bool
+        ensures exact { result ≡ (length self.now.held + length self.now.activations == 0) }
+        ensures only { result ≡ true → (self.now.held ≡ []) × (self.now.activations ≡ []) }
+    {
+        self.special == 0
     }
 
     /// The packets that are sent.
@@ -190,6 +200,7 @@ impl FrameInput {
         ensures { self.new ≡ record self.old { held = self.old.held ++ app ∷ [] } }
     {
         self.count += 1;
+        self.special += 1;
         self.held.push(app);
     }
 
@@ -198,6 +209,7 @@ impl FrameInput {
         ensures { self.new ≡ record self.old { activations = self.old.activations ++ file ∷ [] } }
     {
         self.count += 1;
+        self.special += 1;
         self.activations.push(file);
     }
 }
