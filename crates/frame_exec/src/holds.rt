@@ -1,9 +1,9 @@
 //! Which applications are held in a frame.
 
-ghost use Rattle.std.specs.Prelude.{[]};
+ghost use Rattle.std.specs.Prelude.{List, [], ◌∷◌, ◌++◌};
+ghost use Rattle.scenario.specs.declared.frame.App.{App};
 ghost use Rattle.frame_exec.specs.Stages.{AreHeld};
 
-use crate::stages::is_held;
 use scenario::App;
 
 /// Of each application that can be held, whether it is.
@@ -35,12 +35,24 @@ impl Holds {
     pub(crate) fn of(held: &[App]) -> Holds
         ensures { AreHeld held.now result }
     {
-        Holds {
-            hs: is_held(App::Hs, held),
-            cs: is_held(App::Cs, held),
-            sc: is_held(App::Sc, held),
-            mm: is_held(App::Mm, held),
-            md: is_held(App::Md, held),
+        let mut holds = Holds::none();
+        'held: for app in held {
+            holds.add(*app);
+        }
+        holds
+    }
+
+    /// Holds an application beside those that are held.
+    #[inline(always)]
+    fn add(&mut self, app: App)
+        ensures { (held : List App) → AreHeld held self.old → AreHeld (held ++ app ∷ []) self.new }
+    {
+        match app {
+            App::Hs => self.hs = true,
+            App::Cs => self.cs = true,
+            App::Sc => self.sc = true,
+            App::Mm => self.mm = true,
+            App::Md => self.md = true,
         }
     }
 }

@@ -15,7 +15,7 @@ ghost use Rattle.packet_log.specs.Lines.{drop_line};
 ghost use Rattle.packet_log.specs.Sent.{makes};
 ghost use Rattle.packet_log.specs.Standing.{Stands as LogStands};
 ghost use Rattle.frame_exec.specs.Wakes.{joined};
-ghost use Rattle.frame_exec.specs.Sending.{place_of, is_same, taken, upset_by, sent_of, is_reset, packet_in, shown};
+ghost use Rattle.frame_exec.specs.Sending.{taken, upset_by, sent_of, is_reset, packet_in, shown};
 
 use crate::cs_slot::CsSlot;
 use crate::hs_slot::HsSlot;
@@ -27,27 +27,7 @@ use bus_pipes::{Batch, Bus, Dropped, Drops, Out, Outbox, PipeName};
 use fsw_outside::{Failed, Sink};
 use memory_window::Ram;
 use packet_log::{Block, Line, Log, head_of, write_drop, write_item};
-use scenario::{App, Upset};
-
-/// The place of an application in the order of the applications.
-fn place_of(app: App) -> u8
-    ensures { result ≡ place_of app }
-{
-    match app {
-        App::Hs => 0,
-        App::Cs => 1,
-        App::Sc => 2,
-        App::Mm => 3,
-        App::Md => 4,
-    }
-}
-
-/// Whether an application is among those that are held.
-pub(crate) fn is_held(app: App, held: &[App]) -> bool
-    ensures { result ≡ list_any (is_same app) held.now }
-{
-    held.iter().any(|other| place_of(app) == place_of(*other))
-}
+use scenario::Upset;
 
 /// Takes all packets of a pipe, unless its application is held.
 pub(crate) fn take_unless(bus: &mut Bus, pipe: PipeName, held: bool, batch: &mut Batch)
