@@ -37,7 +37,7 @@ use Rattle.frame_exec.specs.Applications.{cs_tables, sc_begun, hs_setup, lc_setu
 use Rattle.frame_exec.specs.Runs.{Setup, State, time_at, active_in, runs_at, naming_at, with_active, after_line, after_naming, after_activation, activated_at, table_events}
 use Rattle.frame_exec.specs.Jobs.{jobs_of}
 use Rattle.frame_exec.specs.Standing.{Has, IsReady}
-use Rattle.frame_exec.specs.Stages.{GoesOn, NamesFile, Activates, IsUpset, time_of}
+use Rattle.frame_exec.specs.Stages.{GoesOn, NamesFile, Activates, time_of}
 use Rattle.scenario.specs.FrameLists.{Frame}
 use Rattle.frame_exec.proofs.Frames.{activations_keep, folded_number}
 use Rattle.frame_exec.proofs.GivenTables.{file_given}
@@ -216,17 +216,6 @@ activates_none b events drops jobs there room none = record {
   counted = λ counted. subst (AllPass is_item_counted) (sym none) counted;
   events = λ setup s epoch files has. none;
   has = λ setup s files has. has_told b events drops jobs there room s has;
-}
-
--- no upset was written
-pub upset_none : (b : Bench) → IsUpset [] b b
-upset_none b = record {
-  run = record { waits = refl; epoch = refl; number = refl; failed = refl; tables = refl };
-  told = refl;
-  apps = record { hs = refl; cs = refl; sc = refl; mm = refl; md = refl; lc = refl };
-  pipes = refl;
-  log = refl;
-  memory = refl;
 }
 
 -- one file more is named

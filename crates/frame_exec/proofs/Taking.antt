@@ -1,6 +1,5 @@
 -- What the jobs of a frame left, taken over by the bench.
-use Rattle.std.proofs.Common.{◌≡◌, ◌≤◌, ℕ, Bool, true, false, ◌&&◌, ◌==◌, List, [], ◌∷◌, length, ◌∙◌, ap, refl, subst, sym, arith}
-use Rattle.std.proofs.lemmas.Bool.Decides.{nat_tests}
+use Rattle.std.proofs.Common.{◌≡◌, ◌≤◌, ℕ, Bool, true, false, ◌&&◌, List, [], ◌∷◌, ◌∙◌, ap, refl, subst, sym, arith}
 use Rattle.std.proofs.lemmas.Bool.{and_parts}
 use Rattle.std.proofs.lemmas.List.Elements.{All-nil}
 use Rattle.bus_pipes.specs.Counted.{is_item_counted}
@@ -35,11 +34,6 @@ pub operates : (loads : List (ℕ × List ℕ)) (held : Bool) (time : ℕ) (comm
 operates loads true time commands image ops none these =
     record { are = none refl; can_land = subst (λ (os : List MemOp). CanLand loads image os) (sym (none refl)) (record { admitted = All-nil (Admitted image); backed = All-nil (IsBacked loads) }) }
 operates loads false time commands image ops none these = record { are = (these refl).0; can_land = (these refl).1 }
-
--- a list of no length has nothing
-pub nothing_there : {A : Type 0} (items : List A) → true ≡ (length items == 0) → items ≡ []
-nothing_there [] none = refl
-nothing_there (item ∷ items) none = absurd (grind (arith, nat_tests))
 
 -- where none of the six gave an item, nothing was given
 pub none_given : (a b c d e : Bool) (hs cs sc mm md lc : List Out) → (a ≡ true → hs ≡ []) → (b ≡ true → cs ≡ []) → (c ≡ true → sc ≡ []) → (d ≡ true → mm ≡ []) → (e ≡ true → md ≡ []) → lc ≡ []

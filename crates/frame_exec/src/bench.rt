@@ -429,17 +429,6 @@ impl<'f> Bench<'f> {
         upset_all(&mut self.ram, upsets);
     }
 
-    /// Each application takes what its pipes hold, unless it is held. In most frames none is.
-    fn take(&mut self, held: &[App])
-        ensures { Takes held.now self.old self.new }
-    {
-        if held.is_empty() {
-            self.take_all_but(Holds::none());
-            return;
-        }
-        self.take_all_but(Holds::of(held));
-    }
-
     /// Each application but those that are held takes what its pipes hold.
     #[inline(always)]
     fn take_all_but(&mut self, holds: Holds)
@@ -524,10 +513,43 @@ impl<'f> Bench<'f> {
         ensures few { length input.now.sends ≤ 64 }
         ensures ready { IsReady self.new }
     {
+        if !self.upset_if_plain(input) {
+            return self.arrive_unless_named(input);
+        }
+        self.take_all_but(Holds::none());
+        true
+    }
+
+    /// Writes the upsets of a plain frame, in which nobody is held and no table is named: answers whether it is one. In another nothing
+    /// changes.
+    #[inline(always)]
+    fn upset_if_plain(&mut self, input: &FrameInput) -> bool
+        requires { All (λ (u : Upset). is_mapped (regions_of self.old.ram.areas) u.at ≡ true) input.now.upsets }
+        ensures upset { result ≡ true → IsUpset input.now.upsets self.old self.new }
+        ensures plain { result ≡ true → (input.now.held ≡ []) × (input.now.activations ≡ []) }
+        ensures waits { result ≡ false → self.new ≡ self.old }
+        ensures few { length input.now.sends ≤ 64 }
+    {
         if input.has_only_sends() {
-            self.take_all_but(Holds::none());
             return true;
         }
+        if !input.is_plain() {
+            return false;
+        }
+        self.upset(input.upsets());
+        true
+    }
+
+    /// What `arrive` does in a frame that isn't plain.
+    #[inline(never)]
+    fn arrive_unless_named(&mut self, input: &FrameInput) -> bool
+        requires upsets { All (λ (u : Upset). is_mapped (regions_of self.old.ram.areas) u.at ≡ true) input.now.upsets }
+        requires ready { IsReady self.old }
+        ensures arrives { result ≡ true → Arrives input.now self.old self.new }
+        ensures unnamed { result ≡ true → input.now.activations ≡ [] }
+        ensures waits { result ≡ false → self.new ≡ self.old }
+        ensures ready { IsReady self.new }
+    {
         if !input.activations().is_empty() {
             return false;
         }
@@ -544,7 +566,7 @@ impl<'f> Bench<'f> {
         ensures ready { IsReady self.new }
     {
         self.upset(input.upsets());
-        self.take(input.held());
+        self.take_all_but(Holds::of(input.held()));
     }
 
     /// Runs a frame up to its lines, on these execution counters: makes its tables active, writes its upsets, wakes the applications on its
