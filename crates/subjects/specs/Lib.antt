@@ -5,3 +5,4 @@ pub mod Seats
 pub mod Crowds
 pub mod Calls
 pub mod Worked
+pub mod Own

@@ -5,6 +5,7 @@ mod crowd;
 mod hanging;
 pub mod laws;
 mod listed;
+mod own;
 mod seat;
 mod steady;
 mod subject;
@@ -12,6 +13,7 @@ mod subject;
 pub use crowd::Crowd;
 pub use hanging::Hanging;
 pub use listed::{Listed, PlanFault};
+pub use own::{Own, own_subjects};
 pub use steady::Steady;
 pub use subject::Subject;
 

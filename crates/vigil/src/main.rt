@@ -14,7 +14,7 @@ ghost use Rattle.rehearsal.specs.Files.{AreTaken};
 ghost use Rattle.rehearsal.specs.Beside.{crowd_for};
 ghost use Rattle.rehearsal.specs.Outcome.{drill_of, GivesReads, HasCauses, Rehearses, Completes, SumsUp};
 ghost use Rattle.vigil.specs.Ends.{exit_number};
-ghost use Rattle.vigil.specs.Own.{own_subjects};
+ghost use Rattle.subjects.specs.Own.{own_subjects};
 
 use fsw_outside::{FileShelf, NoMemory, OpenGate, Shelf, Sink, StdSink};
 use rehearsal::{Report, Status, Words, tell, vigil_with};
@@ -23,10 +23,7 @@ use std::env::{self, Args};
 use std::io::{self, ErrorKind};
 use std::process::ExitCode;
 use std::thread::Threads;
-
-mod own;
-
-use own::own_subjects;
+use subjects::own_subjects;
 
 /// The exit status of an end.
 fn exit_number(status: Status) -> u8

@@ -1,18 +1,21 @@
-//! The program's own simulated applications.
+//! The simulated applications that a rehearsal is given by `--subjects`.
 
 ghost use Rattle.std.specs.Prelude.{◌≡◌, ◌≤◌, [], ◌∷◌, true, IfOk, map, codes, vec_len};
 ghost use Rattle.packet_forms.specs.Names.{is_name_text, name_of};
 ghost use Rattle.subjects.specs.Plans.{starting};
-ghost use Rattle.vigil.specs.Own.{seen_own, own_subjects};
+ghost use Rattle.subjects.specs.Own.{seen_own, own_subjects};
 
+use crate::hanging::Hanging;
+use crate::listed::Listed;
+use crate::steady::Steady;
+use crate::subject::Subject;
 use fsw_outside::NoMemory;
 use packet_forms::Name;
 use std::alloc::Global;
-use subjects::{Hanging, Listed, Steady, Subject};
 
-/// A simulated application of the program's own.
+/// One of the three simulated applications.
 #[derive(Drop)]
-pub(crate) enum Own {
+pub enum Own {
     /// It runs on.
     Steady(Steady),
     /// It hangs after a while.
@@ -72,7 +75,7 @@ fn listed_values(alloc: Global) -> Result<Vec<u32>, NoMemory>
 }
 
 /// The third application.
-#[tactic(auto, unfolding(subjects::specs::Faults::plan_fault_of, packet_forms::specs::Names::is_name_text))]
+#[tactic(auto, unfolding(crate::specs::Faults::plan_fault_of, packet_forms::specs::Names::is_name_text))]
 fn listed_subject(alloc: Global) -> Result<Listed, NoMemory>
     ensures { IfOk result (λ subject. subject ≡ starting (name_of (codes "THM")) (record { values = 5 ∷ 5 ∷ 6 ∷ []; back = 0 })) }
 {
@@ -86,7 +89,7 @@ fn listed_subject(alloc: Global) -> Result<Listed, NoMemory>
 /// The three applications: `NAV`, which runs on, `PWR`, which hangs after four cycles, and `THM`, whose counters are 5, 5 and 6
 /// in turn.
 #[tactic(auto, unfolding(packet_forms::specs::Names::is_name_text))]
-pub(crate) fn own_subjects(alloc: Global) -> Result<Vec<Own>, NoMemory>
+pub fn own_subjects(alloc: Global) -> Result<Vec<Own>, NoMemory>
     ensures subjects { IfOk result (λ subjects. map seen_own subjects.items ≡ own_subjects) }
     ensures few { IfOk result (λ subjects. vec_len subjects ≤ 64) }
 {

@@ -1,9 +1,9 @@
--- The program's own simulated applications.
+-- The simulated applications that a rehearsal is given by `--subjects`.
 use Rattle.std.specs.Prelude.{List, [], ◌∷◌, codes}
 use Rattle.packet_forms.specs.Names.{name_of}
 use Rattle.subjects.specs.Plans.{Simulated, starting, steady_plan, hanging_plan}
-use Rattle.vigil.specs.declared.own.Own.{Own}
-use Rattle.vigil.specs.declared.own.Own.TheVariants.{Steady, Hanging, Listed}
+use Rattle.subjects.specs.declared.own.Own.{Own}
+use Rattle.subjects.specs.declared.own.Own.TheVariants.{Steady, Hanging, Listed}
 
 -- one that runs on, one that hangs after four cycles, and one whose counter stays now and then
 abbrev pub own_subjects : List Simulated
