@@ -31,7 +31,7 @@ use md_dwell::Md;
 use memory_window::{Ops, Ram};
 use mm_core::Mm;
 use packet_forms::Counter;
-use packet_log::{Block, Line, Log};
+use packet_log::{Block, LineBuffer, Log};
 use sc_sequences::Sc;
 use scenario::{App, FrameInput, Upset};
 use std::mem;
@@ -71,7 +71,7 @@ pub struct Bench<'f> {
     pub(crate) log: Log,
     pub(crate) ram: Ram,
     // the line that was written last: a new one would be wiped in each frame
-    pub(crate) line: Line,
+    pub(crate) line: LineBuffer,
     // lines, until they are handed on
     pub(crate) block: Block,
     ghost drops_room: { drops.room ≡ DROPS },

@@ -20,7 +20,7 @@ use lc_watch::Lc;
 use md_dwell::Md;
 use memory_window::{Ops, Ram};
 use mm_core::Mm;
-use packet_log::{Block, Line, Log};
+use packet_log::{Block, LineBuffer, Log};
 use sc_sequences::Sc;
 use scenario::Header;
 use std::alloc::Global;
@@ -126,7 +126,7 @@ impl<'f> Bench<'f> {
             bus: room.bus,
             log: Log::start(),
             ram: room.ram,
-            line: Line::new(),
+            line: LineBuffer::new(),
             block: room.block,
         })
     }

@@ -26,7 +26,7 @@ use crate::sc_slot::ScSlot;
 use bus_pipes::{Batch, Bus, Dropped, Drops, Out, Outbox, PipeName};
 use fsw_outside::{Failed, Sink};
 use memory_window::Ram;
-use packet_log::{Block, Line, Log, head_of, write_drop, write_item};
+use packet_log::{Block, LineBuffer, Log, head_of, write_drop, write_item};
 use scenario::Upset;
 
 /// Takes all packets of a pipe, unless its application is held.
@@ -182,7 +182,7 @@ fn deliver_lists(bus: &mut Bus, lists: &[&[Out]], drops: &mut Drops)
 fn put_items<O: Sink>(
     block: &mut Block,
     sink: &mut O,
-    line: &mut Line,
+    line: &mut LineBuffer,
     head: &[u8],
     items: &[Out],
 ) -> Result<(), Failed>
@@ -204,7 +204,7 @@ fn put_items<O: Sink>(
 fn put_lists<O: Sink>(
     block: &mut Block,
     sink: &mut O,
-    line: &mut Line,
+    line: &mut LineBuffer,
     head: &[u8],
     lists: &[&[Out]],
 ) -> Result<(), Failed>
@@ -225,7 +225,7 @@ fn put_lists<O: Sink>(
 fn put_drops<O: Sink>(
     block: &mut Block,
     sink: &mut O,
-    line: &mut Line,
+    line: &mut LineBuffer,
     head: &[u8],
     drops: &[Dropped],
 ) -> Result<(), Failed>
@@ -248,7 +248,7 @@ fn put_drops<O: Sink>(
 pub(crate) fn put_frame<O: Sink>(
     block: &mut Block,
     sink: &mut O,
-    line: &mut Line,
+    line: &mut LineBuffer,
     number: u32,
     lists: &[&[Out]],
     drops: &[Dropped],

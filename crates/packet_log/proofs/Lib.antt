@@ -1,4 +1,5 @@
 pub mod Stamps
 pub mod Blocks
 pub mod Cuts
+mod HexTexts
 pub mod LineEnds

@@ -1,4 +1,4 @@
-//! A line of the log, which is written again and again, and what the lines say.
+//! Lines of the log, each written into one buffer in turn.
 
 ghost use Rattle.std.specs.Prelude.{◌≡◌, ◌≤◌, ◌+◌, ◌*◌, ◌++◌, [], ℕ, true, length, codes, decimal};
 ghost use Rattle.packet_forms.specs.Hex.{hex};
@@ -19,14 +19,14 @@ pub const HEAD_BYTES: usize = 40;
 /// The longest line is that of a dropped packet of 256 bytes, below 640 bytes.
 const LINE_BYTES: usize = 640;
 
-/// A line, seen as its bytes. It is made once and written again and again.
+/// What holds a line, seen as the line's bytes. It is made once and written again and again.
 #[derive(Drop)]
-pub struct Line {
+pub struct LineBuffer {
     len: usize,
     places: [u8; LINE_BYTES],
 }
 
-impl Model for Line {
+impl Model for LineBuffer {
     ghost use Rattle.std.specs.Prelude.{◌≡◌, ◌≤◌, List, ℕ, length, take};
     ghost use Rattle.packet_log.specs.declared.lines.TheConstants.{LINE_BYTES};
 
@@ -37,12 +37,12 @@ impl Model for Line {
     ghost invariant = { λ a. (a.len ≤ LINE_BYTES) × (length a.places ≡ LINE_BYTES) };
 }
 
-impl Line {
+impl LineBuffer {
     /// An empty line.
-    pub fn new() -> Line
+    pub fn new() -> LineBuffer
         ensures { result ≡ [] }
     {
-        Line {
+        LineBuffer {
             len: 0,
             places: [0; LINE_BYTES],
         }
@@ -91,7 +91,7 @@ pub fn head_of(frame: u32) -> Head
 }
 
 /// Makes the line that of an item: of its packet, or of its request. `head` is what `head_of` gives of the frame's number.
-pub fn write_item(line: &mut Line, head: &[u8], item: &Out)
+pub fn write_item(line: &mut LineBuffer, head: &[u8], item: &Out)
     requires { length head.now ≤ HEAD_BYTES }
     ensures { (frame : ℕ) → head.now ≡ decimal frame → line.new ≡ item_line frame item.now }
 {
@@ -106,7 +106,7 @@ pub fn write_item(line: &mut Line, head: &[u8], item: &Out)
 
 /// Makes the line that of a packet that was dropped. `head` is what `head_of` gives of the frame's number.
 #[tactic(auto, unfolding(crate::specs::Lines::drop_line))]
-pub fn write_drop(line: &mut Line, head: &[u8], lost: &Dropped)
+pub fn write_drop(line: &mut LineBuffer, head: &[u8], lost: &Dropped)
     requires { length head.now ≤ HEAD_BYTES }
     ensures { (frame : ℕ) → head.now ≡ decimal frame → line.new ≡ drop_line frame lost.now }
 {
@@ -121,7 +121,7 @@ pub fn write_drop(line: &mut Line, head: &[u8], lost: &Dropped)
 
 /// Makes the line that of a packet that was sent.
 #[tactic(auto, unfolding(crate::specs::Lines::packet_line))]
-fn write_packet(line: &mut Line, head: &[u8], packet: &Packet)
+fn write_packet(line: &mut LineBuffer, head: &[u8], packet: &Packet)
     requires { length head.now ≤ HEAD_BYTES }
     ensures { (frame : ℕ) → head.now ≡ decimal frame → line.new ≡ packet_line frame packet.now }
 {
@@ -134,7 +134,7 @@ fn write_packet(line: &mut Line, head: &[u8], packet: &Packet)
 
 /// Makes the line that of a request.
 #[tactic(auto, unfolding(crate::specs::Items::request_line))]
-fn write_request(line: &mut Line, head: &[u8], item: &Out)
+fn write_request(line: &mut LineBuffer, head: &[u8], item: &Out)
     requires short { length head.now ≤ HEAD_BYTES }
     requires request { is_request item.now ≡ true }
     ensures { (frame : ℕ) → head.now ≡ decimal frame → line.new ≡ request_line frame item.now }
@@ -147,7 +147,7 @@ fn write_request(line: &mut Line, head: &[u8], item: &Out)
 
 /// Appends what a line says of a request.
 #[tactic(auto, unfolding(packet_forms::specs::Names::is_name_text))]
-fn append_request(line: &mut Line, item: &Out)
+fn append_request(line: &mut LineBuffer, item: &Out)
     requires { length line.old ≤ HEAD_BYTES }
     ensures value { line.new ≡ line.old ++ request_text item.now }
     ensures short { length line.new ≤ 80 }
@@ -168,7 +168,7 @@ fn append_request(line: &mut Line, item: &Out)
 }
 
 /// What a line calls a pipe.
-fn pipe_text(pipe: PipeName) -> &'static str
+pub(crate) fn pipe_text(pipe: PipeName) -> &'static str
     ensures value { result.now ≡ pipe_text pipe }
     ensures short { length result.now ≤ 6 }
 {
@@ -185,7 +185,7 @@ fn pipe_text(pipe: PipeName) -> &'static str
 }
 
 /// What a line says of why a packet was dropped.
-fn cause_text(full: bool) -> &'static str
+pub(crate) fn cause_text(full: bool) -> &'static str
     ensures value { result.now ≡ cause_text full }
     ensures short { length result.now ≤ 7 }
 {

@@ -144,7 +144,7 @@ fn push_hex(text: &mut SummaryText, number: u16)
 }
 
 /// A hexadecimal digit, in upper case.
-fn digit_text(number: u8) -> &'static str
+pub(crate) fn digit_text(number: u8) -> &'static str
     requires { number < 16 }
     ensures value { result.now ≡ hex_digit number ∷ [] }
     ensures one { length result.now ≡ 1 }

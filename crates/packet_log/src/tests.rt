@@ -19,19 +19,19 @@ fn noop_event() -> Result<Packet, Fail> {
 }
 
 /// The line of an item in a frame, or of a packet that was dropped, is this text.
-fn check_item(rt: &impl Abort, line: &mut Line, frame: u32, item: &Out, expected: &str) {
+fn check_item(rt: &impl Abort, line: &mut LineBuffer, frame: u32, item: &Out, expected: &str) {
     write_item(line, head_of(frame).bytes(), item);
     assert_eq!(rt; line.bytes(), expected.as_bytes());
 }
 
-fn check_drop(rt: &impl Abort, line: &mut Line, frame: u32, lost: &Dropped, expected: &str) {
+fn check_drop(rt: &impl Abort, line: &mut LineBuffer, frame: u32, lost: &Dropped, expected: &str) {
     write_drop(line, head_of(frame).bytes(), lost);
     assert_eq!(rt; line.bytes(), expected.as_bytes());
 }
 
 #[test]
 fn lines_are_exact(rt: HostRuntime) -> Result<(), Fail> {
-    let mut line = Line::new();
+    let mut line = LineBuffer::new();
     check_item(&rt, &mut line, 1, &Out::Stored(noop_event()?), EVENT_LINE);
     let limit = Dropped {
         pipe: PipeName::Mm,
@@ -63,7 +63,7 @@ fn lines_are_exact(rt: HostRuntime) -> Result<(), Fail> {
 #[test]
 fn request_lines(rt: HostRuntime) -> Result<(), Fail> {
     let name = Name::from_text("LOAD").ok_or("LOAD is a name")?;
-    let mut line = Line::new();
+    let mut line = LineBuffer::new();
     check_item(&rt, &mut line, 0, &Out::Reset, "0 reset\n");
     check_item(&rt, &mut line, 5, &Out::Restart(name), "5 restart LOAD\n");
     check_item(&rt, &mut line, 7, &Out::Delete(name), "7 delete LOAD\n");
