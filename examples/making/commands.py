@@ -81,7 +81,12 @@ def hs_max_resets(maximum):
 
 def event_message(name, event):
     """Is no command: an event of type 2 that an application of this name might have sent, with time 0."""
-    return packet(0x0808, struct.pack(">IH20sHHII", 0, 0, name.encode(), event, 2, 66, 1))
+    return timed_event(name, event, 0)
+
+
+def timed_event(name, event, time):
+    """Is no command: an event message with a time in seconds."""
+    return packet(0x0808, struct.pack(">IH20sHHII", time, 0, name.encode(), event, 2, 66, 1))
 
 
 def mm_peek(size, at):

@@ -34,6 +34,7 @@ SENT = {
     hs_clear_resets: "",
     hs_max_resets: "MAXIMUM",
     event_message: "NAME EVENT",
+    timed_event: "NAME EVENT TIME",
     mm_peek: "SIZE ADDRESS",
     mm_poke: "SIZE ADDRESS VALUE",
     mm_load: "ADDRESS HEX",

@@ -1,60 +1,72 @@
-"""What the script writes, and what differs from it."""
+"""What the script writes of the cases, and what differs from it."""
 
 import pathlib
+import shutil
 
-from making.examples import EXAMPLES, commands
-from making.rust_test import laid_out, test_text
+from making.cases import cases_in
 from making.words import SENT, counted, usage
 
 TOP = pathlib.Path(__file__).resolve().parent.parent.parent
 DOCUMENT = TOP / "docs" / "COMMANDS.md"
-TEST = TOP / "crates" / "vigil" / "src" / "tests" / "examples.rt"
+PROGRAM = TOP / "crates" / "rehearsals"
+FIRST = TOP / "examples" / "first"
 
 
-def wanted():
+def first_files(case):
+    """The files of the first example, for a user who follows the README, and a page on it."""
+    (rehearsal,) = case.rehearsals
+    words = " ".join(f"examples/first/{word}" for word in rehearsal.words)
+    page = f"# first\n\n{case.about}\n\n    crates/vigil/out/vigil {words}\n"
+    files = {**rehearsal.files, "log": rehearsal.log.encode(), "README.md": page.encode()}
+    return {FIRST / name: data for name, data in files.items()}
+
+
+def wanted(cases):
     """Each file that this script writes, and its bytes."""
-    files = {}
-    for example in EXAMPLES:
-        for name, content in example.files().items():
-            data = content.encode() if isinstance(content, str) else content
-            files[TOP / "examples" / example.name / name] = data
+    rehearsals = [rehearsal for case in cases for rehearsal in case.rehearsals]
+    files = {PROGRAM / "data" / path: data for rehearsal in rehearsals for path, data in rehearsal.written().items()}
+    files[PROGRAM / "stdin"] = "".join(rehearsal.line() + "\n" for rehearsal in rehearsals).encode()
+    files[PROGRAM / "stdout"] = f"{len(rehearsals)} cases, 0 not as wanted\n".encode()
+    for case in cases:
+        if case.name == "first":
+            files.update(first_files(case))
     return files
 
 
-def differences():
-    told = []
-    files = wanted()
-    for path, data in files.items():
-        if not path.is_file() or path.read_bytes() != data:
-            told.append(f"{path.relative_to(TOP)} isn't what this script writes")
-    for example in EXAMPLES:
-        for path in sorted((TOP / "examples" / example.name).glob("*")):
-            if path not in files:
-                told.append(f"{path.relative_to(TOP)} isn't written by this script")
-    if not TEST.is_file() or laid_out(TEST.read_text()) != laid_out(test_text()):
-        told.append(f"{TEST.relative_to(TOP)} isn't what this script writes")
+def unlisted(cases):
+    """The commands of the case `commands` and the forms of `send` that docs/COMMANDS.md lacks."""
     document = DOCUMENT.read_text().split("`")
-    lines = [line for line in commands().scenario.splitlines() if line.startswith("send ")]
-    for line in lines + list(map(usage, SENT)):
-        if line not in document:
-            told.append(f"docs/COMMANDS.md lacks `{line}`")
-    return told
+    lines = list(map(usage, SENT))
+    for case in cases:
+        if case.name == "commands":
+            lines += [line for line in case.rehearsals[0].files["scenario.txt"].decode().splitlines() if line.startswith("send ")]
+    return [line for line in lines if line not in document]
+
+
+def differences(cases):
+    files = wanted(cases)
+    told = [f"{path.relative_to(TOP)} isn't what this script writes" for path, data in files.items() if not path.is_file() or path.read_bytes() != data]
+    for folder in PROGRAM / "data", FIRST:
+        told += [f"{path.relative_to(TOP)} isn't written by this script" for path in sorted(folder.rglob("*")) if path.is_file() and path not in files]
+    return told + [f"docs/COMMANDS.md lacks `{line}`" for line in unlisted(cases)]
 
 
 def check(words):
     """Prints what differs, and gives 1 if anything does."""
     counted(["--check", *words], "--check")
-    told = differences()
+    cases = cases_in(PROGRAM / "cases")
+    told = differences(cases)
     for line in told:
         print(line)
-    print(f"{len(wanted())} files of {len(EXAMPLES)} examples: {'as written' if not told else f'{len(told)} differences'}")
+    print(f"{len(wanted(cases))} files of {len(cases)} cases: {'as written' if not told else f'{len(told)} differences'}")
     return 1 if told else 0
 
 
 def write(_):
-    """Writes all files."""
-    for path, data in wanted().items():
-        path.parent.mkdir(exist_ok=True)
+    """Writes all files, in place of those that stand there."""
+    files = wanted(cases_in(PROGRAM / "cases"))
+    for folder in PROGRAM / "data", FIRST:
+        shutil.rmtree(folder, ignore_errors=True)
+    for path, data in files.items():
+        path.parent.mkdir(parents=True, exist_ok=True)
         path.write_bytes(data)
-    if not TEST.is_file() or laid_out(TEST.read_text()) != laid_out(test_text()):
-        TEST.write_text(test_text())
