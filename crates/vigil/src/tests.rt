@@ -1,26 +1,12 @@
-//! Whole rehearsals over memory.
+//! What no case of `rehearsals` can show: an outside that fails or moves a few bytes a call, applications and gates that are
+//! given, and generated scenarios against their text.
 
-mod all_sequences;
-mod checksums;
 mod crowds;
 mod drills;
-mod dwell;
-mod examples;
 mod faults;
-mod files;
 mod frames;
 mod given;
-mod health;
 mod hostile;
-mod lengths;
-mod limits;
-mod loads;
-mod refusals;
-mod resets;
-mod rows;
 mod runs;
-mod sequences;
-mod standby;
 mod tables;
-mod words;
 mod workers;

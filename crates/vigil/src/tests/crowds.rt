@@ -1,17 +1,11 @@
 //! Rehearsals beside simulated applications.
 
-use super::drills::{DRILL, SUMMARY, summary_of, text_of as drill_text};
-use super::given::args_of;
-use super::runs::{
-    HEADER, HONEST, Line, Ran, Rehearsal, assert_text, log_of, run_beside, shelf_of, text_of,
-    words_of,
-};
+use super::runs::{HEADER, HONEST, Line, Ran, assert_text, log_of, run_beside, shelf_of, words_of};
 use super::tables::{Count, Monitor, apps_file, counts_file, events_file};
-use crate::rehearse_given;
 use fsw_outside::{MemSink, OpenGate};
 use packet_forms::Name;
 use rehearsal::{Report, Status, vigil_with};
-use std::alloc::Global;
+use std::alloc::{AllocError, Global};
 use std::process::Abort;
 use std::test::Fail;
 use std::thread::Threads;
@@ -27,13 +21,6 @@ enum Sort<'a> {
 
 /// A subject: its name, and how it goes on.
 type Made<'a> = (&'a str, Sort<'a>);
-
-/// The program's own subjects.
-const OWN: [Made<'static>; 3] = [
-    ("NAV", Sort::Steady),
-    ("PWR", Sort::Hanging(4)),
-    ("THM", Sort::Listed(&[5, 5, 6], 0)),
-];
 
 /// Runs these words beside these subjects, of which there are at most 64.
 fn run_with<R: Threads + Sync + AllocGlobal>(
@@ -81,6 +68,37 @@ fn assert_ran<R: Abort>(rt: &R, ran: &Ran, frames: u32, log: &str) {
     assert_eq!(rt; ran.report, Report::at(Status::Done, frames));
 }
 
+/// Lines that stand in a frame of a scenario: the frame's number, and the lines.
+type Part<'a> = (u32, &'a str);
+
+/// A rehearsal that runs to its end: how many frames it has, what stands in them, and the lines that it must write.
+#[derive(Clone, Copy)]
+struct Rehearsal<'a> {
+    frames: u32,
+    parts: &'a [Part<'a>],
+    lines: &'a [Line<'a>],
+}
+
+/// Appends a frame: those parts that stand in it.
+fn push_frame(text: &mut String, parts: &[Part<'_>], frame: u32) -> Result<(), AllocError> {
+    for part in parts.iter() {
+        if part.0 == frame {
+            text.push_str(part.1)?;
+        }
+    }
+    text.push_str("tick\n")
+}
+
+/// The text of a rehearsal.
+fn text_of(alloc: Global, rehearsal: &Rehearsal<'_>) -> Result<String, AllocError> {
+    let mut text = String::from_str(alloc, HEADER)?;
+    for frame in 0..rehearsal.frames {
+        push_frame(&mut text, rehearsal.parts, frame)?;
+    }
+    text.push_str("end\n")?;
+    Ok(text)
+}
+
 /// A rehearsal beside subjects, with the entries of two tables, which stand in rising places.
 #[derive(Clone, Copy)]
 struct Row {
@@ -90,64 +108,7 @@ struct Row {
     rehearsal: Rehearsal<'static>,
 }
 
-const ROWS: [Row; 10] = [
-    // One that hangs is restarted.
-    Row {
-        subjects: &OWN,
-        apps: &[(1, "NAV", 2, 2), (2, "PWR", 2, 2), (3, "THM", 2, 2)],
-        events: &[],
-        rehearsal: Rehearsal {
-            frames: 10,
-            parts: &[&[]],
-            lines: &[Line::Event("HS", 5, 0, 102, 3), Line::Text("5 restart PWR")],
-        },
-    },
-    // The scenario's own counters have no effect.
-    Row {
-        subjects: &OWN,
-        apps: &[(1, "LOAD", 1, 3)],
-        events: &[],
-        rehearsal: Rehearsal {
-            frames: 1,
-            parts: &[&[(0, "app LOAD 5\n")]],
-            lines: &[Line::Event("HS", 0, 0, 103, 3)],
-        },
-    },
-    // It begins anew once it is restarted, and hangs again.
-    Row {
-        subjects: &OWN,
-        apps: &[(1, "NAV", 2, 2), (2, "PWR", 2, 2), (3, "THM", 2, 2)],
-        events: &[],
-        rehearsal: Rehearsal {
-            frames: 12,
-            parts: &[&[(6, "send 18AEC0000001028A\n")]],
-            lines: &[
-                Line::Event("HS", 5, 0, 102, 3),
-                Line::Text("5 restart PWR"),
-                Line::Event("HS", 7, 1, 18, 2),
-                Line::Event("HS", 11, 2, 102, 3),
-                Line::Text("11 restart PWR"),
-            ],
-        },
-    },
-    // One that is deleted gives no counter any more.
-    Row {
-        subjects: &OWN,
-        apps: &[(1, "PWR", 2, 3)],
-        events: &[(1, "PWR", 7, 3)],
-        rehearsal: Rehearsal {
-            frames: 5,
-            parts: &[&[(
-                0,
-                "send 0808C0000025000003E800005057520000000000000000000000000000000000000700020000004200000001\n",
-            )]],
-            lines: &[
-                Line::Event("HS", 1, 0, 113, 3),
-                Line::Text("1 delete PWR"),
-                Line::Event("HS", 3, 1, 103, 3),
-            ],
-        },
-    },
+const ROWS: [Row; 4] = [
     // Two of one name are restarted and deleted together; none is left.
     Row {
         subjects: &[
@@ -159,14 +120,14 @@ const ROWS: [Row; 10] = [
         events: &[(1, "PWR", 7, 3)],
         rehearsal: Rehearsal {
             frames: 13,
-            parts: &[&[
+            parts: &[
                 (4, "send 18AEC0000001028A\n"),
                 (
                     9,
                     "send 0808C0000025000003E800005057520000000000000000000000000000000000000700020000004200000001\n",
                 ),
                 (10, "send 18AEC0000001028A\n"),
-            ]],
+            ],
             lines: &[
                 Line::Event("HS", 4, 0, 102, 3),
                 Line::Text("4 restart PWR"),
@@ -188,10 +149,10 @@ const ROWS: [Row; 10] = [
         events: &[(1, "XYZ", 7, 3)],
         rehearsal: Rehearsal {
             frames: 7,
-            parts: &[&[(
+            parts: &[(
                 0,
                 "send 0808C0000025000003E8000058595A0000000000000000000000000000000000000700020000004200000001\n",
-            )]],
+            )],
             lines: &[
                 Line::Event("HS", 1, 0, 102, 3),
                 Line::Text("1 restart XYZ"),
@@ -208,13 +169,13 @@ const ROWS: [Row; 10] = [
         events: &[(1, "PWR", 7, 3)],
         rehearsal: Rehearsal {
             frames: 7,
-            parts: &[&[
+            parts: &[
                 (
                     1,
                     "send 0808C0000025000003E800005057520000000000000000000000000000000000000700020000004200000001\n",
                 ),
                 (3, "send 18AEC0000001028A\n"),
-            ]],
+            ],
             lines: &[
                 Line::Event("HS", 2, 0, 102, 3),
                 Line::Text("2 restart PWR"),
@@ -236,7 +197,7 @@ const ROWS: [Row; 10] = [
         events: &[],
         rehearsal: Rehearsal {
             frames: 9,
-            parts: &[&[]],
+            parts: &[],
             lines: &[
                 Line::Event("HS", 3, 0, 101, 3),
                 Line::Text("3 reset"),
@@ -246,42 +207,6 @@ const ROWS: [Row; 10] = [
                 Line::Text("7 reset"),
                 Line::Event("HS", 7, 3, 102, 3),
                 Line::Text("7 restart PWR"),
-            ],
-        },
-    },
-    // A plan goes back to its last counter.
-    Row {
-        subjects: &[("THM", Sort::Listed(&[5, 6, 7], 2))],
-        apps: &[(1, "THM", 2, 2)],
-        events: &[],
-        rehearsal: Rehearsal {
-            frames: 11,
-            parts: &[&[(4, "send 18AEC0000001028A\n")]],
-            lines: &[
-                Line::Event("HS", 4, 0, 102, 3),
-                Line::Text("4 restart THM"),
-                Line::Event("HS", 5, 1, 18, 2),
-                Line::Event("HS", 9, 2, 102, 3),
-                Line::Text("9 restart THM"),
-            ],
-        },
-    },
-    // Plans of one counter.
-    Row {
-        subjects: &[
-            ("NINE", Sort::Listed(&[9], 0)),
-            ("NIL", Sort::Listed(&[0], 0)),
-        ],
-        apps: &[(1, "NINE", 2, 2), (2, "NIL", 2, 2)],
-        events: &[],
-        rehearsal: Rehearsal {
-            frames: 4,
-            parts: &[&[]],
-            lines: &[
-                Line::Event("HS", 1, 0, 102, 3),
-                Line::Text("1 restart NIL"),
-                Line::Event("HS", 2, 1, 102, 3),
-                Line::Text("2 restart NINE"),
             ],
         },
     },
@@ -299,7 +224,7 @@ fn subjects_are_watched(rt: HostRuntime) -> Result<(), Fail> {
     for row in ROWS.iter() {
         let apps = apps_file(rt.alloc(), row.apps)?;
         let events = events_file(rt.alloc(), row.events)?;
-        let text = text_of(rt.alloc(), HEADER, &row.rehearsal)?;
+        let text = text_of(rt.alloc(), &row.rehearsal)?;
         let log = log_of(rt.alloc(), row.rehearsal.lines)?;
         for words in WORDS {
             let ran = run_with(&rt, words, row.subjects, text.as_str(), &[&apps, &events])?;
@@ -309,34 +234,10 @@ fn subjects_are_watched(rt: HostRuntime) -> Result<(), Fail> {
     Ok(())
 }
 
-/// The rows of the program's own subjects, as the program makes them.
-#[test]
-fn own_subjects_are_watched(rt: HostRuntime) -> Result<(), Fail> {
-    let alloc = rt.alloc();
-    for row in ROWS[..4].iter() {
-        let apps = apps_file(alloc, row.apps)?;
-        let events = events_file(alloc, row.events)?;
-        let text = text_of(alloc, HEADER, &row.rehearsal)?;
-        let log = log_of(alloc, row.rehearsal.lines)?;
-        let mut shelf = shelf_of(alloc, text.as_str(), &[&apps, &events], &HONEST)?;
-        let mut out = MemSink::new(alloc, &[], 10_000)?;
-        let mut err = MemSink::new(alloc, &[], 256)?;
-        let given = Ok(args_of(&rt, &["vigil", "--subjects", "s", "a", "b"])?);
-        let report = rehearse_given(&rt, alloc, given, &mut shelf, &mut out, &mut err);
-        assert_ran(
-            &rt,
-            &Ran { report, out, err },
-            row.rehearsal.frames,
-            log.as_str(),
-        );
-    }
-    Ok(())
-}
-
 /// A counter that moves in the scenario, and is acted on where it stays.
 const STALLED: Rehearsal<'static> = Rehearsal {
     frames: 7,
-    parts: &[&[
+    parts: &[
         (0, "app LOAD 5\n"),
         (1, "app LOAD 5\n"),
         (2, "app LOAD 6\n"),
@@ -344,7 +245,7 @@ const STALLED: Rehearsal<'static> = Rehearsal {
         (4, "app LOAD 6\n"),
         (5, "app LOAD 6\n"),
         (6, "app LOAD 6\n"),
-    ]],
+    ],
     lines: &[
         Line::Event("HS", 5, 0, 102, 3),
         Line::Text("5 restart LOAD"),
@@ -355,7 +256,7 @@ const STALLED: Rehearsal<'static> = Rehearsal {
 #[test]
 fn flag_alone_counts(rt: HostRuntime) -> Result<(), Fail> {
     let apps = apps_file(rt.alloc(), &[(1, "LOAD", 3, 2)])?;
-    let text = text_of(rt.alloc(), HEADER, &STALLED)?;
+    let text = text_of(rt.alloc(), &STALLED)?;
     let empty = [
         Line::Event("HS", 2, 0, 102, 3),
         Line::Text("2 restart LOAD"),
@@ -449,7 +350,7 @@ const CROWD_APPS: [Monitor<'static>; 17] = [
 
 const CROWD_WATCHED: Rehearsal<'static> = Rehearsal {
     frames: 26,
-    parts: &[&[(11, "send 18AFC00000010089\n")]],
+    parts: &[(11, "send 18AFC00000010089\n")],
     lines: &[
         Line::Event("HS", 2, 0, 102, 3),
         Line::Text("2 restart N01"),
@@ -476,60 +377,11 @@ fn large_crowd_is_watched(rt: HostRuntime) -> Result<(), Fail> {
     let lists = crowd_lists(rt.alloc())?;
     let crowd = crowd_of(rt.alloc(), &names, &lists)?;
     let counts = counts_file(rt.alloc(), &crowd_counts(rt.alloc(), &names)?)?;
-    let text = text_of(rt.alloc(), HEADER, &CROWD_WATCHED)?;
+    let text = text_of(rt.alloc(), &CROWD_WATCHED)?;
     let log = log_of(rt.alloc(), CROWD_WATCHED.lines)?;
     for words in WORDS {
         let ran = run_with(&rt, words, &crowd, text.as_str(), &[&apps, &counts])?;
         assert_ran(&rt, &ran, CROWD_WATCHED.frames, log.as_str());
     }
-    Ok(())
-}
-
-/// Asserts how words end that name no rehearsal.
-fn assert_end<R: Threads + Sync + AllocGlobal + Abort>(
-    rt: &R,
-    words: &[&str],
-    report: Report,
-    told: &str,
-) -> Result<(), Fail> {
-    let ran = run_with(rt, words, &OWN, "", &[])?;
-    assert_text(rt, "out", ran.out.bytes(), "");
-    assert_text(rt, "err", ran.err.bytes(), told);
-    assert_eq!(rt; ran.report, report);
-    Ok(())
-}
-
-#[test]
-fn flag_stands_once_and_before_dashes(rt: HostRuntime) -> Result<(), Fail> {
-    let refused = "vigil: words refused\n";
-    let report = Report::at(Status::WordsRefused, 0);
-    assert_end(&rt, &["--subjects", "s", "--subjects"], report, refused)?;
-    assert_end(&rt, &["--subjects=true", "s"], report, refused)?;
-    assert_end(&rt, &["--subjects"], report, refused)?;
-    let unread = "vigil: read failed on file 0\n";
-    let report = Report::at(Status::ReadFailed, 0);
-    assert_end(&rt, &["--", "--subjects"], report, unread)?;
-    let unread = "vigil: read failed on file 1\n";
-    let report = Report::file_unread(1);
-    assert_end(&rt, &["s", "--", "--subjects"], report, unread)
-}
-
-/// Without tables nothing looks at the counters; with a monitor the summary is that of the log which the same scenario in a
-/// file gives beside the subjects.
-#[test]
-fn drills_run_beside_subjects(rt: HostRuntime) -> Result<(), Fail> {
-    let ran = run_with(&rt, &["--subjects", "drill:7"], &OWN, "", &[])?;
-    assert_ran(&rt, &ran, 2000, SUMMARY);
-    let apps = apps_file(rt.alloc(), &[(1, "LOAD", 2, 2), (2, "PWR", 3, 3)])?;
-    let text = drill_text(rt.alloc(), 7)?;
-    let text = std::str::from_utf8(&text).unwrap_or("no text");
-    let from_file = run_with(&rt, &["s", "a", "--subjects"], &OWN, text, &[&apps])?;
-    let log = from_file.out.bytes();
-    assert!(rt; log.starts_with(b"1 pkt 0808C0000025000F4241"));
-    let summary = summary_of(rt.alloc(), log)?;
-    let ran = run_with(&rt, &["drill:7", "a", "--subjects"], &OWN, "", &[&apps])?;
-    assert_ran(&rt, &ran, 2000, summary.as_str());
-    let without = run_beside(&rt, &DRILL[..2], "", &[&apps], &HONEST)?;
-    assert!(rt; without.out.bytes() != summary.as_bytes());
     Ok(())
 }

@@ -11,7 +11,7 @@ use std::test::Fail;
 use std::thread::Threads;
 
 /// The texts of a list, as a runtime gives them.
-pub fn args_of<R: AllocGlobal>(rt: &R, texts: &[&str]) -> Result<Args, Fail> {
+fn args_of<R: AllocGlobal>(rt: &R, texts: &[&str]) -> Result<Args, Fail> {
     let mut given = Vec::new(rt.alloc());
     for text in texts.iter() {
         given.push(String::from_str(rt.alloc(), text)?)?;

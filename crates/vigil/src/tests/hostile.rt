@@ -1,22 +1,15 @@
-//! One rehearsal with one table, each call of whose outside fails once, and each byte of which is changed or cut off.
+//! One rehearsal with one table, each call of whose shelf fails once; and texts that come in pieces.
 
-use super::runs::{HONEST, Line, Outside, assert_text, log_of, run_beside};
-use super::tables::{apps_file, dwell_file};
+use super::runs::{HONEST, Line, NOOP, Outside, assert_text, log_of, run_beside};
+use super::tables::{apps_file, dwell_file, pad};
 use rehearsal::{Report, Status};
 use std::alloc::Global;
 use std::process::Abort;
 use std::test::Fail;
 use std::thread::Threads;
 
-/// A no-op in the first of two frames, in 75 bytes.
-const SCENARIO: &str =
-    "epoch 1000\nregion RAM 0x1000 256\nstart\nsend 1888C000000100AE\ntick\ntick\nend\n";
-
 /// The log of both frames: the line of the second one, in 95 bytes.
 const LOG: [Line<'static>; 1] = [Line::Event("MM", 1, 0, 16, 2)];
-
-/// How many bytes a call moves at most.
-const PIECES: [u32; 2] = [1, 4096];
 
 /// How a rehearsal must end: its report, its error line, and how many bytes of the log are written.
 #[derive(Clone, Copy)]
@@ -37,15 +30,14 @@ fn first_bytes(bytes: &[u8], count: usize) -> &[u8] {
     &bytes[..bytes.len().min(count)]
 }
 
-/// Asserts how the rehearsal of this scenario ends beside this file.
+/// Asserts how the rehearsal of a no-op ends beside this file.
 fn assert_ending<R: Threads + Sync + AllocGlobal + Abort>(
     rt: &R,
-    scenario: &str,
     file: &[u8],
     outside: &Outside<'_>,
     ending: &Ending<'_>,
 ) -> Result<(), Fail> {
-    let ran = run_beside(rt, &["s", "a"], scenario, &[file], outside)?;
+    let ran = run_beside(rt, &["s", "a"], NOOP, &[file], outside)?;
     let log = log_of(rt.alloc(), &LOG)?;
     assert!(rt; ran.out.bytes() == first_bytes(log.as_bytes(), ending.written));
     assert_text(rt, "err", ran.err.bytes(), ending.told);
@@ -89,140 +81,34 @@ fn each_call_of_the_shelf_fails_once(rt: HostRuntime) -> Result<(), Fail> {
                 ..HONEST
             };
             let ending = ending_at_call(call, on_file, most);
-            assert_ending(&rt, SCENARIO, &file, &outside, &ending)?;
+            assert_ending(&rt, &file, &outside, &ending)?;
         }
     }
     Ok(())
 }
 
+/// Of two FILEs and the scenario one is told, and nothing is opened behind it.
 #[test]
-fn each_write_fails_once(rt: HostRuntime) -> Result<(), Fail> {
+fn shelf_fails_on_a_file(rt: HostRuntime) -> Result<(), Fail> {
     let file = table(rt.alloc())?;
-    for (most, calls) in [(1, 95), (4096, 1)] {
-        for call in 0..calls {
-            let fails = [call];
-            let outside = Outside {
-                out: &fails,
-                most,
-                ..HONEST
-            };
-            let ending = Ending {
-                report: Report::at(Status::WriteFailed, 1),
-                told: "vigil: write failed\n",
-                written: call as usize,
-            };
-            assert_ending(&rt, SCENARIO, &file, &outside, &ending)?;
-        }
-    }
-    Ok(())
-}
-
-/// Asserts that a file is refused for this reason, or that nothing is wrong where it is 0, with pieces of each length.
-fn assert_reason<R: Threads + Sync + AllocGlobal + Abort>(
-    rt: &R,
-    file: &[u8],
-    reason: u8,
-) -> Result<(), Fail> {
-    let told = format!(in rt.alloc(); "vigil: file 1 refused, reason {reason}, entry 0\n")?;
-    let ending = if reason == 0 {
-        Ending {
-            report: Report::at(Status::Done, 2),
-            told: "",
-            written: 95,
-        }
-    } else {
-        Ending {
-            report: Report::file_refused(1, 0, reason),
-            told: told.as_str(),
-            written: 0,
-        }
-    };
-    for most in PIECES {
-        let outside = Outside { most, ..HONEST };
-        assert_ending(rt, SCENARIO, file, &outside, &ending)?;
-    }
-    Ok(())
-}
-
-#[test]
-fn file_is_cut(rt: HostRuntime) -> Result<(), Fail> {
-    let file = table(rt.alloc())?;
-    for length in 0..320 {
-        let reason = if length < 116 { 1 } else { 6 };
-        assert_reason(&rt, first_bytes(&file, length), reason)?;
-    }
-    Ok(())
-}
-
-/// The file with one byte changed, by exclusive or with 0xFF.
-fn changed(alloc: Global, file: &[u8], place: usize) -> Result<Vec<u8>, Fail> {
-    let mut bytes = Vec::new(alloc);
-    for (index, byte) in file.iter().enumerate() {
-        bytes.push(if index == place { *byte ^ 0xFF } else { *byte })?;
-    }
-    Ok(bytes)
-}
-
-#[test]
-fn byte_of_the_headers_is_changed(rt: HostRuntime) -> Result<(), Fail> {
-    let file = table(rt.alloc())?;
-    for place in 0..116 {
-        let reason = match place {
-            0..=3 => 2,
-            4..=7 => 3,
-            8..=67 => 0,
-            68..=71 => 4,
-            72..=75 => 6,
-            _ => 5,
+    for (call, number) in [(0, 1), (2, 1), (3, 2), (5, 2), (6, 0), (7, 0)] {
+        let fails = [call];
+        let outside = Outside {
+            shelf: &fails,
+            ..HONEST
         };
-        assert_reason(&rt, &changed(rt.alloc(), &file, place)?, reason)?;
+        let ran = run_beside(&rt, &["s", "a", "b"], NOOP, &[&file, &file], &outside)?;
+        assert_eq!(rt; ran.report, Report::file_unread(number), "at {call}");
     }
     Ok(())
 }
 
-#[test]
-fn scenario_is_cut(rt: HostRuntime) -> Result<(), Fail> {
-    let file = table(rt.alloc())?;
-    let unended = Ending {
-        report: Report::refused(6, 7, 2),
-        told: "vigil: scenario refused at line 6, reason 7\n",
-        written: 95,
-    };
-    let bad = Ending {
-        report: Report::refused(7, 1, 2),
-        told: "vigil: scenario refused at line 7, reason 1\n",
-        written: 95,
-    };
-    let done = Ending {
-        report: Report::at(Status::Done, 2),
-        told: "",
-        written: 95,
-    };
-    let endings = [
-        (70, unended),
-        (71, unended),
-        (72, bad),
-        (73, bad),
-        (74, done),
-        (75, done),
-    ];
-    for (length, ending) in endings.iter() {
-        let cut = first_bytes(SCENARIO.as_bytes(), *length);
-        let scenario = std::str::from_utf8(cut).unwrap_or("no text");
-        for most in PIECES {
-            let outside = Outside { most, ..HONEST };
-            assert_ending(&rt, scenario, &file, &outside, ending)?;
-        }
-    }
-    Ok(())
-}
-
-/// A refusal is the same where the output of its line fails.
+/// A refusal stays what it is where the output of its line fails.
 #[test]
 fn error_output_fails(rt: HostRuntime) -> Result<(), Fail> {
     let monitors = [(1, "A", 2, 3), (2, "B", 3, 2), (3, "C", 4, 12)];
     let file = apps_file(rt.alloc(), &monitors)?;
-    for most in PIECES {
+    for most in [1, 4096] {
         let outside = Outside {
             err: &[0],
             most,
@@ -233,7 +119,79 @@ fn error_output_fails(rt: HostRuntime) -> Result<(), Fail> {
             told: "",
             written: 0,
         };
-        assert_ending(&rt, SCENARIO, &file, &outside, &ending)?;
+        assert_ending(&rt, &file, &outside, &ending)?;
+    }
+    Ok(())
+}
+
+// Scenarios that are refused, with the line, the reason and how many frames there were.
+const REFUSED: [(&str, u32, u8, u32); 3] = [
+    ("", 0, 7, 0),
+    (
+        "epoch 1000\nregion RAM 0x1000 256\nregion RAM 0x1080 256\nstart\ntick\nend\n",
+        4,
+        4,
+        0,
+    ),
+    (
+        "epoch 1000\nregion RAM 0x1000 256\nstart\ntick\ntick\njump\n",
+        6,
+        1,
+        2,
+    ),
+];
+
+#[test]
+fn texts_come_in_pieces(rt: HostRuntime) -> Result<(), Fail> {
+    for most in [1, 7, 4096] {
+        for (text, line, reason, frames) in REFUSED {
+            let outside = Outside { most, ..HONEST };
+            let ran = run_beside(&rt, &["s"], text, &[], &outside)?;
+            assert_eq!(rt;
+                ran.report,
+                Report::refused(line, reason, frames),
+                "at {text}"
+            );
+        }
+    }
+    Ok(())
+}
+
+#[test]
+fn files_are_read_byte_by_byte(rt: HostRuntime) -> Result<(), Fail> {
+    let file = dwell_file(rt.alloc(), "MD.DWELL_TABLE1", 1, &[(25, 3, 1, 0)])?;
+    for most in [1, 7, 320, 321] {
+        let outside = Outside { most, ..HONEST };
+        let ran = run_beside(&rt, &["s", "a"], NOOP, &[&file], &outside)?;
+        assert_eq!(rt; ran.report, Report::file_refused(1, 25, 11), "at {most}");
+    }
+    Ok(())
+}
+
+/// A file is read to its 65,701st byte and not on: the call behind it, which would fail, isn't made. The call before it is.
+#[test]
+fn long_file_is_not_read_on(rt: HostRuntime) -> Result<(), Fail> {
+    let mut long = Vec::new(rt.alloc());
+    pad(&mut long, 65_800)?;
+    let told = "vigil: file 1 refused, reason 9, entry 0\n";
+    for (call, most) in [(18, 4096), (65_702, 1)] {
+        let fails = [call];
+        let outside = Outside {
+            shelf: &fails,
+            most,
+            ..HONEST
+        };
+        let ran = run_beside(&rt, &["s", "a"], NOOP, &[&long], &outside)?;
+        assert_eq!(rt; ran.report, Report::file_refused(1, 0, 9));
+        assert_text(&rt, "err", ran.err.bytes(), told);
+        let last = [call.saturating_sub(1)];
+        let outside = Outside {
+            shelf: &last,
+            most,
+            ..HONEST
+        };
+        let ran = run_beside(&rt, &["s", "a"], NOOP, &[&long], &outside)?;
+        assert_eq!(rt; ran.report, Report::file_unread(1));
     }
     Ok(())
 }

@@ -10,6 +10,10 @@ use std::thread::Threads;
 /// The header of most scenarios.
 pub const HEADER: &str = "epoch 1000\nregion RAM 0x1000 256\nstart\n";
 
+/// One no-op of MM, which is answered in the second frame.
+pub const NOOP: &str =
+    "epoch 1000\nregion RAM 0x1000 256\nstart\nsend 1888C000000100AE\ntick\ntick\nend\n";
+
 /// How many bytes an output has room for.
 const ROOM: u32 = 16_000_000;
 
@@ -57,15 +61,7 @@ pub fn run<R: Threads + Sync + AllocGlobal>(
     run_beside(rt, words, text, &[], outside)
 }
 
-/// The file of this place, from 0, and an empty one where there is none.
-fn nth<'a>(files: &[&'a [u8]], place: usize) -> &'a [u8] {
-    match files.get(place) {
-        Some(file) => *file,
-        None => b"",
-    }
-}
-
-/// Runs these words over a shelf whose file `s` is this text, and whose files `a` to `n` are the first fourteen of these.
+/// Runs these words over a shelf whose file `s` is this text, and whose files `a` to `f` are the first six of these.
 pub fn run_beside<R: Threads + Sync + AllocGlobal>(
     rt: &R,
     words: &[&str],
@@ -76,7 +72,15 @@ pub fn run_beside<R: Threads + Sync + AllocGlobal>(
     run_through(rt, words, text, files, outside, &OpenGate)
 }
 
-/// A shelf whose file `s` is this text, and whose files `a` to `n` are the first fourteen of these.
+/// The file of this place, from 0, and an empty one where there is none.
+fn nth<'a>(files: &[&'a [u8]], place: usize) -> &'a [u8] {
+    match files.get(place) {
+        Some(file) => *file,
+        None => b"",
+    }
+}
+
+/// A shelf whose file `s` is this text, and whose files `a` to `f` are the first six of these.
 pub fn shelf_of(
     alloc: Global,
     text: &str,
@@ -91,18 +95,10 @@ pub fn shelf_of(
     shelf.put("d", nth(files, 3))?;
     shelf.put("e", nth(files, 4))?;
     shelf.put("f", nth(files, 5))?;
-    shelf.put("g", nth(files, 6))?;
-    shelf.put("h", nth(files, 7))?;
-    shelf.put("i", nth(files, 8))?;
-    shelf.put("j", nth(files, 9))?;
-    shelf.put("k", nth(files, 10))?;
-    shelf.put("l", nth(files, 11))?;
-    shelf.put("m", nth(files, 12))?;
-    shelf.put("n", nth(files, 13))?;
     Ok(shelf)
 }
 
-/// The same, where each job and each bank goes through this gate.
+/// Runs these words over such a shelf, where each job and each bank goes through this gate.
 pub fn run_through<R: Threads + Sync + AllocGlobal, G: Gate>(
     rt: &R,
     words: &[&str],
@@ -151,31 +147,18 @@ fn push_event(
     write!(log, "{id:04X}{kind:04X}0000004200000001\n")
 }
 
-/// Appends a line.
-pub fn push_line(log: &mut String, line: Line<'_>) -> Result<(), AllocError> {
-    match line {
-        Line::Event(name, frame, count, id, kind) => {
-            push_event(log, name, frame, count, id, kind)
-        }
-        Line::Text(text) => write!(log, "{text}\n"),
-    }
-}
-
 /// The log that has these lines.
 pub fn log_of(alloc: Global, lines: &[Line<'_>]) -> Result<String, AllocError> {
     let mut log = String::new(alloc);
     for line in lines.iter() {
-        push_line(&mut log, *line)?;
+        match *line {
+            Line::Event(name, frame, count, id, kind) => {
+                push_event(&mut log, name, frame, count, id, kind)?;
+            }
+            Line::Text(text) => write!(log, "{text}\n")?,
+        }
     }
     Ok(log)
-}
-
-/// Appends a text several times.
-pub fn push_times(text: &mut String, part: &str, times: u32) -> Result<(), AllocError> {
-    for _ in 0..times {
-        text.push_str(part)?;
-    }
-    Ok(())
 }
 
 /// Asserts that what was written is this text.
@@ -183,114 +166,4 @@ pub fn assert_text<R: Abort>(rt: &R, name: &str, written: &[u8], text: &str) {
     let same = written == text.as_bytes();
     let shown = std::str::from_utf8(written).unwrap_or("no text");
     assert!(rt; same, "{name} wrote:\n{shown}and not:\n{text}");
-}
-
-/// Asserts that this text runs to its end, in so many frames, and gives this log.
-pub fn assert_log<R: Threads + Sync + AllocGlobal + Abort>(
-    rt: &R,
-    text: &str,
-    frames: u32,
-    log: &str,
-) -> Result<(), Fail> {
-    assert_log_beside(rt, &[], text, frames, log)
-}
-
-// The words of a rehearsal with six files.
-const WORDS: [&str; 7] = ["s", "a", "b", "c", "d", "e", "f"];
-
-/// Asserts that this text runs to its end beside these files, in so many frames, and gives this log.
-pub fn assert_log_beside<R: Threads + Sync + AllocGlobal + Abort>(
-    rt: &R,
-    files: &[&[u8]],
-    text: &str,
-    frames: u32,
-    log: &str,
-) -> Result<(), Fail> {
-    let words = &WORDS[..files.len().min(6) + 1];
-    let ran = run_beside(rt, words, text, files, &HONEST)?;
-    assert_text(rt, "out", ran.out.bytes(), log);
-    assert_text(rt, "err", ran.err.bytes(), "");
-    assert_eq!(rt; ran.report, Report::at(Status::Done, frames));
-    Ok(())
-}
-
-/// Asserts that a header and a body run to their end, in so many frames, and give these lines.
-pub fn assert_lines<R: Threads + Sync + AllocGlobal + Abort>(
-    rt: &R,
-    header: &str,
-    body: &str,
-    frames: u32,
-    lines: &[Line<'_>],
-) -> Result<(), Fail> {
-    assert_lines_beside(rt, header, &[], body, frames, lines)
-}
-
-/// Asserts that a header and a body run to their end beside these files, in so many frames, and give these lines.
-pub fn assert_lines_beside<R: Threads + Sync + AllocGlobal + Abort>(
-    rt: &R,
-    header: &str,
-    files: &[&[u8]],
-    body: &str,
-    frames: u32,
-    lines: &[Line<'_>],
-) -> Result<(), Fail> {
-    let mut text = String::from_str(rt.alloc(), header)?;
-    text.push_str(body)?;
-    let log = log_of(rt.alloc(), lines)?;
-    assert_log_beside(rt, files, text.as_str(), frames, log.as_str())
-}
-
-/// Lines that stand in a frame of a scenario: the frame's number, and the lines.
-pub type Part<'a> = (u32, &'a str);
-
-/// A rehearsal that runs to its end: how many frames it has, what stands in them, and the lines that it must write.
-#[derive(Clone, Copy)]
-pub struct Rehearsal<'a> {
-    pub frames: u32,
-    pub parts: &'a [&'a [Part<'a>]],
-    pub lines: &'a [Line<'a>],
-}
-
-/// Appends those parts that stand in a frame.
-fn push_parts(text: &mut String, parts: &[Part<'_>], frame: u32) -> Result<(), AllocError> {
-    for part in parts.iter() {
-        if part.0 == frame {
-            text.push_str(part.1)?;
-        }
-    }
-    Ok(())
-}
-
-/// Appends a frame.
-fn push_frame(text: &mut String, parts: &[&[Part<'_>]], frame: u32) -> Result<(), AllocError> {
-    for some in parts.iter() {
-        push_parts(text, some, frame)?;
-    }
-    text.push_str("tick\n")
-}
-
-/// The text of a rehearsal.
-pub fn text_of(
-    alloc: Global,
-    header: &str,
-    rehearsal: &Rehearsal<'_>,
-) -> Result<String, AllocError> {
-    let mut text = String::from_str(alloc, header)?;
-    for frame in 0..rehearsal.frames {
-        push_frame(&mut text, rehearsal.parts, frame)?;
-    }
-    text.push_str("end\n")?;
-    Ok(text)
-}
-
-/// Asserts what a rehearsal beside these files gives.
-pub fn assert_rehearsal<R: Threads + Sync + AllocGlobal + Abort>(
-    rt: &R,
-    header: &str,
-    files: &[&[u8]],
-    rehearsal: &Rehearsal<'_>,
-) -> Result<(), Fail> {
-    let text = text_of(rt.alloc(), header, rehearsal)?;
-    let log = log_of(rt.alloc(), rehearsal.lines)?;
-    assert_log_beside(rt, files, text.as_str(), rehearsal.frames, log.as_str())
 }

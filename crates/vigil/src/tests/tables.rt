@@ -30,13 +30,13 @@ pub fn pad(bytes: &mut Vec<u8>, len: usize) -> Result<(), Fail> {
     Ok(())
 }
 
-/// The headers of a table file that says so many bytes of payload, at this offset.
-pub fn headers(alloc: Global, name: &str, offset: u32, payload: u32) -> Result<Vec<u8>, Fail> {
+/// The headers of a table file that says so many bytes of payload.
+fn headers(alloc: Global, name: &str, payload: u32) -> Result<Vec<u8>, Fail> {
     let mut bytes = Vec::new(alloc);
     push_u32(&mut bytes, 0x6346_4531)?;
     push_u32(&mut bytes, 8)?;
     pad(&mut bytes, 68)?;
-    push_u32(&mut bytes, offset)?;
+    push_u32(&mut bytes, 0)?;
     push_u32(&mut bytes, payload)?;
     bytes.extend_from_slice(name.as_bytes())?;
     pad(&mut bytes, 116)?;
@@ -66,7 +66,7 @@ pub fn dwell_file(
     enabled: u16,
     entries: &[Dwelling],
 ) -> Result<Vec<u8>, Fail> {
-    let mut bytes = headers(alloc, name, 0, 204)?;
+    let mut bytes = headers(alloc, name, 204)?;
     push_u16(&mut bytes, enabled)?;
     for entry in entries.iter() {
         let (place, len, delay, at) = *entry;
@@ -81,7 +81,7 @@ pub fn dwell_file(
 
 /// A file of a checksum table with these entries, whose places rise.
 pub fn segments_file(alloc: Global, name: &str, entries: &[Segment]) -> Result<Vec<u8>, Fail> {
-    let mut bytes = headers(alloc, name, 0, 192)?;
+    let mut bytes = headers(alloc, name, 192)?;
     for entry in entries.iter() {
         let (place, state, start, len) = *entry;
         pad(&mut bytes, place.saturating_mul(12).saturating_add(104))?;
@@ -100,9 +100,6 @@ pub type Monitor<'a> = (usize, &'a str, u16, u16);
 /// An entry of execution counters: its place from 1, its name and its type.
 pub type Count<'a> = (usize, &'a str, u16);
 
-/// An entry of message actions: its place from 1, its state, its cooldown and its packet.
-pub type Action<'a> = (usize, u16, u16, &'a [u8]);
-
 /// Appends a name, in 20 bytes.
 fn push_name(bytes: &mut Vec<u8>, name: &str) -> Result<(), Fail> {
     let len = bytes.len().saturating_add(20);
@@ -117,7 +114,7 @@ fn monitors_file(
     payload: u16,
     entries: &[Monitor<'_>],
 ) -> Result<Vec<u8>, Fail> {
-    let mut bytes = headers(alloc, name, 0, u32::from(payload))?;
+    let mut bytes = headers(alloc, name, u32::from(payload))?;
     for entry in entries.iter() {
         let (place, name, number, action) = *entry;
         pad(&mut bytes, place.saturating_mul(24).saturating_add(92))?;
@@ -141,7 +138,7 @@ pub fn events_file(alloc: Global, entries: &[Monitor<'_>]) -> Result<Vec<u8>, Fa
 
 /// A file of execution counters with these entries, whose places rise.
 pub fn counts_file(alloc: Global, entries: &[Count<'_>]) -> Result<Vec<u8>, Fail> {
-    let mut bytes = headers(alloc, "HS.ExeCount_Tbl", 0, 704)?;
+    let mut bytes = headers(alloc, "HS.ExeCount_Tbl", 704)?;
     for entry in entries.iter() {
         let (place, name, sort) = *entry;
         pad(&mut bytes, place.saturating_mul(22).saturating_add(94))?;
@@ -152,87 +149,8 @@ pub fn counts_file(alloc: Global, entries: &[Count<'_>]) -> Result<Vec<u8>, Fail
     Ok(bytes)
 }
 
-/// A file of message actions with these entries, whose places rise.
-pub fn actions_file(alloc: Global, entries: &[Action<'_>]) -> Result<Vec<u8>, Fail> {
-    let mut bytes = headers(alloc, "HS.MsgActs_Tbl", 0, 544)?;
-    for entry in entries.iter() {
-        let (place, state, cooldown, packet) = *entry;
-        pad(&mut bytes, place.saturating_mul(68).saturating_add(48))?;
-        push_u16(&mut bytes, state)?;
-        push_u16(&mut bytes, cooldown)?;
-        bytes.extend_from_slice(packet)?;
-    }
-    pad(&mut bytes, 660)?;
-    Ok(bytes)
-}
-
-/// A watchpoint: its place from 1, then its type, message id and offset, then its operator, mask and limit.
-pub type Watchpoint = (usize, (u16, u16, u16), (u16, u32, u32));
-
-/// An actionpoint: its place from 1, its state, its sequence, its number of failures, and its words.
-pub type Actionpoint<'a> = (usize, u16, u16, u16, &'a [u16]);
-
-/// A file of watchpoints with these entries, whose places rise.
-pub fn watch_file(alloc: Global, entries: &[Watchpoint]) -> Result<Vec<u8>, Fail> {
-    let mut bytes = headers(alloc, "LC.WDT_Tbl", 0, 512)?;
-    for entry in entries.iter() {
-        let (place, value, comparison) = *entry;
-        let (sort, id, offset) = value;
-        let (operator, mask, limit) = comparison;
-        pad(&mut bytes, place.saturating_mul(16).saturating_add(100))?;
-        push_u16(&mut bytes, sort)?;
-        push_u16(&mut bytes, id)?;
-        push_u16(&mut bytes, offset)?;
-        push_u16(&mut bytes, operator)?;
-        push_u32(&mut bytes, mask)?;
-        push_u32(&mut bytes, limit)?;
-    }
-    pad(&mut bytes, 628)?;
-    Ok(bytes)
-}
-
-/// A file of actionpoints with these entries, whose places rise. Each has as many words as it is given.
-pub fn acts_file(alloc: Global, entries: &[Actionpoint<'_>]) -> Result<Vec<u8>, Fail> {
-    let mut bytes = headers(alloc, "LC.ADT_Tbl", 0, 640)?;
-    for entry in entries.iter() {
-        let (place, state, sequence, failures, words) = *entry;
-        pad(&mut bytes, place.saturating_mul(40).saturating_add(76))?;
-        push_u16(&mut bytes, state)?;
-        push_u16(&mut bytes, sequence)?;
-        push_u16(&mut bytes, failures)?;
-        push_u16(&mut bytes, words.len().min(65_535) as u16)?;
-        for word in words.iter() {
-            push_u16(&mut bytes, *word)?;
-        }
-    }
-    pad(&mut bytes, 756)?;
-    Ok(bytes)
-}
-
-/// A command of an absolute sequence: its number, its time and its packet.
-pub type Timed<'a> = (u16, u32, &'a [u8]);
-
 /// A command of a relative sequence: its seconds and its packet.
 pub type Relative<'a> = (u16, &'a [u8]);
-
-/// A file of a sequence with this payload, of at most 65,536 bytes.
-pub fn sequence_file(alloc: Global, name: &str, payload: &[u8]) -> Result<Vec<u8>, Fail> {
-    let mut bytes = headers(alloc, name, 0, payload.len().min(65_536) as u32)?;
-    bytes.extend_from_slice(payload)?;
-    Ok(bytes)
-}
-
-/// A file of an absolute sequence with these commands, as they are stored.
-pub fn ats_file(alloc: Global, name: &str, commands: &[Timed<'_>]) -> Result<Vec<u8>, Fail> {
-    let mut payload = Vec::new(alloc);
-    for command in commands.iter() {
-        let (number, time, packet) = *command;
-        push_u16(&mut payload, number)?;
-        push_u32(&mut payload, time)?;
-        payload.extend_from_slice(packet)?;
-    }
-    sequence_file(alloc, name, &payload)
-}
 
 /// A file of a relative sequence with these commands.
 pub fn rts_file(alloc: Global, name: &str, commands: &[Relative<'_>]) -> Result<Vec<u8>, Fail> {
@@ -242,5 +160,7 @@ pub fn rts_file(alloc: Global, name: &str, commands: &[Relative<'_>]) -> Result<
         push_u16(&mut payload, seconds)?;
         payload.extend_from_slice(packet)?;
     }
-    sequence_file(alloc, name, &payload)
+    let mut bytes = headers(alloc, name, payload.len().min(2048) as u32)?;
+    bytes.extend_from_slice(&payload)?;
+    Ok(bytes)
 }

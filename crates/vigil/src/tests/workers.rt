@@ -1,8 +1,8 @@
 //! A rehearsal of many frames, on any number of workers.
 
-use super::runs::{HONEST, Line, Outside, Ran, assert_text, log_of, run_beside, run_through};
-use super::tables::{Timed, apps_file, ats_file, dwell_file, load_file, rts_file, segments_file};
-use fsw_outside::{Gate, NoMemory};
+use super::runs::{HONEST, Line, NOOP, Outside, assert_text, log_of, run_beside, run_through};
+use super::tables::{apps_file, dwell_file, load_file, rts_file, segments_file};
+use fsw_outside::Gate;
 use rehearsal::{Report, Status};
 use std::alloc::{AllocError, Global};
 use std::process::Abort;
@@ -16,8 +16,7 @@ const HEADER: &str = "epoch 1000\nregion RAM 0 131072\nregion EEPROM 0x20000 409
 /// The commands of a frame, by the last digit of its number.
 fn commands(digit: u32) -> &'static str {
     match digit {
-        1 => "send 18A9C0000003028E0001\nsend 18A9C000000307880002\nsend 18A9C000000307890003\n\
-            send 18A9C0000003078E0004\nsend 18A9C0000003078F0005\nsend 18A9C0000003078C0006\n",
+        1 => "send 18A9C0000003078B0001\nsend 18A9C000000304880001\n",
         7 => "send 1888C000000A08DB000001000000012C5A\n\
             send 1888C000000305A80001\n",
         8 => "send 1888C00000090D06000000800000012C\n\
@@ -54,80 +53,27 @@ fn scenario(alloc: Global) -> Result<String, AllocError> {
     Ok(text)
 }
 
-// The words of a rehearsal beside fourteen files, behind which stands a number of workers.
-const WORDS: [&str; 15] = [
-    "s", "a", "b", "c", "d", "e", "f", "g", "h", "i", "j", "k", "l", "m", "n",
+// The words of a rehearsal beside six files, on one worker, on sixteen, and on others.
+const ON_ONE: &[&str] = &["--workers", "1", "s", "a", "b", "c", "d", "e", "f"];
+
+const ON_SIXTEEN: &[&str] = &["s", "a", "b", "c", "d", "e", "f", "--workers", "16"];
+
+const ON_OTHERS: [&[&str]; 3] = [
+    &["--workers", "2", "s", "a", "b", "c", "d", "e", "f"],
+    &["--workers", "5", "s", "a", "b", "c", "d", "e", "f"],
+    ON_SIXTEEN,
 ];
 
-/// What an absolute sequence holds in turn: no-ops of three applications, and starts of five relative sequences.
-const PACKETS: [&[u8]; 8] = [
-    b"\x18\x88\xC0\x00\x00\x01\x00\xAE",
-    b"\x18\xA9\xC0\x00\x00\x03\x04\x8B\x00\x02",
-    b"\x18\x90\xC0\x00\x00\x01\x00\xB6",
-    b"\x18\xA9\xC0\x00\x00\x03\x04\x8A\x00\x03",
-    b"\x18\x9F\xC0\x00\x00\x01\x00\xB9",
-    b"\x18\xA9\xC0\x00\x00\x03\x04\x8D\x00\x04",
-    b"\x18\xA9\xC0\x00\x00\x03\x04\x8C\x00\x05",
-    b"\x18\xA9\xC0\x00\x00\x03\x04\x8F\x00\x06",
-];
+/// The no-op of MM.
+const MM_NOOP: &[u8] = b"\x18\x88\xC0\x00\x00\x01\x00\xAE";
 
 /// What an event has that tells the end of a relative sequence.
 const SEQUENCE_ENDED: &str = "53430000000000000000000000000000000000000068";
 
-/// A file of an absolute sequence of forty commands, seven seconds from one to the next.
-fn forty_commands(alloc: Global) -> Result<Vec<u8>, Fail> {
-    let mut commands: Vec<Timed<'static>> = Vec::new(alloc);
-    let mut number = 0;
-    for _ in 0..5 {
-        for packet in PACKETS {
-            number = u16::saturating_add(number, 1);
-            commands.push((
-                number,
-                u32::from(number).saturating_mul(7).saturating_add(1000),
-                packet,
-            ))?;
-        }
-    }
-    ats_file(alloc, "SC.ATS_TBL1", &commands)
-}
-
-/// A file of a relative sequence of two no-ops, the second this many seconds behind the first.
-fn two_commands(alloc: Global, name: &str, seconds: u16) -> Result<Vec<u8>, Fail> {
-    let [first, _, second, _, _, _, _, _] = PACKETS;
-    rts_file(alloc, name, &[(1, first), (seconds, second)])
-}
-
-/// Files of the six dwell and checksum tables.
-fn readings(alloc: Global) -> Result<[Vec<u8>; 6], Fail> {
-    Ok([
-        dwell_file(
-            alloc,
-            "MD.DWELL_TABLE1",
-            1,
-            &[(1, 1, 1, 0x100), (2, 4, 2, 0x104)],
-        )?,
-        dwell_file(alloc, "MD.DWELL_TABLE2", 1, &[(1, 2, 3, 0x2000)])?,
-        dwell_file(alloc, "MD.DWELL_TABLE3", 0, &[(1, 1, 5, 0x1FFFF)])?,
-        dwell_file(
-            alloc,
-            "MD.DWELL_TABLE4",
-            1,
-            &[(1, 4, 0, 0x20000), (2, 1, 9, 0x80)],
-        )?,
-        segments_file(alloc, "CS.DefEepromTbl", &[(1, 1, 0x20000, 4096)])?,
-        segments_file(
-            alloc,
-            "CS.DefMemoryTbl",
-            &[(1, 1, 0x100, 1500), (16, 1, 0, 64)],
-        )?,
-    ])
-}
-
-/// With five application monitors, four dwell tables, two checksum tables, an absolute sequence and six relative ones.
+/// Five application monitors, two dwell tables, a checksum table, a relative sequence and a load file.
 #[test]
 fn rehearsal_is_the_same_on_workers(rt: HostRuntime) -> Result<(), Fail> {
     let alloc = rt.alloc();
-    let text = scenario(alloc)?;
     let monitors = [
         (1, "A", 2, 3),
         (2, "B", 3, 2),
@@ -136,49 +82,16 @@ fn rehearsal_is_the_same_on_workers(rt: HostRuntime) -> Result<(), Fail> {
         (32, "E", 61, 3),
     ];
     let apps = apps_file(alloc, &monitors)?;
-    let [first, second, third, fourth, eeprom, memory] = readings(alloc)?;
-    let commands = forty_commands(alloc)?;
-    let one = two_commands(alloc, "SC.RTS_TBL001", 3)?;
-    let two = two_commands(alloc, "SC.RTS_TBL002", 0)?;
-    let three = two_commands(alloc, "SC.RTS_TBL003", 5)?;
-    let four = two_commands(alloc, "SC.RTS_TBL004", 1)?;
-    let five = two_commands(alloc, "SC.RTS_TBL005", 11)?;
-    let six = two_commands(alloc, "SC.RTS_TBL006", 40)?;
-    let files: [&[u8]; 14] = [
-        &apps, &first, &second, &third, &fourth, &eeprom, &memory, &commands, &one, &two, &three,
-        &four, &five, &six,
-    ];
-    compare_runs(&rt, text.as_str(), &files)
-}
-
-/// A rehearsal beside these files on so many workers, through a gate that holds nothing.
-fn run_on<R: Threads + Sync + AllocGlobal>(
-    rt: &R,
-    workers: &str,
-    text: &str,
-    files: &[&[u8]],
-    outside: &Outside<'_>,
-) -> Result<Ran, NoMemory> {
-    let words = [
-        "--workers",
-        workers,
-        "s",
-        "a",
-        "b",
-        "c",
-        "d",
-        "e",
-        "f",
-        "g",
-        "h",
-        "i",
-        "j",
-        "k",
-        "l",
-        "m",
-        "n",
-    ];
-    run_beside(rt, &words[..files.len().min(14) + 3], text, files, outside)
+    let first = [(1, 1, 1, 0x100), (2, 4, 2, 0x104)];
+    let first = dwell_file(alloc, "MD.DWELL_TABLE1", 1, &first)?;
+    let fourth = [(1, 4, 0, 0x20000), (2, 1, 9, 0x80)];
+    let fourth = dwell_file(alloc, "MD.DWELL_TABLE4", 1, &fourth)?;
+    let memory = [(1, 1, 0x100, 1500), (16, 1, 0, 64)];
+    let memory = segments_file(alloc, "CS.DefMemoryTbl", &memory)?;
+    let sequence = rts_file(alloc, "SC.RTS_TBL001", &[(1, MM_NOOP), (3, MM_NOOP)])?;
+    let load = load_file(alloc, 0xFFC0, 128, 7)?;
+    let files: [&[u8]; 6] = [&apps, &first, &fourth, &memory, &sequence, &load];
+    compare_runs(&rt, scenario(alloc)?.as_str(), &files)
 }
 
 /// The log by the words as they are, on several numbers of workers, and a first part of it where the output fails.
@@ -187,53 +100,23 @@ fn compare_runs<R: Threads + Sync + AllocGlobal + Abort>(
     text: &str,
     files: &[&[u8]],
 ) -> Result<(), Fail> {
-    let ran = run_beside(rt, &WORDS, text, files, &HONEST)?;
+    let ran = run_beside(rt, ON_ONE, text, files, &HONEST)?;
     assert_eq!(rt; ran.report, Report::at(Status::Done, 300));
     let log = std::str::from_utf8(ran.out.bytes()).unwrap_or("no text");
     assert!(rt; log.contains(SEQUENCE_ENDED));
-    for workers in ["1", "2", "5", "16"] {
-        let on_workers = run_on(rt, workers, text, files, &HONEST)?;
-        assert_text(rt, workers, on_workers.out.bytes(), log);
+    for words in ON_OTHERS {
+        let on_workers = run_beside(rt, words, text, files, &HONEST)?;
+        assert_text(rt, "out on workers", on_workers.out.bytes(), log);
     }
     let failing = Outside {
         out: &[1],
         ..HONEST
     };
-    let cut = run_on(rt, "16", text, files, &failing)?;
+    let cut = run_beside(rt, ON_SIXTEEN, text, files, &failing)?;
     assert!(rt; cut.report.status == Status::WriteFailed);
     let written = cut.out.bytes();
     assert!(rt; !written.is_empty() && written.len() < ran.out.bytes().len());
     assert!(rt; ran.out.bytes().starts_with(written));
-    Ok(())
-}
-
-// Fills of two whole banks and a load file over their edge; then a dump over the edge, and peeks of both banks.
-const LOADS: &str = "epoch 1000\n\
-    region RAM 0 131072\n\
-    start\n\
-    send 1888C000000A08AD000000000001000001\n\
-    send 1888C000000A08AF000100000001000002\n\
-    send 1888C000000305A80001\n\
-    tick\n\
-    send 1888C00000090D140000FFC000000080\n\
-    send 1888C000000602A30800000000\n\
-    send 1888C000000602A2080001FFFF\n\
-    tick\n\
-    tick\n\
-    end\n";
-
-#[test]
-fn loads_over_banks_are_the_same_on_workers(rt: HostRuntime) -> Result<(), Fail> {
-    let load = load_file(rt.alloc(), 0xFFC0, 128, 7)?;
-    let files: [&[u8]; 1] = [&load];
-    let one = run_on(&rt, "1", LOADS, &files, &HONEST)?;
-    assert_eq!(rt; one.report, Report::at(Status::Done, 3));
-    let log = std::str::from_utf8(one.out.bytes()).unwrap_or("no text");
-    assert!(rt; log.contains("0000FFC0008007070707"));
-    for workers in ["2", "16"] {
-        let more = run_on(&rt, workers, LOADS, &files, &HONEST)?;
-        assert_text(&rt, workers, more.out.bytes(), log);
-    }
     Ok(())
 }
 
@@ -265,15 +148,6 @@ impl Gate for Meeting {
         }
     }
 }
-
-// One no-op, which is answered in the second frame.
-const NOOP: &str = "epoch 1000\n\
-    region RAM 0x1000 256\n\
-    start\n\
-    send 1888C000000100AE\n\
-    tick\n\
-    tick\n\
-    end\n";
 
 /// Runs the no-op on two workers, where some jobs are held until others have entered, and says which were met.
 fn met<R: Threads + Sync + AllocGlobal + Abort>(
