@@ -3,7 +3,7 @@
 from making import Wrong
 from making.packets import bytes_of, packet_of, sent_line
 from making.tables import ATS_TABLES, CHECKSUM_ENTRIES, DWELL_TABLES, RTS_TABLES, ats_table, checksum_table, dwell_table, load_file, rts_table, table_file
-from making.words import CHECKSUM_ENTRY, DWELL_ENTRY, PLACED_TABLES, TABLE_NAMES, U16, U32, choice, counted, entry, number, numbered
+from making.words import ATS_NUMBERS, CHECKSUM_ENTRY, DWELL_ENTRY, PLACED_TABLES, RTS_NUMBERS, TABLE_NAMES, U16, U32, choice, counted, entry, number, numbered
 
 
 def with_packet(line):
@@ -19,9 +19,7 @@ def scenario_file(options, lines):
 
 def dwell_file(options, lines):
     counted(["dwell", *options], "dwell TABLE on|off")
-    enabled = {"on": 1, "off": 0}.get(options[1])
-    if enabled is None:
-        enabled = number("FLAG", options[1], U16)
+    enabled = number("FLAG", options[1], U16) if options[1].isdigit() else choice(options[1], {"on": 1, "off": 0})
     return dwell_table(number("TABLE", options[0], DWELL_TABLES), enabled, [entry(line, DWELL_ENTRY) for line in lines])
 
 
@@ -32,25 +30,31 @@ def checksum_file(options, lines):
 
 def command_of(line, names):
     """A command of a sequence: its numbers, and its packet."""
-    *numbers, packet = line.split(",")
+    *numbers, words = line.split(",")
     if len(numbers) != len(names):
         raise Wrong(f"{line!r} isn't {','.join(names)},PACKET")
-    return *(number(name, word, allowed) for word, (name, allowed) in zip(numbers, names.items())), packet_of(packet.split())
+    packet = packet_of(words.split())
+    if not 8 <= len(packet) <= 256:
+        raise Wrong(f"{words!r} isn't a packet of 8 to 256 bytes")
+    return *(number(name, word, allowed) for word, (name, allowed) in zip(numbers, names.items())), packet
 
 
 def ats_file(options, lines):
     counted(["ats", *options], "ats SEQUENCE")
-    return ats_table(number("SEQUENCE", options[0], ATS_TABLES), [command_of(line, {"NUMBER": U16, "TIME": U32}) for line in lines])
+    return ats_table(number("SEQUENCE", options[0], ATS_TABLES), [command_of(line, ATS_NUMBERS) for line in lines])
 
 
 def rts_file(options, lines):
     counted(["rts", *options], "rts SEQUENCE")
-    return rts_table(number("SEQUENCE", options[0], RTS_TABLES), [command_of(line, {"SECONDS": U16}) for line in lines])
+    return rts_table(number("SEQUENCE", options[0], RTS_TABLES), [command_of(line, RTS_NUMBERS) for line in lines])
 
 
 def loaded_file(options, lines):
     counted(["load", *options], "load ADDRESS")
-    return load_file(number("ADDRESS", options[0], U32), bytes_of(" ".join(lines).split()))
+    data = bytes_of(" ".join(lines).split())
+    if not 1 <= len(data) <= 65536:
+        raise Wrong(f"a load file has 1 to 65,536 bytes, not {len(data)}")
+    return load_file(number("ADDRESS", options[0], U32), data)
 
 
 def named_file(options, lines):

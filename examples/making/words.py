@@ -11,11 +11,9 @@ NUMBER = re.compile("0x[0-9a-fA-F]{1,16}|[0-9]{1,20}")
 NAME = re.compile("[0-9A-Za-z_]{1,19}")
 HEX = re.compile("([0-9A-Fa-f]{2}){8,64}")
 BYTES = re.compile("([0-9A-Fa-f]{2}){1,200}")
-COMMAND = re.compile("([0-9A-Fa-f]{2}){8,256}")
-LOADED = re.compile("([0-9A-Fa-f]{2}){1,65536}")
 EXPRESSION = re.compile("([0-9A-Za-z]+/){0,15}[0-9A-Za-z]+")
 
-FORMS = {NAME: "1 to 19 letters, digits and _", HEX: "HEX of 8 to 64 bytes", BYTES: "HEX of 1 to 200 bytes", COMMAND: "HEX of 8 to 256 bytes", LOADED: "HEX of 1 to 65,536 bytes", EXPRESSION: "1 to 16 words with / between them"}
+FORMS = {NAME: "1 to 19 letters, digits and _", HEX: "HEX of 8 to 64 bytes", BYTES: "HEX of 1 to 200 bytes", EXPRESSION: "1 to 16 words with / between them"}
 OPERATORS = {"and": 0x8001, "or": 0x8002, "xor": 0x8003, "not": 0x8004}
 
 APPLICATIONS = {"HS": HS, "MM": MM, "MD": MD, "CS": CS, "SC": SC, "LC": LC}
@@ -74,8 +72,8 @@ FIELDS = {
     "TABLE..": range(1, 17),
 }
 DWELL_ENTRY = {"LENGTH": U16, "DELAY": U16, "ADDRESS": U32}
-ATS_COMMAND = {"NUMBER": U16, "TIME": U32, "HEX": COMMAND}
-RTS_COMMAND = {"SECONDS": U16, "HEX": COMMAND}
+ATS_NUMBERS = {"NUMBER": U16, "TIME": U32}
+RTS_NUMBERS = {"SECONDS": U16}
 CHECKSUM_ENTRY = {"STATE": U16, "START": U32, "LENGTH": U32}
 
 # The tables of Health and Safety and of Limit Checker: which entries each has, the fields of one, and what makes its file.
@@ -83,7 +81,7 @@ PLACED_TABLES = {
     "apps": (APP_ENTRIES, {"NAME": NAME, "CYCLES": U16, "ACTION": U16}, apps_table),
     "events": (EVENT_ENTRIES, {"NAME": NAME, "EVENT": U16, "ACTION": U16}, events_table),
     "counters": (COUNTER_ENTRIES, {"NAME": NAME, "TYPE": U16}, counters_table),
-    "actions": (ACTION_ENTRIES, {"STATE": U16, "COOLDOWN": U16, "HEX": HEX}, actions_table),
+    "actions": (ACTION_ENTRIES, {"STATE": U16, "COOLDOWN": U16, "PACKET": HEX}, actions_table),
     "watch": (WATCHPOINTS, {"TYPE": U16, "ID": U16, "OFFSET": U16, "OPERATOR": U16, "MASK": U32, "LIMIT": U32}, watch_table),
     "acts": (ACTIONPOINTS, {"STATE": U16, "SEQUENCE": U16, "FAILURES": U16, "WORDS": EXPRESSION}, acts_table),
 }
