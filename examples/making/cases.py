@@ -2,12 +2,13 @@
 
 import pathlib
 import re
+import struct
 from dataclasses import dataclass, field, replace
 
 from making import Wrong
 from making.log_lines import log_line
 from making.sections import SORTS
-from making.words import choice
+from making.words import U8, choice, counted, number
 
 REPEAT = re.compile(r" *repeat ([a-z]) (\S+)\.\.(\S+)")
 FILLED = re.compile(r"\{([^{}:]*)(:[0-9X]*)?\}")
@@ -68,6 +69,16 @@ def filled(text, counters):
     return FILLED.sub(lambda found: format(value_of(found[1], counters), (found[2] or ":")[1:]), text)
 
 
+def at_line(line, function, *given):
+    """What a function gives; what is wrong is told with the line."""
+    try:
+        return function(*given)
+    except struct.error as error:
+        raise Wrong(f"line {line}: a number is too large for its field") from error
+    except Wrong as error:
+        raise Wrong(f"line {line}: {error}") from error
+
+
 def expanded(lines, counters):
     """The numbered lines of a text, in which what is indented behind `repeat n FIRST..LAST` is repeated."""
     place = 0
@@ -76,14 +87,14 @@ def expanded(lines, counters):
         place += 1
         repeat = REPEAT.fullmatch(text)
         if not repeat:
-            yield line, filled(text, counters)
+            yield line, at_line(line, filled, text, counters)
             continue
         end = place
         while end < len(lines) and lines[end][1].startswith(INDENT):
             end += 1
-        block = [(number, text.removeprefix(INDENT)) for number, text in lines[place:end]]
+        block = [(at, text.removeprefix(INDENT)) for at, text in lines[place:end]]
         place = end
-        first, last = (value_of(word, counters) for word in repeat.groups()[1:])
+        first, last = (at_line(line, value_of, word, counters) for word in repeat.groups()[1:])
         for value in range(first, last + 1):
             yield from expanded(block, {**counters, repeat[1]: value})
 
@@ -91,14 +102,14 @@ def expanded(lines, counters):
 def sections_of(lines):
     """The heads of the sections, and their lines; blank lines at a section's end aren't part of it."""
     head, body = (1, "about"), []
-    for line, text in [*lines, (0, "== ")]:
-        if not text.startswith("== "):
+    for line, text in [*lines, (0, "==")]:
+        if not text.startswith("=="):
             body.append(text)
             continue
         while body and not body[-1]:
             body.pop()
         yield head, body
-        head, body = (line, text.removeprefix("== ")), []
+        head, body = (line, text.removeprefix("==")), []
 
 
 def filled_in(rehearsal, words, body):
@@ -111,7 +122,8 @@ def filled_in(rehearsal, words, body):
     if sort == "error":
         return replace(rehearsal, error="".join(text + "\n" for text in body))
     if sort == "status":
-        return replace(rehearsal, status=int(options[0]))
+        counted(words, "status N")
+        return replace(rehearsal, status=number("N", options[0], U8))
     make = choice(sort, SORTS)
     if not options or not FILE_NAME.fullmatch(options[0]) or options[0] == "wanted":
         raise Wrong("a file's name has 1 to 40 letters, digits, _, - and ., and isn't wanted")
@@ -120,23 +132,30 @@ def filled_in(rehearsal, words, body):
     return replace(rehearsal, files=files, places=places)
 
 
-def case_of(path):
-    """The case of a text."""
-    name = path.stem
-    lines = list(enumerate(path.read_text().split("\n"), 1))
-    sections = sections_of(expanded(lines, {}))
-    _, about = next(sections)
+def rehearsals_of(name, sections):
+    """The rehearsals of a text's sections."""
     rehearsals = [Rehearsal(name)]
     for (line, head), body in sections:
         words = head.split()
-        try:
-            if words[:1] == ["again"]:
-                rehearsals.append(replace(rehearsals[0], name=f"{name}_{len(rehearsals) + 1}"))
-            else:
-                rehearsals[-1] = filled_in(rehearsals[-1], words, body)
-        except (Wrong, IndexError, ValueError) as error:
-            raise Wrong(f"{path.parent.name}/{path.name}, section at line {line}: {error}") from error
-    return Case(name, path.parent.name, " ".join(" ".join(about).split()), rehearsals)
+        if not words:
+            raise Wrong(f"line {line}: a section has no sort")
+        if words[0] == "again":
+            rehearsals.append(replace(rehearsals[0], name=f"{name}_{len(rehearsals) + 1}"))
+        else:
+            rehearsals[-1] = at_line(line, filled_in, rehearsals[-1], words, body)
+    return rehearsals
+
+
+def case_of(path):
+    """The case of a text. What is wrong is told with the file and the line, or that of the section's head."""
+    lines = list(enumerate(path.read_text().split("\n"), 1))
+    try:
+        sections = sections_of(list(expanded(lines, {})))
+        _, about = next(sections)
+        rehearsals = rehearsals_of(path.stem, sections)
+    except Wrong as error:
+        raise Wrong(f"{path.parent.name}/{path.name}, {error}") from error
+    return Case(path.stem, path.parent.name, " ".join(" ".join(about).split()), rehearsals)
 
 
 def cases_in(folder):

@@ -40,10 +40,9 @@ def peek_packet(frame, count, size, at, value):
     return telemetry(frame, 0x088A, count, struct.pack(">BII", size, at, value))
 
 
-def dump_packets(frame, count, at, data):
-    """The lines of a dump: parts of 128 bytes from its start, the last one shorter."""
-    parts = [(place, data[place : place + 128]) for place in range(0, len(data), 128)]
-    return [telemetry(frame, 0x088B, count + n, struct.pack(">IH", at + place, len(part)) + part) for n, (place, part) in enumerate(parts)]
+def dump_packet(frame, count, at, data):
+    """The line of a dump's part, which has at most 128 bytes."""
+    return telemetry(frame, 0x088B, count, struct.pack(">IH", at, len(data)) + data)
 
 
 def mm_housekeeping_packet(frame, count, accepted, errors, open_regions):

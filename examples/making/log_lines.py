@@ -5,7 +5,7 @@ from making.log import (
     baseline_packet,
     cs_housekeeping_packet,
     drop,
-    dump_packets,
+    dump_packet,
     dwell_packet,
     event,
     hs_housekeeping_packet,
@@ -60,11 +60,15 @@ def hs_housekeeping_line(frame, words):
 
 def sc_housekeeping_line(frame, words):
     numbers = numbers_of(words[:7], "COUNT ACCEPTED ERRORS ATS LEFT SENT WRONG")
+    if len(words) != 9:
+        raise Wrong("write RUNNING ENABLED behind the numbers")
     return sc_housekeeping_packet(frame, *numbers, *map(listed_of, words[7:]))
 
 
 def lc_housekeeping_line(frame, words):
     count, accepted, errors, fired = numbers_of(words[:4], "COUNT ACCEPTED ERRORS FIRED")
+    if len(words) < 5:
+        raise Wrong("write ACTIVE behind the numbers")
     return lc_housekeeping_packet(frame, count, accepted, errors, listed_of(words[4]), fired, placed_of(words[5:]))
 
 
@@ -84,7 +88,7 @@ def packet_line(frame, form, words):
         return dwell_packet(frame, place, count, data)
     if not 1 <= len(data) <= 128:
         raise Wrong(f"a dump packet has 1 to 128 bytes, not {len(data)}")
-    return dump_packets(frame, count, place, data)[0]
+    return dump_packet(frame, count, place, data)
 
 
 def lost_packet(frame, words):
