@@ -12,6 +12,3 @@ pub use mem_shelf::MemShelf;
 pub use mem_sink::MemSink;
 pub use std_sink::StdSink;
 pub use traits::{Failed, Gate, NoMemory, OpenGate, Shelf, Sink};
-
-#[cfg(test)]
-mod tests;
