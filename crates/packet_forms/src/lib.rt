@@ -23,6 +23,3 @@ pub use name::{Counter, Name};
 pub use numbers::{be16, be32};
 pub use packet::{PACKET_BYTES, Packet, PacketFault};
 pub use pieces::{are_zeros, behind, front, place};
-
-#[cfg(test)]
-mod tests;
