@@ -64,27 +64,3 @@ pub fn mask_rows()
     ensures fourth { bits_of (false ∷ false ∷ false ∷ true ∷ []) ≡ 8 }
     ensures all { bits_of (true ∷ true ∷ true ∷ true ∷ []) ≡ 15 }
 {}
-
-#[cfg(test)]
-mod tests {
-    use super::*;
-    use crate::bits_of;
-
-    #[test]
-    fn laws_hold_at_numbers() {
-        along_law::<u8, u8>();
-        joined_law::<u8, u8>();
-        decided_law::<u8, bool>();
-        last_law::<u8>();
-        woken_law::<u8, u16, u32>();
-        activated_law::<u8, u16, u32>();
-        mask_rows();
-    }
-
-    #[test]
-    fn masks_have_the_first_bit_lowest(rt: HostRuntime) {
-        assert_eq!(rt; bits_of(&[]), 0);
-        assert_eq!(rt; bits_of(&[true, false, true]), 5);
-        assert_eq!(rt; bits_of(&[true; 64]), u64::MAX);
-    }
-}
