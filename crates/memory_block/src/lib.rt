@@ -5,6 +5,3 @@ mod block;
 mod store;
 
 pub use store::Store;
-
-#[cfg(test)]
-mod tests;
