@@ -13,6 +13,3 @@ pub use files::Files;
 pub use headers::{FileImage, read_file};
 pub use kinds::TableKind;
 pub use loading::{Entry, load_entries};
-
-#[cfg(test)]
-mod tests;
