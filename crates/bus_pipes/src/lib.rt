@@ -20,6 +20,3 @@ pub use names::{
 };
 pub use pipe::Pipe;
 pub use reserved::ReservedList;
-
-#[cfg(test)]
-mod tests;
