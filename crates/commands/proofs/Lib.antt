@@ -2,4 +2,3 @@ pub mod Tallies
 pub mod Answering
 pub mod Heard
 pub mod Plain
-pub mod Machines

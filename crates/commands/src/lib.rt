@@ -12,6 +12,3 @@ pub use commanded::{Command, Commanded, Reason, Terms};
 pub use counting::{note_accepted, note_refused, start_counts};
 pub use step::{handle_all, named};
 pub use verdicts::{CodeRow, Verdict};
-
-#[cfg(test)]
-mod tests;
