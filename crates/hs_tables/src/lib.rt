@@ -13,6 +13,3 @@ pub use apps::{AppEntry, AppMon, AppRow, load_appmon};
 pub use counters::{CountRow, ExeCount, load_execount};
 pub use events::{EventEntry, EventMon, EventRow, load_eventmon};
 pub use tables::HsTables;
-
-#[cfg(test)]
-mod tests;
