@@ -19,6 +19,3 @@ pub use relative::Relative;
 pub use rts::Rts;
 pub use sets::RtsSet;
 pub use tables::ScTables;
-
-#[cfg(test)]
-mod tests;
