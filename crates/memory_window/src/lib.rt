@@ -22,6 +22,3 @@ pub use ops::Ops;
 pub use ram::Ram;
 pub use regions::{Kind, Map, MapFault, Region, is_mapped};
 pub use window::Window;
-
-#[cfg(test)]
-mod tests;
