@@ -8,6 +8,3 @@ mod state;
 
 pub use action::Source;
 pub use state::Actions;
-
-#[cfg(test)]
-mod tests;
