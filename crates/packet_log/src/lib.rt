@@ -17,6 +17,3 @@ pub use line_texts::{Line, drop_line, line_of, request_line};
 pub use lines::{HEAD_BYTES, Head, LineBuffer, head_of, write_drop, write_item};
 pub use summary::{Summary, SummaryText};
 pub use writing::{put_bytes, put_text};
-
-#[cfg(test)]
-mod tests;
