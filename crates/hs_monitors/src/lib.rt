@@ -17,6 +17,3 @@ mod watches;
 pub use input::HsInput;
 pub use state::Hs;
 pub use step::MOST_ITEMS;
-
-#[cfg(test)]
-mod tests;
