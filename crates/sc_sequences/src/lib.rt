@@ -18,6 +18,3 @@ mod verdicts;
 
 pub use state::Sc;
 pub use step::MOST_ITEMS;
-
-#[cfg(test)]
-mod tests;
