@@ -13,6 +13,3 @@ mod verdicts;
 
 pub use state::Mm;
 pub use step::MOST_ITEMS;
-
-#[cfg(test)]
-mod tests;
