@@ -20,6 +20,3 @@ pub use loading::load_dwell;
 pub use state::Md;
 pub use step::MOST_ITEMS;
 pub use tables::{Dwell, DwellEntry};
-
-#[cfg(test)]
-mod tests;
