@@ -21,6 +21,3 @@ pub use loading::load_segments;
 pub use segments::{Segment, Segments};
 pub use state::Cs;
 pub use step::MOST_ITEMS;
-
-#[cfg(test)]
-mod tests;
