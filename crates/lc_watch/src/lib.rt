@@ -23,6 +23,3 @@ pub use loading::{load_adt, load_wdt};
 pub use state::Lc;
 pub use step::MOST_ITEMS;
 pub use watchpoints::{Operator, WatchRow, Wdt};
-
-#[cfg(test)]
-mod tests;
