@@ -18,6 +18,3 @@ mod work;
 pub use crew::Crew;
 pub use task::{Scratch, Task};
 pub use way::Way;
-
-#[cfg(test)]
-mod tests;
