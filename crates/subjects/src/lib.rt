@@ -16,6 +16,3 @@ pub use listed::{Listed, PlanFault};
 pub use own::{Own, own_subjects};
 pub use steady::Steady;
 pub use subject::Subject;
-
-#[cfg(test)]
-mod tests;
