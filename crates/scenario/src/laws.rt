@@ -1,8 +1,8 @@
 //! Laws of scenario texts, and of readers that stand for them: each function answers nothing, and its
 //! contract is the law.
 
-ghost use Rattle.std.specs.Prelude.{◌≡◌, ◌≤◌, ◌<◌, ◌+◌, ◌++◌, ◌∷◌, [], ℕ, Bool, List, false, true, codes, length, slice_index};
-ghost use Rattle.scenario.specs.Texts.{Text, Given, Head, Whole, Reading, Bad, Ended, Unended, Open, Grows, AreGood, reading};
+ghost use Rattle.std.specs.Prelude.{◌≡◌, ◌≤◌, ◌<◌, ◌+◌, ◌++◌, ◌∷◌, [], ℕ, Bool, List, false, true, codes, length, slice_index, None, Ok, Err};
+ghost use Rattle.scenario.specs.Texts.{Text, Given, Head, Whole, Reading, Bad, Ended, Unended, Open, Grows, AreGood, reading, reads};
 ghost use Rattle.scenario.specs.Standing.{Stands, is_finished};
 ghost use Rattle.scenario.specs.Drill.{drawn, upper, draws_of, frame_lines, drill_header, drill_text};
 ghost use Rattle.scenario.specs.declared.reader.Reader.{Reader};
@@ -53,6 +53,12 @@ pub fn items_have_stops()
 /// A stop stays when the text grows.
 pub fn stops_stay()
     ensures { (r q : Reading) (n : ℕ) → Grows r q → n < length r.stops → slice_index q.stops n ≡ slice_index r.stops n }
+{}
+
+/// A comment that ends at byte 16,777,216 of a text is read, and one that ends a byte later isn't.
+pub fn worked_ends()
+    ensures last { reads (record { sentences = []; lines = 9; bytes = 16777214 }) (record { bytes = codes "#"; takes = 2 }) ≡ Ok None }
+    ensures late { reads (record { sentences = []; lines = 9; bytes = 16777215 }) (record { bytes = codes "#"; takes = 2 }) ≡ Err reasons.TooLong }
 {}
 
 /// What some texts give, computed from the definitions.

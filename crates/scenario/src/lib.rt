@@ -23,6 +23,3 @@ pub use progress::Header;
 pub use reader::Reader;
 pub use reason::Reason;
 pub use words::digits;
-
-#[cfg(test)]
-mod tests;
