@@ -28,7 +28,7 @@ pub fn first_line_decides()
         → Rehearsed report asked crowd seen wrote_before wrote_now before after → FailsOn file asked seen before after
         → (report.status ≡ statuses.ReadFailed) × (report.file ≡ file) }
 
-    // A FILE is too long, isn't in order, or its table was there.
+    // A FILE is too long, or its headers aren't in order.
     ensures refused { (report : Report) (asked : Asked) (crowd : Option (List Simulated)) (seen : Seen) (wrote_before wrote_now : ℕ) (before after : Content) (refusal : Refusal)
         → Rehearsed report asked crowd seen wrote_before wrote_now before after → report.status ≢ statuses.NoMemory → Refuses refusal asked seen before
         → (report.status ≡ statuses.FileRefused) × (report.file ≡ refusal.file) × (report.line ≡ 0) × (report.reason ≡ refusal.reason) }
