@@ -2,3 +2,5 @@ pub mod Tallies
 pub mod Answering
 pub mod Heard
 pub mod Plain
+pub mod Machines
+pub mod Lengths

@@ -1,10 +1,14 @@
 -- The function codes of an application.
-use Rattle.std.specs.Prelude.{ℕ, Bool, false, ◌==◌, ◌&&◌, List, length, nat_le, find, Option, Some, None}
+use Rattle.std.specs.Prelude.{ℕ, Bool, false, ◌==◌, ◌&&◌, List, [], ◌∷◌, length, map, nat_le, find, Option, Some, None}
 use Rattle.commands.specs.declared.verdicts.CodeRow.{CodeRow}
 
 -- A code with the shortest and the longest payload of its commands.
 abbrev pub code_row : ℕ → ℕ → ℕ → CodeRow
 code_row code least most = record { 0 = code; 1 = least; 2 = most }
+
+-- A table of codes as numbers: of each code itself, and its shortest and longest payload.
+abbrev pub numbers_of_rows : List CodeRow → List (List ℕ)
+numbers_of_rows rows = map (λ row. row.0 ∷ row.1 ∷ row.2 ∷ []) rows
 
 -- The row of a function code in an application's table of codes.
 abbrev pub row_of : List CodeRow → ℕ → Option CodeRow

@@ -1,6 +1,6 @@
 -- What an application makes of the packets of its command pipe. B is what its refusals are decided by as a wakeup begins, I what a
 -- command asks for, E a reason of its own to refuse one.
-use Rattle.std.specs.Prelude.{ℕ, Bool, true, false, ◌==◌, if◌then◌else◌, List, [], ◌∷◌, ◌++◌, filter_map, Option, Some, None}
+use Rattle.std.specs.Prelude.{◌≡◌, ℕ, Bool, true, false, ◌==◌, if◌then◌else◌, List, [], ◌∷◌, ◌++◌, filter_map, Option, Some, None}
 use Rattle.std.specs.List.{fold}
 use Rattle.packet_forms.specs.Packets.{message_id, function_code, is_checksum_right, payload_of}
 use Rattle.commands.specs.Rows.{row_of, is_length_allowed}
@@ -62,6 +62,19 @@ verdict_at protocol basis orders p =
     then verdict_by_row protocol basis orders (row_of protocol.language.codes (function_code p)) (function_code p) (payload_of p)
     else Refused 1)
     else Other
+
+-- A command of the application whose checksum is right and whose code has this row.
+pub record IsCommandOf {B I E : Type 0} (protocol : Protocol B I E) (row : CodeRow) (p : List ℕ) : Type 0 where
+  pub requests : (message_id p == protocol.language.request_id) ≡ false
+  pub commands : (message_id p == protocol.language.command_id) ≡ true
+  pub checked : is_checksum_right p ≡ true
+  pub listed : row_of protocol.language.codes (function_code p) ≡ Some row
+
+-- The verdict on a packet by its own refusals alone.
+abbrev pub judged_own : {B I E : Type 0} → Protocol B I E → B → List I → List ℕ → Verdict I
+judged_own protocol basis orders p =
+    let instruction = protocol.language.decode (function_code p) (payload_of p) in
+    judged_by protocol.number (protocol.refuses basis orders instruction) (function_code p) instruction
 
 -- The same by what the packet is by its form: a command whose form is accepted is judged by what it asks for.
 abbrev pub verdict_by_form : {B I E : Type 0} → Protocol B I E → B → List I → List ℕ → Verdict (Unit {0}) → Verdict I

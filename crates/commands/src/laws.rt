@@ -1,10 +1,13 @@
 //! The laws of verdicts and answers, and worked rows. The functions do nothing: their contracts are the laws.
-ghost use Rattle.std.specs.Prelude.{◌≡◌, ℕ, List, [], ◌∷◌, ◌++◌, map, true, false};
+ghost use Rattle.std.specs.Prelude.{◌≡◌, ◌<◌, ◌≤◌, ℕ, length, List, [], ◌∷◌, ◌++◌, map, true, false};
 ghost use Rattle.bus_pipes.specs.declared.names.Out.TheVariants as outs;
-ghost use Rattle.commands.specs.Verdicts.{Protocol, orders_in, verdict_at, verdicts_on};
+ghost use Rattle.packet_forms.specs.Packets.{payload_of};
+ghost use Rattle.commands.specs.Rows.{numbers_of_rows};
+ghost use Rattle.commands.specs.Verdicts.{Protocol, IsCommandOf, orders_in, verdict_at, judged_own, verdicts_on};
 ghost use Rattle.commands.specs.Counting.{counts_of};
 ghost use Rattle.commands.specs.Answering.{Answers, packet_items, command_items};
-ghost use Rattle.commands.specs.Machine.{machine_protocol, machine_answers, machine_name};
+ghost use Rattle.commands.specs.Machine.{machine_protocol, machine_answers, machine_name, machine_codes};
+ghost use Rattle.commands.specs.declared.verdicts.CodeRow.{CodeRow};
 ghost use Rattle.commands.specs.declared.verdicts.Verdict.{Verdict};
 ghost use Rattle.commands.specs.declared.verdicts.Verdict.TheVariants.{Other, Request, Refused, Accepted};
 
@@ -22,6 +25,21 @@ pub fn verdicts_law<B, I, E>()
 pub fn answers_law<T, I>()
     ensures { (answers : Answers T I) (name : List ℕ) (turn : T) (heard : List (Verdict I)) (verdict : Verdict I)
         → command_items answers name turn (heard ++ verdict ∷ []) ≡ command_items answers name turn heard ++ packet_items answers name turn heard verdict }
+{}
+
+/// A command is refused with 3 where its payload is shorter or longer than its code's row says; at the shortest and the longest length, and
+/// between them, its own refusals decide.
+#[tactic(auto, using(crate::proofs::Lengths::too_short, crate::proofs::Lengths::too_long, crate::proofs::Lengths::long_enough))]
+pub fn lengths_law<B, I, E>()
+    ensures short { (protocol : Protocol B I E) (basis : B) (orders : List I) (row : CodeRow) (p : List ℕ)
+        → IsCommandOf protocol row p → length (payload_of p) < row.1
+        → verdict_at protocol basis orders p ≡ Refused 3 }
+    ensures long { (protocol : Protocol B I E) (basis : B) (orders : List I) (row : CodeRow) (p : List ℕ)
+        → IsCommandOf protocol row p → row.2 < length (payload_of p)
+        → verdict_at protocol basis orders p ≡ Refused 3 }
+    ensures within { (protocol : Protocol B I E) (basis : B) (orders : List I) (row : CodeRow) (p : List ℕ)
+        → IsCommandOf protocol row p → row.1 ≤ length (payload_of p) → length (payload_of p) ≤ row.2
+        → verdict_at protocol basis orders p ≡ judged_own protocol basis orders p }
 {}
 
 /// The first three refusals come in order, before a command's own.

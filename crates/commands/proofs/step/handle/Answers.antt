@@ -1,7 +1,6 @@
-use Rattle.std.proofs.Common.{◌≡◌, ◌+◌, ℕ, ◌++◌, ◌∷◌, [], refl, sym, ap, ◌∙◌}
-use Rattle.bus_pipes.proofs.Deliveries.{adding_none, adding_more}
-use Rattle.bus_pipes.specs.Held.{adding}
-use Rattle.commands.specs.Verdicts.{protocol_of, orders_in, verdict_at}
+use Rattle.std.proofs.Common.{◌+◌, ℕ, ◌++◌, refl, sym, ap, ◌∙◌}
+use Rattle.bus_pipes.proofs.Deliveries.{adding_none}
+use Rattle.commands.specs.Verdicts.{protocol_of, orders_in}
 use Rattle.commands.specs.declared.verdicts.Verdict.TheVariants.{Other, Request, Refused, Accepted}
 use Rattle.commands.proofs.Heard.{orders_same, orders_more, event_behind, event_as, replies_and_event, packet_answered, own_refused, own_passes}
 use Rattle.commands.proofs.Tallies.{note_neither}
