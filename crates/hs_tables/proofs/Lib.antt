@@ -1,3 +1,4 @@
 pub mod Areas
 pub mod Wholes
 pub mod Listed
+pub mod Unused

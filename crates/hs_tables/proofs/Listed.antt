@@ -12,7 +12,7 @@ use Rattle.hs_tables.specs.declared.apps.AppRow.{AppRow}
 use Rattle.hs_tables.specs.declared.events.EventRow.{EventRow}
 
 -- where there is no fault, no entry has a reason
-no_reason : {E : Type 0} (reason_of : E → Option ℕ) (n : ℕ) (xs : List E) → first_fault reason_of n xs ≡ None → All (λ (e : E). reason_of e ≡ None) xs
+pub no_reason : {E : Type 0} (reason_of : E → Option ℕ) (n : ℕ) (xs : List E) → first_fault reason_of n xs ≡ None → All (λ (e : E). reason_of e ≡ None) xs
 unfolding first_fault
 no_reason {E} reason_of n [] none = All-nil (λ (e : E). reason_of e ≡ None)
 no_reason {E} reason_of n (x ∷ xs) none =
