@@ -1,5 +1,5 @@
 -- Tables, wakeups and packets of the worked rows.
-use Rattle.std.specs.Prelude.{ℕ, ◌+◌, List, [], ◌∷◌, ◌++◌, replicate, Some}
+use Rattle.std.specs.Prelude.{ℕ, ◌+◌, List, [], ◌∷◌, ◌++◌, replicate, slice_set, Some}
 use Rattle.histories.specs.Entries.Entry.{Woken}
 use Rattle.packet_forms.specs.declared.name.Counter.{Counter}
 use Rattle.hs_tables.specs.Apps as apps
@@ -9,7 +9,7 @@ use Rattle.hs_tables.specs.Actions as actions
 use Rattle.hs_tables.specs.declared.apps.AppRow.{AppRow}
 use Rattle.hs_tables.specs.declared.events.EventRow.{EventRow}
 use Rattle.hs_tables.specs.declared.actions.ActRow.{ActRow}
-use Rattle.hs_actions.specs.Rows.{load_bytes, one_act}
+use Rattle.hs_actions.specs.Rows.{load_bytes, noop_bytes, one_act}
 use Rattle.hs_monitors.specs.Histories.{Input, HsEntry, Setup}
 
 -- the name CAM, in 20 bytes
@@ -98,3 +98,42 @@ saw n (value ∷ values) = Woken (counted n value) ∷ saw (n + 1) values
 -- a wakeup with LOAD's event 7 alone
 abbrev pub heard : ℕ → Input
 heard n = wakeup n [] (load_event 7 ∷ []) []
+
+-- a request whose checksum is wrong, and one with a payload of two bytes
+abbrev pub wrong_request : List ℕ
+wrong_request = 0x18 ∷ 0xAF ∷ 0xC0 ∷ 0 ∷ 0 ∷ 1 ∷ 0 ∷ 0x88 ∷ []
+
+abbrev pub long_request : List ℕ
+long_request = 0x18 ∷ 0xAF ∷ 0xC0 ∷ 0 ∷ 0 ∷ 3 ∷ 0 ∷ 0x88 ∷ 1 ∷ 2 ∷ []
+
+-- the command that resets both counts
+abbrev pub reset_counts : List ℕ
+reset_counts = 0x18 ∷ 0xAE ∷ 0xC0 ∷ 0 ∷ 0 ∷ 1 ∷ 1 ∷ 0x89 ∷ []
+
+-- a name of 19 bytes, and its event message 0x0107
+abbrev pub longest_bytes : List ℕ
+longest_bytes = 0x41 ∷ 0x42 ∷ 0x43 ∷ 0x44 ∷ 0x45 ∷ 0x46 ∷ 0x47 ∷ 0x48 ∷ 0x49 ∷ 0x4A ∷ 0x4B ∷ 0x4C ∷ 0x4D ∷ 0x4E ∷ 0x4F ∷ 0x50 ∷ 0x51 ∷ 0x52 ∷ 0x53 ∷ 0 ∷ []
+
+abbrev pub longest_event : List ℕ
+longest_event =
+    8 ∷ 8 ∷ 0xC0 ∷ 0 ∷ 0 ∷ 0x25 ∷ 0 ∷ 0 ∷ 3 ∷ 0xE8 ∷ 0 ∷ 0
+    ∷ 0x41 ∷ 0x42 ∷ 0x43 ∷ 0x44 ∷ 0x45 ∷ 0x46 ∷ 0x47 ∷ 0x48 ∷ 0x49 ∷ 0x4A ∷ 0x4B ∷ 0x4C ∷ 0x4D ∷ 0x4E ∷ 0x4F ∷ 0x50 ∷ 0x51 ∷ 0x52 ∷ 0x53 ∷ 0
+    ∷ 1 ∷ 7 ∷ 0 ∷ 2 ∷ 0 ∷ 0 ∷ 0 ∷ 0x42 ∷ 0 ∷ 0 ∷ 0 ∷ 1 ∷ []
+
+-- an application monitor on CAM, in the last place, behind one on LOAD in the first
+abbrev pub ends_watched : Setup
+ends_watched =
+    setup_with (load_row 1 3 ∷ replicate 30 apps.blank_row ++ (record { name = Some cam_bytes; cycles = 2; action = 2 }) ∷ []) (seven_rows 0 16 0) (replicate 8 actions.blank_row) 0
+
+-- an event monitor of LOAD's event 7 in the last place alone, with this action, and all message actions unused but the last
+abbrev pub last_heard : ℕ → Setup
+last_heard action =
+    setup_with (load_rows 0 32 0 0) (slice_set (seven_rows 0 16 0) 15 (record { name = Some load_bytes; id = 7; action = action }))
+    (slice_set (replicate 8 actions.blank_row) 7 (record { state = 1; cooldown = 2; packet = Some noop_bytes })) 0
+
+-- housekeeping at second n below 24 behind 1,000: both counts, whether both monitorings are on, message actions sent below 256, the
+-- watching monitors 1 to 8, and no counter
+abbrev pub shown : ℕ → ℕ → ℕ → ℕ → ℕ → ℕ → ℕ → List ℕ
+shown n accepted errors monitoring listening sent watching =
+    (8 ∷ 0xAD ∷ 0xC0 ∷ 0 ∷ 0 ∷ 0x95 ∷ 0 ∷ 0 ∷ 3 ∷ (0xE8 + n) ∷ 0 ∷ 0
+    ∷ accepted ∷ errors ∷ monitoring ∷ listening ∷ 0 ∷ 0 ∷ 0 ∷ 3 ∷ 0 ∷ sent ∷ 0 ∷ 0 ∷ 0 ∷ 0 ∷ 0 ∷ watching ∷ []) ++ replicate 128 0xFF

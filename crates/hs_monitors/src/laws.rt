@@ -1,25 +1,27 @@
 //! What the definitions give in small cases, and the sentence that they make of the countdown. The functions do nothing: their contracts
 //! are the laws. The rows' bytes are written by hand.
-ghost use Rattle.std.specs.Prelude.{◌≡◌, ◌<◌, ◌-◌, ◌++◌, ◌∷◌, [], ℕ, Bool, true, false, if◌then◌else◌, List, length, replicate, Some};
+ghost use Rattle.std.specs.Prelude.{◌≡◌, ◌<◌, ◌-◌, ◌++◌, ◌∷◌, [], ℕ, Bool, true, false, if◌then◌else◌, List, length, map, replicate, slice_set, Some};
 ghost use Rattle.bus_pipes.specs.declared.names.Out.TheVariants as outs;
 ghost use Rattle.histories.specs.Entries.{wakeups};
 ghost use Rattle.histories.specs.Entries.Entry.{Woken, Activated};
+ghost use Rattle.commands.specs.Rows.{numbers_of_rows};
 ghost use Rattle.commands.specs.Verdicts.{verdict_at};
 ghost use Rattle.commands.specs.declared.verdicts.Verdict.TheVariants.{Other, Request, Refused, Accepted};
 ghost use Rattle.hs_tables.specs.Counters.{blank_row};
 ghost use Rattle.hs_actions.specs.Outcomes.{act_at};
 ghost use Rattle.hs_actions.specs.State.{left_of};
-ghost use Rattle.hs_actions.specs.Rows.{load_bytes, noop_bytes, hs_event};
+ghost use Rattle.hs_actions.specs.Rows.{load_bytes, noop_bytes, hs_event, late_event};
 ghost use Rattle.hs_monitors.specs.declared.instructions.Instruction.TheVariants.{Plain, Monitor, Listen, Clear, Limit};
 ghost use Rattle.hs_monitors.specs.Histories.{HsEntry, Setup};
 ghost use Rattle.hs_monitors.specs.Histories.Activation.{Apps};
+ghost use Rattle.hs_monitors.specs.Messages.{hs_codes};
 ghost use Rattle.hs_monitors.specs.Verdicts.{hs_protocol};
 ghost use Rattle.hs_monitors.specs.Acting.{acts, countdown_of};
 ghost use Rattle.hs_monitors.specs.Events.{is_event, is_matched};
 ghost use Rattle.hs_monitors.specs.Housekeeping.{watching_of, housekeeping_of};
 ghost use Rattle.hs_monitors.specs.Step.{hs_items, resets_made, resets_maximum};
 ghost use Rattle.hs_monitors.specs.Cooldowns.{sendings_of, last_leaves};
-ghost use Rattle.hs_monitors.specs.Rows.{cam_bytes, hs_info, load_event, enable, disable, deafen, clear, limit_none, request, load_row, load_rows, seven_rows, setup_with, watching, listening, wakeup, load_at, counted, saw, heard};
+ghost use Rattle.hs_monitors.specs.Rows.{cam_bytes, hs_info, load_event, enable, disable, deafen, clear, limit_none, request, load_row, load_rows, seven_rows, setup_with, watching, listening, wakeup, load_at, counted, saw, heard, wrong_request, long_request, reset_counts, longest_bytes, longest_event, ends_watched, last_heard, shown};
 
 /// An entry with the cycle count n acts in exactly the check in which its countdown goes from above zero to zero, and in no later check of
 /// the watch. The countdown begins at n; each changed check sets it to n, and each other one takes one off it.
@@ -146,4 +148,71 @@ pub fn event_rows()
     ensures same { is_matched (load_event 7) (record { name = load_bytes; id = 7; action = 1 }) ≡ true }
     ensures other_event { is_matched (load_event 7) (record { name = load_bytes; id = 8; action = 1 }) ≡ false }
     ensures other_name { is_matched (load_event 7) (record { name = cam_bytes; id = 7; action = 1 }) ≡ false }
+{}
+
+/// Each code with the shortest and the longest payload of its commands; the maximum of resets with a byte less and one more; and requests
+/// that give housekeeping whatever else they hold.
+pub fn length_rows()
+    ensures codes { numbers_of_rows hs_codes
+        ≡ (0 ∷ 0 ∷ 0 ∷ []) ∷ (1 ∷ 0 ∷ 0 ∷ []) ∷ (2 ∷ 0 ∷ 0 ∷ []) ∷ (3 ∷ 0 ∷ 0 ∷ []) ∷ (4 ∷ 0 ∷ 0 ∷ []) ∷ (5 ∷ 0 ∷ 0 ∷ [])
+        ∷ (8 ∷ 0 ∷ 0 ∷ []) ∷ (9 ∷ 2 ∷ 2 ∷ []) ∷ [] }
+    ensures limit { map (verdict_at hs_protocol tt []) ((0x18 ∷ 0xAE ∷ 0xC0 ∷ 0 ∷ 0 ∷ 2 ∷ 9 ∷ 0x83 ∷ 1 ∷ [])
+        ∷ (0x18 ∷ 0xAE ∷ 0xC0 ∷ 0 ∷ 0 ∷ 3 ∷ 9 ∷ 0xA1 ∷ 0xFE ∷ 0xDC ∷ [])
+        ∷ (0x18 ∷ 0xAE ∷ 0xC0 ∷ 0 ∷ 0 ∷ 4 ∷ 9 ∷ 0x87 ∷ 0 ∷ 1 ∷ 2 ∷ []) ∷ [])
+        ≡ Refused 3 ∷ Accepted 9 (Limit 0xFEDC) ∷ Refused 3 ∷ [] }
+    ensures requests { map (verdict_at hs_protocol tt []) (wrong_request ∷ long_request ∷ []) ≡ Request ∷ Request ∷ [] }
+{}
+
+/// An event's number over 255, and names that differ in their last byte alone.
+pub fn event_edge_rows()
+    ensures number { is_matched longest_event (record { name = longest_bytes; id = 0x0107; action = 1 }) ≡ true }
+    ensures low_byte { is_matched longest_event (record { name = longest_bytes; id = 7; action = 1 }) ≡ false }
+    ensures high_byte { is_matched longest_event (record { name = longest_bytes; id = 0x0207; action = 1 }) ≡ false }
+    ensures last_letter { is_matched longest_event (record { name = slice_set longest_bytes 18 0x54; id = 0x0107; action = 1 }) ≡ false }
+    ensures last_byte { is_matched (slice_set longest_event 31 0x54) (record { name = longest_bytes; id = 0x0107; action = 1 }) ≡ false }
+    ensures first_letter { is_matched (slice_set longest_event 12 0x42) (record { name = longest_bytes; id = 0x0107; action = 1 }) ≡ false }
+    ensures high_id { is_event (slice_set longest_event 0 0x09) ≡ false }
+{}
+
+/// Counters that differ in one byte alone are changed, each time.
+pub fn counter_rows()
+    ensures changed { map (λ v. hs_items (watching 1 2) (saw 0 (0x01020304 ∷ [])) (counted 1 v))
+        (0x02020304 ∷ 0x01030304 ∷ 0x01020404 ∷ 0x01020305 ∷ []) ≡ [] ∷ [] ∷ [] ∷ [] ∷ [] }
+    ensures unchanged { hs_items (watching 1 2) (saw 0 (0x01020304 ∷ [])) (counted 1 0x01020304)
+        ≡ outs.Made (hs_event 102 0xE9) ∷ outs.Restart load_bytes ∷ [] }
+    ensures high { hs_items (watching 1 2) [] (counted 0 0x80000000) ≡ [] }
+{}
+
+/// An entry that acted stays unwatched: a disable is no refresh, and housekeeping behind it shows that application monitoring is off. An
+/// enable behind that refreshes. An entry that didn't act stays watched behind a disable.
+pub fn disabled_rows()
+    ensures acted { hs_items (watching 1 3) (Woken (counted 0 0) ∷ []) (wakeup 1 (disable ∷ request ∷ enable ∷ request ∷ []) [] [])
+        ≡ outs.Made (hs_info 19 0xE9) ∷ outs.Made (shown 1 1 0 0 1 0 0)
+        ∷ outs.Made (hs_info 18 0xE9) ∷ outs.Made (shown 1 2 0 1 1 0 1) ∷ outs.Made (hs_event 103 0xE9) ∷ [] }
+    ensures later { hs_items (watching 1 3) (Woken (counted 0 0) ∷ Woken (wakeup 1 (disable ∷ []) [] []) ∷ []) (wakeup 2 (request ∷ []) [] [])
+        ≡ outs.Made (shown 2 1 0 0 1 0 0) ∷ [] }
+    ensures watched { hs_items (watching 3 3) (Woken (counted 0 0) ∷ []) (wakeup 1 (disable ∷ request ∷ []) [] [])
+        ≡ outs.Made (hs_info 19 0xE9) ∷ outs.Made (shown 1 1 0 0 1 0 1) ∷ [] }
+    ensures begins_anew { hs_items (watching 2 3) (Woken (counted 0 0) ∷ Woken (wakeup 1 (disable ∷ []) [] []) ∷ []) (wakeup 2 (enable ∷ []) [] [])
+        ≡ outs.Made (hs_info 18 0xEA) ∷ [] }
+{}
+
+/// The first and the last entry of the application monitors, the last event monitor with each message action, and the last message action.
+pub fn place_rows()
+    ensures apps { hs_items ends_watched [] (wakeup 0 [] [] []) ≡ outs.Made (hs_event 103 0xE8) ∷ [] }
+    ensures last_app { hs_items ends_watched (Woken (wakeup 0 [] [] []) ∷ []) (wakeup 1 [] [] [])
+        ≡ outs.Made (hs_event 102 0xE9) ∷ outs.Restart cam_bytes ∷ [] }
+    ensures last_event { hs_items (last_heard 3) [] (heard 0) ≡ outs.Made (hs_event 113 0xE8) ∷ outs.Delete load_bytes ∷ [] }
+    ensures last_action { hs_items (last_heard 11) [] (heard 0) ≡ outs.Stored noop_bytes ∷ outs.Made (hs_event 114 0xE8) ∷ [] }
+    ensures other_action { map (λ n. hs_items (last_heard n) [] (heard 0)) (4 ∷ 10 ∷ []) ≡ [] ∷ [] ∷ [] }
+{}
+
+/// A time with all its bytes; and the message actions sent, which a reset of the counts keeps.
+pub fn shown_edge_rows()
+    ensures time { hs_items (watching 1 3) [] (record { time = 0x01020304; commands = enable ∷ []; seen = record { events = []; counters = [] } })
+        ≡ outs.Made (late_event 18 2) ∷ outs.Made (late_event 103 3) ∷ [] }
+    ensures sent { hs_items listening (Woken (heard 0) ∷ Woken (wakeup 1 (disable ∷ reset_counts ∷ []) [] []) ∷ []) (wakeup 2 (request ∷ []) [] [])
+        ≡ outs.Made (shown 2 0 0 0 1 1 0) ∷ [] }
+    ensures behind_reset { hs_items listening (Woken (heard 0) ∷ []) (wakeup 2 (reset_counts ∷ request ∷ wrong_request ∷ []) (load_event 7 ∷ []) [])
+        ≡ outs.Made (hs_info 17 0xEA) ∷ outs.Made (shown 2 0 0 1 1 1 0) ∷ outs.Made (shown 2 0 0 1 1 1 0) ∷ [] }
 {}
