@@ -67,3 +67,13 @@ pub fn relative_reason_rows()
     ensures packet { map (λ p. rts_fault_of (0x00 ∷ 0x01 ∷ p)) (changed 0 0x38 ∷ changed 2 0x80 ∷ changed 0 0x08 ∷ changed 0 0x10 ∷ changed 5 0x00 ∷ changed 5 0xFA ∷ []) ≡ replicate 6 (Some (record { entry = 1; reason = 3 })) }
     ensures long { map (λ p. rts_fault_of (0x00 ∷ 0x01 ∷ p)) (changed 5 0x02 ∷ long_bytes 249 ∷ []) ≡ replicate 2 (Some (record { entry = 1; reason = 4 })) }
 {}
+
+/// Commands of an absolute sequence whose times and numbers differ in their high bytes; and the first, second and last of a relative one.
+pub fn order_rows()
+    ensures times { ats_of ((1 ∷ 2 ∷ 2 ∷ 0 ∷ 0 ∷ 1 ∷ eight_bytes) ++ (3 ∷ 1 ∷ 1 ∷ 0 ∷ 0 ∷ 2 ∷ nine_bytes) ++ (2 ∷ 3 ∷ 2 ∷ 0 ∷ 0 ∷ 1 ∷ nine_bytes) ++ (1 ∷ 4 ∷ 1 ∷ 0xFF ∷ 0 ∷ 0 ∷ eight_bytes))
+        ≡ record { number = 0x0301; tag = 0x01000002; packet = nine_bytes } ∷ record { number = 0x0104; tag = 0x01FF0000; packet = eight_bytes }
+        ∷ record { number = 0x0102; tag = 0x02000001; packet = eight_bytes } ∷ record { number = 0x0203; tag = 0x02000001; packet = nine_bytes } ∷ [] }
+    ensures twice { map (λ n. ats_fault_of (numbered 1 2 ++ numbered n 2)) (2 ∷ 1 ∷ []) ≡ None ∷ Some (record { entry = 2; reason = 2 }) ∷ [] }
+    ensures relative { rts_of ((0xFE ∷ 0xDC ∷ nine_bytes) ++ (0xBA ∷ 0x98 ∷ eight_bytes) ++ (1 ∷ 0 ∷ long_bytes 250))
+        ≡ record { tag = 0xFEDC; packet = nine_bytes } ∷ record { tag = 0xBA98; packet = eight_bytes } ∷ record { tag = 0x0100; packet = long_bytes 250 } ∷ [] }
+{}
