@@ -98,3 +98,21 @@ waiting_one = waiting []
 -- sequences that all wait, with a command at the latest time, and relative ones that are enabled
 abbrev pub at_any : Basis
 at_any = record { time = 1000; all = replicate 66 (record { loaded = timed 0xFFFFFFFF mm_noop ∷ []; left = []; base = 0; enabled = true }) }
+
+-- commands with the number of a sequence over 255
+abbrev pub numbered_wide : ℕ → ℕ → ℕ → ℕ → List ℕ
+numbered_wide code check high low = 0x18 ∷ 0xA9 ∷ 0xC0 ∷ 0 ∷ 0 ∷ 3 ∷ code ∷ check ∷ high ∷ low ∷ []
+
+-- an event of Stored Command of type 2, at the time 0x01020300 and so many seconds
+abbrev pub told_late : ℕ → ℕ → Out
+told_late id second = Made (
+    8 ∷ 8 ∷ 0xC0 ∷ 0 ∷ 0 ∷ 0x25 ∷ 1 ∷ 2 ∷ 3 ∷ second ∷ 0 ∷ 0
+    ∷ 0x53 ∷ 0x43 ∷ 0 ∷ 0 ∷ 0 ∷ 0 ∷ 0 ∷ 0 ∷ 0 ∷ 0 ∷ 0 ∷ 0 ∷ 0 ∷ 0 ∷ 0 ∷ 0 ∷ 0 ∷ 0 ∷ 0 ∷ 0
+    ∷ 0 ∷ id ∷ 0 ∷ 2 ∷ 0 ∷ 0 ∷ 0 ∷ 0x42 ∷ 0 ∷ 0 ∷ 0 ∷ 1 ∷ [])
+
+-- housekeeping at second n below 24 behind 1,000: both counts, the absolute sequence that runs, its commands left, the commands sent and
+-- those with a wrong checksum, all below 256, and no relative sequence
+abbrev pub shown : ℕ → ℕ → ℕ → ℕ → ℕ → ℕ → ℕ → Out
+shown n accepted errors ats left sent wrong = Made (
+    (8 ∷ 0xAA ∷ 0xC0 ∷ 0 ∷ 0 ∷ 0x21 ∷ 0 ∷ 0 ∷ 3 ∷ (0xE8 + n) ∷ 0 ∷ 0
+    ∷ accepted ∷ errors ∷ ats ∷ 0 ∷ 0 ∷ left ∷ 0 ∷ sent ∷ 0 ∷ wrong ∷ 0 ∷ 0 ∷ []) ++ replicate 16 0)

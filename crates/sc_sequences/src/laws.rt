@@ -1,12 +1,14 @@
 //! What the definitions give in small cases, and the sentences that users rely on. The functions do nothing: their contracts are the
 //! laws. The rows' bytes are written by hand.
-ghost use Rattle.std.specs.Prelude.{◌≡◌, ◌<◌, ◌≤◌, ℕ, List, [], ◌∷◌, ◌++◌, length, drop, replicate, filter_map, slice_set, Option, Some, None, true, false};
+ghost use Rattle.std.specs.Prelude.{◌≡◌, ◌<◌, ◌≤◌, ℕ, List, [], ◌∷◌, ◌++◌, length, drop, map, replicate, filter_map, slice_set, Option, Some, None, true, false};
 ghost use Rattle.std.specs.List.{All};
 ghost use Rattle.bus_pipes.specs.declared.names.Out.TheVariants.{Made, Stored};
 ghost use Rattle.histories.specs.Entries.Entry.{Woken, Activated};
+ghost use Rattle.commands.specs.Rows.{numbers_of_rows};
 ghost use Rattle.commands.specs.Verdicts.{verdict_at};
 ghost use Rattle.commands.specs.declared.verdicts.Verdict.TheVariants.{Other, Request, Refused, Accepted};
 ghost use Rattle.sc_sequences.specs.declared.instructions.Instruction.TheVariants.{Plain, StartAts, StopAts, StartRts, StopRts, DisableRts, EnableRts, SwitchAts, JumpAts};
+ghost use Rattle.sc_sequences.specs.Messages.{sc_codes};
 ghost use Rattle.sc_sequences.specs.Verdicts.{sc_protocol};
 ghost use Rattle.sc_sequences.specs.Histories.{Input, ScEntry, Beginning, Activation, activation_at, input_of, begun_at, sequences_of, tables_after};
 ghost use Rattle.sc_sequences.specs.Sequences.{Sequence, is_running, at_place, head_time};
@@ -19,8 +21,8 @@ ghost use Rattle.table_files.specs.declared.kinds.TableKind.TheVariants.{Ats, Rt
 ghost use Rattle.sc_tables.specs.Commands.{TimedCommand, commands_in};
 ghost use Rattle.sc_sequences.specs.declared.state.Sc.{Sc};
 ghost use Rattle.sc_sequences.specs.declared.instructions.Instruction.{Instruction};
-ghost use Rattle.sc_sequences.specs.Housekeeping.{running_mask, enabled_mask, housekeeping_of};
-ghost use Rattle.sc_sequences.specs.Rows.{mm_noop, md_noop, cs_noop, bad_noop, bare, numbered, jump_to, request, told, timed, peek, no_tables, with_ats, with_rts, begun, at_second, all_running, waiting_one, at_any, one_in_first, start_heard, sent_behind, sent_each_second};
+ghost use Rattle.sc_sequences.specs.Housekeeping.{running_mask, enabled_mask, report_of, housekeeping_of};
+ghost use Rattle.sc_sequences.specs.Rows.{mm_noop, md_noop, cs_noop, bad_noop, bare, numbered, jump_to, request, told, timed, peek, no_tables, with_ats, with_rts, begun, at_second, all_running, waiting_one, at_any, one_in_first, start_heard, sent_behind, sent_each_second, numbered_wide, told_late, shown};
 
 /// At one time an absolute sequence goes before relative ones, and these by their numbers, in whatever order they were started.
 pub fn ats_leaves_before_rts()
@@ -235,4 +237,59 @@ pub fn tables_are_those_activated()
 #[tactic(auto, using(crate::proofs::Reaching::reached_timed))]
 pub fn sequences_stay_in_order()
     ensures { (begin : Beginning) (history : List ScEntry) → AreTablesTimed begin.tables → AreEntriesTimed history → AreTimed (sequences_of begin history).all }
+{}
+
+/// Each code with the shortest and the longest payload of its commands.
+pub fn length_rows()
+    ensures codes { numbers_of_rows sc_codes
+        ≡ (0 ∷ 0 ∷ 0 ∷ []) ∷ (1 ∷ 0 ∷ 0 ∷ []) ∷ (2 ∷ 2 ∷ 2 ∷ []) ∷ (3 ∷ 0 ∷ 0 ∷ []) ∷ (4 ∷ 2 ∷ 2 ∷ []) ∷ (5 ∷ 2 ∷ 2 ∷ [])
+        ∷ (6 ∷ 2 ∷ 2 ∷ []) ∷ (7 ∷ 2 ∷ 2 ∷ []) ∷ (8 ∷ 0 ∷ 0 ∷ []) ∷ (9 ∷ 4 ∷ 4 ∷ []) ∷ [] }
+{}
+
+/// Numbers of sequences over 255 are refused, whatever their low byte; of each command the first and the last number that there is.
+pub fn number_rows()
+    ensures wide { map (verdict_at sc_protocol at_any []) (numbered_wide 2 0x8F 1 1
+        ∷ numbered_wide 2 0x8D 2 0
+        ∷ numbered_wide 4 0x89 1 1
+        ∷ numbered_wide 4 0xCB 2 0x40
+        ∷ numbered_wide 5 0x88 1 1
+        ∷ numbered_wide 5 0xCA 2 0x40
+        ∷ numbered_wide 6 0x8B 1 1
+        ∷ numbered_wide 6 0xC9 2 0x40
+        ∷ numbered_wide 7 0x8A 1 1
+        ∷ numbered_wide 7 0xC8 2 0x40 ∷ [])
+        ≡ replicate 10 (Refused 4) }
+    ensures ats { map (verdict_at sc_protocol at_any []) (numbered_wide 2 0x8E 0 1
+        ∷ numbered_wide 2 0x8D 0 2 ∷ []) ≡ Accepted 2 (StartAts 1) ∷ Accepted 2 (StartAts 2) ∷ [] }
+    ensures start { map (verdict_at sc_protocol at_any []) (numbered_wide 4 0x88 0 1
+        ∷ numbered_wide 4 0xC9 0 0x40 ∷ []) ≡ Accepted 4 (StartRts 1) ∷ Accepted 4 (StartRts 64) ∷ [] }
+    ensures stop { map (verdict_at sc_protocol at_any []) (numbered_wide 5 0x89 0 1
+        ∷ numbered_wide 5 0xC8 0 0x40 ∷ []) ≡ Accepted 5 (StopRts 1) ∷ Accepted 5 (StopRts 64) ∷ [] }
+    ensures disable { map (verdict_at sc_protocol at_any []) (numbered_wide 6 0x8A 0 1
+        ∷ numbered_wide 6 0xCB 0 0x40 ∷ []) ≡ Accepted 6 (DisableRts 1) ∷ Accepted 6 (DisableRts 64) ∷ [] }
+    ensures enable { map (verdict_at sc_protocol at_any []) (numbered_wide 7 0x8B 0 1
+        ∷ numbered_wide 7 0xCA 0 0x40 ∷ []) ≡ Accepted 7 (EnableRts 1) ∷ Accepted 7 (EnableRts 64) ∷ [] }
+{}
+
+/// Times over 2^24: a command leaves at its own time and not at one that has the low bytes of it; and the last relative sequence.
+pub fn time_rows()
+    ensures late { sent_behind (begun_at 0x01020300 (with_ats 1 (timed 0x01020304 mm_noop ∷ timed 0x02020304 md_noop ∷ []) no_tables)) []
+        (input_of 0x01020300 (numbered 2 0x8D 2 ∷ []) ∷ input_of 0x01020304 [] ∷ [])
+        ≡ (told_late 18 0 ∷ []) ∷ (Stored mm_noop ∷ []) ∷ [] }
+    ensures ends { sent_behind (begun_at 0x01020300 (with_ats 0 (timed 0x00020305 mm_noop ∷ timed 0x01020305 md_noop ∷ []) no_tables)) []
+        (input_of 0x01020300 (numbered 2 0x8E 1 ∷ []) ∷ input_of 0x01020305 [] ∷ [])
+        ≡ (told_late 18 0 ∷ []) ∷ (Stored md_noop ∷ told_late 103 5 ∷ []) ∷ [] }
+    ensures last { sent_each_second (with_rts 64 (timed 0 md_noop ∷ timed 256 cs_noop ∷ []) no_tables) ((numbered 7 0xCA 0x40 ∷ numbered 4 0xC9 0x40 ∷ []) ∷ [] ∷ [])
+        ≡ (told 23 2 0 ∷ told 20 2 0 ∷ Stored md_noop ∷ []) ∷ [] ∷ [] }
+{}
+
+/// What is shown: commands sent and commands with a wrong checksum, which differ, which a reset of the counts keeps, and of which the low 16
+/// bits are shown.
+pub fn shown_rows()
+    ensures sent { sent_each_second (with_ats 0 (timed 1000 mm_noop ∷ timed 1000 md_noop ∷ timed 1001 bad_noop ∷ timed 1005 cs_noop ∷ []) no_tables)
+        ((numbered 2 0x8E 1 ∷ []) ∷ [] ∷ (request ∷ bare 1 0x8E ∷ request ∷ []) ∷ [])
+        ≡ (told 18 2 0 ∷ Stored mm_noop ∷ Stored md_noop ∷ []) ∷ (told 101 3 1 ∷ [])
+        ∷ (shown 2 1 0 1 1 2 1 ∷ told 17 2 2 ∷ shown 2 0 0 1 1 2 1 ∷ []) ∷ [] }
+    ensures counted { report_of (record { all = replicate 66 waiting_one; sent = 0x0001FEDC; wrong = 0x0002BA98 })
+        ≡ record { ats = 0; left = 0; sent = 0xFEDC; wrong = 0xBA98; masks = record { running = 0; enabled = 0 } } }
 {}
