@@ -1,5 +1,5 @@
 -- Tables, wakeups and packets of the worked rows.
-use Rattle.std.specs.Prelude.{ℕ, ◌+◌, false, List, [], ◌∷◌, map, replicate}
+use Rattle.std.specs.Prelude.{ℕ, ◌+◌, false, List, [], ◌∷◌, ◌++◌, map, replicate}
 use Rattle.histories.specs.Words.{along}
 use Rattle.histories.specs.Entries.Entry.{Woken, Activated}
 use Rattle.bus_pipes.specs.declared.names.Out.{Out}
@@ -81,3 +81,44 @@ sent_along tables entries = along (sent_in tables) entries
 -- The offsets in their entries at which the slices of a history begin.
 abbrev pub begins_of : TablePair → List CsEntry → List ℕ
 begins_of tables entries = map (λ s. s.from) (slices_among (happened_of tables entries))
+
+-- A command for a table by its code, check and number, and one for an entry of it by code, check and payload.
+abbrev pub for_table : ℕ → ℕ → ℕ → ℕ → List ℕ
+for_table code check high low = 0x18 ∷ 0x9F ∷ 0xC0 ∷ 0 ∷ 0 ∷ 3 ∷ code ∷ check ∷ high ∷ low ∷ []
+
+abbrev pub for_entry : ℕ → ℕ → List ℕ → List ℕ
+for_entry code check payload = 0x18 ∷ 0x9F ∷ 0xC0 ∷ 0 ∷ 0 ∷ 5 ∷ code ∷ check ∷ payload
+
+-- A table whose first and last entries are enabled and have a byte each.
+abbrev pub both_ends : List Segment
+both_ends = (record { state = 1; start = 0x1000; len = 1 }) ∷ replicate 14 blank_segment ++ (record { state = 1; start = 0x1001; len = 1 }) ∷ []
+
+-- The places of the slices of a history.
+abbrev pub places_of : TablePair → List CsEntry → List ℕ
+places_of tables entries = map (λ s. s.place) (slices_among (happened_of tables entries))
+
+-- A table whose last entry is enabled and has the four bytes at 0xFEDCBA98, and a wakeup with these bytes.
+abbrev pub far_entry : List Segment
+far_entry = replicate 15 blank_segment ++ (record { state = 1; start = 0xFEDCBA98; len = 4 }) ∷ []
+
+abbrev pub far_wakeup : ℕ → List (List ℕ) → Input
+far_wakeup time commands = record {
+  time = time;
+  commands = commands;
+  seen = record { areas = (record { region = record { kind = Ram; start = 0xFEDCBA98; len = 4 }; bytes = 0xA1 ∷ 0xB2 ∷ 0xC3 ∷ 0xD4 ∷ [] }) ∷ []; guarded = false ∷ [] };
+}
+
+-- The report of its baseline, and what answers it at the time 0x01020304.
+abbrev pub far_report : List ℕ
+far_report = for_entry 8 0xA4 (0 ∷ 1 ∷ 0 ∷ 0x10 ∷ [])
+
+abbrev pub far_baseline : List ℕ
+far_baseline =
+    8 ∷ 0xA5 ∷ 0xC0 ∷ 0 ∷ 0 ∷ 0x0D ∷ 1 ∷ 2 ∷ 3 ∷ 4 ∷ 0 ∷ 0
+    ∷ 0 ∷ 1 ∷ 0 ∷ 0x10 ∷ 0 ∷ 1 ∷ 0x74 ∷ 0xD3 ∷ []
+
+abbrev pub far_event : List ℕ
+far_event =
+    8 ∷ 8 ∷ 0xC0 ∷ 0 ∷ 0 ∷ 0x25 ∷ 1 ∷ 2 ∷ 3 ∷ 4 ∷ 0 ∷ 0
+    ∷ 0x43 ∷ 0x53 ∷ 0 ∷ 0 ∷ 0 ∷ 0 ∷ 0 ∷ 0 ∷ 0 ∷ 0 ∷ 0 ∷ 0 ∷ 0 ∷ 0 ∷ 0 ∷ 0 ∷ 0 ∷ 0 ∷ 0 ∷ 0
+    ∷ 0 ∷ 0x18 ∷ 0 ∷ 2 ∷ 0 ∷ 0 ∷ 0 ∷ 0x42 ∷ 0 ∷ 0 ∷ 0 ∷ 1 ∷ []

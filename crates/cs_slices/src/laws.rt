@@ -1,16 +1,18 @@
 //! What the definitions give in small cases, and sentences that they make. The functions do nothing: their contracts are the laws.
-ghost use Rattle.std.specs.Prelude.{◌≡◌, ◌==◌, not, ◌≢◌, ◌≤◌, ◌<◌, ◌++◌, ℕ, List, [], ◌∷◌, length, replicate, None, Some, true, false, codes};
+ghost use Rattle.std.specs.Prelude.{◌≡◌, ◌==◌, not, ◌≢◌, ◌≤◌, ◌<◌, ◌++◌, ℕ, List, [], ◌∷◌, length, map, replicate, None, Some, true, false, codes};
 ghost use Rattle.histories.specs.Entries.Entry.{Woken, Activated};
 ghost use Rattle.std.specs.List.{list_any};
 ghost use Rattle.packet_forms.specs.Built.{event_of};
 ghost use Rattle.packet_forms.specs.Crc.{crc_of};
 ghost use Rattle.packet_forms.specs.Names.{name_of};
 ghost use Rattle.bus_pipes.specs.declared.names.Out.TheVariants as outs;
+ghost use Rattle.commands.specs.Rows.{numbers_of_rows};
 ghost use Rattle.commands.specs.Verdicts.{verdict_at};
 ghost use Rattle.commands.specs.declared.verdicts.Verdict.TheVariants.{Other, Request, Refused, Accepted};
 ghost use Rattle.memory_window.specs.Memory.{Memory};
 ghost use Rattle.cs_slices.specs.declared.instructions.Instruction.TheVariants.{Plain, Whole, Table, Entry, Report};
 ghost use Rattle.cs_slices.specs.Tables.{TablePair, pair_of, with_table, entry_in, segments_of, segments_fault_of, blank_segment, blank_segments};
+ghost use Rattle.cs_slices.specs.Messages.{cs_codes};
 ghost use Rattle.cs_slices.specs.Verdicts.{cs_protocol};
 ghost use Rattle.cs_slices.specs.Happenings.{Slice, Happening, slices_among, since_slice, orders_since, slices_since};
 ghost use Rattle.cs_slices.specs.Orders.{table_of, is_entry_on, takes_part, breaks_off};
@@ -22,7 +24,7 @@ ghost use Rattle.cs_slices.specs.Telling.{tells_miscompare};
 ghost use Rattle.cs_slices.specs.Housekeeping.{flags_of, housekeeping_of};
 ghost use Rattle.cs_slices.specs.Answers.{baseline_packet};
 ghost use Rattle.cs_slices.specs.Step.{cs_items};
-ghost use Rattle.cs_slices.specs.Rows.{three_bytes, three_with, long_entry, second_table, wakeup, woken, active, at, entry_off, entry_on, table_off, whole_off, request, cs_event, shown, sent_along, begins_of};
+ghost use Rattle.cs_slices.specs.Rows.{three_bytes, three_with, long_entry, second_table, wakeup, woken, active, at, entry_off, entry_on, table_off, whole_off, request, cs_event, shown, sent_along, begins_of, for_table, for_entry, both_ends, places_of, far_entry, far_wakeup, far_report, far_baseline, far_event};
 
 /// A payload of zero bytes has no fault, and spells the table of empty entries.
 pub fn blank_table()
@@ -188,4 +190,51 @@ pub fn miscompares_are_told()
     ensures later { (tables : TablePair) (history : List CsEntry) (input : Input) (s : Slice) (base : ℕ) → slice_at tables history input ≡ Some s → s.ends ≡ true
         → baseline_at s.place (before_slice (tables_after tables history) (happened_of tables history) input) ≡ Some base
         → list_any tells_miscompare (cs_items tables history input) ≡ not (base == crc_of 0 (pass_bytes s.place (slices_since (table_of s.place) (before_slice (tables_after tables history) (happened_of tables history) input) ++ s ∷ []))) }
+{}
+
+/// Each code with the shortest and the longest payload of its commands.
+pub fn length_rows()
+    ensures codes { numbers_of_rows cs_codes
+        ≡ (0 ∷ 0 ∷ 0 ∷ []) ∷ (1 ∷ 0 ∷ 0 ∷ []) ∷ (2 ∷ 0 ∷ 0 ∷ []) ∷ (3 ∷ 0 ∷ 0 ∷ []) ∷ (4 ∷ 2 ∷ 2 ∷ []) ∷ (5 ∷ 2 ∷ 2 ∷ [])
+        ∷ (6 ∷ 4 ∷ 4 ∷ []) ∷ (7 ∷ 4 ∷ 4 ∷ []) ∷ (8 ∷ 4 ∷ 4 ∷ []) ∷ [] }
+{}
+
+/// Numbers of tables and entries of which the high byte alone is wrong, and those next to the first and the last.
+pub fn number_rows()
+    ensures tables { map (verdict_at cs_protocol second_table []) (for_table 4 0xBF 0 0
+        ∷ for_table 4 0xBE 0 1
+        ∷ for_table 4 0xBD 0 2
+        ∷ for_table 4 0xBC 0 3
+        ∷ for_table 4 0xBC 1 2
+        ∷ for_table 5 0xBE 0 0
+        ∷ for_table 5 0xBF 0 1
+        ∷ for_table 5 0xBD 2 1 ∷ [])
+        ≡ Refused 4 ∷ Accepted 4 (Table 1 true) ∷ Accepted 4 (Table 2 true) ∷ Refused 4 ∷ Refused 4 ∷ Refused 4 ∷ Accepted 5 (Table 1 false) ∷ Refused 4 ∷ [] }
+    ensures of_entries { map (verdict_at cs_protocol second_table []) (for_entry 6 0xB9 (1 ∷ 2 ∷ 0 ∷ 1 ∷ [])
+        ∷ for_entry 7 0xB8 (1 ∷ 2 ∷ 0 ∷ 1 ∷ [])
+        ∷ for_entry 8 0xB7 (1 ∷ 2 ∷ 0 ∷ 1 ∷ []) ∷ []) ≡ Refused 4 ∷ Refused 4 ∷ Refused 4 ∷ [] }
+    ensures entries { map (verdict_at cs_protocol second_table []) (for_entry 6 0xB9 (0 ∷ 2 ∷ 1 ∷ 1 ∷ [])
+        ∷ for_entry 7 0xB8 (0 ∷ 2 ∷ 1 ∷ 1 ∷ [])
+        ∷ for_entry 8 0xB7 (0 ∷ 2 ∷ 1 ∷ 1 ∷ [])
+        ∷ for_entry 8 0xB7 (0 ∷ 2 ∷ 0 ∷ 0 ∷ []) ∷ []) ≡ Refused 5 ∷ Refused 5 ∷ Refused 5 ∷ Refused 5 ∷ [] }
+    ensures ends { map (verdict_at cs_protocol (pair_of both_ends blank_segments) []) (for_entry 6 0xBB (0 ∷ 1 ∷ 0 ∷ 1 ∷ [])
+        ∷ for_entry 7 0xAB (0 ∷ 1 ∷ 0 ∷ 0x10 ∷ [])
+        ∷ for_entry 8 0xB6 (0 ∷ 1 ∷ 0 ∷ 2 ∷ [])
+        ∷ for_entry 8 0xBB (0 ∷ 1 ∷ 0 ∷ 0x0F ∷ [])
+        ∷ for_entry 8 0xA7 (0 ∷ 2 ∷ 0 ∷ 0x10 ∷ []) ∷ [])
+        ≡ Accepted 6 (Entry 1 1 true) ∷ Accepted 7 (Entry 1 16 false) ∷ Refused 6 ∷ Refused 6 ∷ Refused 6 ∷ [] }
+    ensures states { map (λ n. segments_fault_of (n ∷ 1 ∷ 0 ∷ 0 ∷ 1 ∷ 2 ∷ 3 ∷ 4 ∷ 1 ∷ 0 ∷ 0 ∷ 0 ∷ replicate 180 0)) (0 ∷ 1 ∷ []) ≡ None ∷ Some (record { entry = 1; reason = 1 }) ∷ [] }
+    ensures last { segments_fault_of (replicate 180 0 ++ (0 ∷ 2 ∷ replicate 10 0)) ≡ Some (record { entry = 16; reason = 2 }) }
+{}
+
+/// The ring goes over the first and the last entry of the EEPROM table and then over those of the memory table.
+pub fn place_rows()
+    ensures ring { places_of (pair_of both_ends both_ends) (at 0 ∷ at 1 ∷ at 2 ∷ at 3 ∷ at 4 ∷ []) ≡ 0 ∷ 15 ∷ 16 ∷ 31 ∷ 0 ∷ [] }
+    ensures eeprom { places_of (pair_of both_ends blank_segments) (at 0 ∷ at 1 ∷ at 2 ∷ []) ≡ 0 ∷ 15 ∷ 0 ∷ [] }
+{}
+
+/// A pass at an address with all its bytes, and its report at such a time.
+pub fn wide_rows()
+    ensures report { cs_items (pair_of far_entry blank_segments) (Woken (far_wakeup 0x01020303 []) ∷ []) (far_wakeup 0x01020304 (far_report ∷ []))
+        ≡ outs.Made far_baseline ∷ outs.Made far_event ∷ [] }
 {}
