@@ -88,3 +88,21 @@ sent_in tables earlier (Activated a) = []
 
 unfoldable pub sent_along : List DwellTable → List MdEntry → List (List Out)
 sent_along tables entries = along (sent_in tables) entries
+
+-- Four bytes of RAM at the address 0xFEDCBA98.
+abbrev pub far_bytes : Memory
+far_bytes = record { areas = (record { region = record { kind = Ram; start = 0xFEDCBA98; len = 4 }; bytes = 0xA1 ∷ 0xB2 ∷ 0xC3 ∷ 0xD4 ∷ [] }) ∷ []; guarded = false ∷ [] }
+
+-- Four tables, of which the last reads all four of these bytes and then the last two, a round a wakeup.
+abbrev pub far_tables : List DwellTable
+far_tables =
+    blank_table ∷ blank_table ∷ blank_table
+    ∷ (record { enabled = true; entries = (record { len = 4; delay = 0; at = 0xFEDCBA98 }) ∷ (record { len = 2; delay = 1; at = 0xFEDCBA9A }) ∷ replicate 23 blank_entry }) ∷ []
+
+-- A start and a stop with a mask, by their code and check.
+abbrev pub masked : ℕ → ℕ → ℕ → ℕ → List ℕ
+masked code check high low = 0x18 ∷ 0x90 ∷ 0xC0 ∷ 0 ∷ 0 ∷ 3 ∷ code ∷ check ∷ high ∷ low ∷ []
+
+-- A jam, by its check and its payload.
+abbrev pub jammed : ℕ → List ℕ → List ℕ
+jammed check payload = 0x18 ∷ 0x90 ∷ 0xC0 ∷ 0 ∷ 0 ∷ 0x0D ∷ 4 ∷ check ∷ payload

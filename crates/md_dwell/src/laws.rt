@@ -1,9 +1,10 @@
 //! What the definitions give in small cases, and the sentence that they make of rounds. The functions do nothing: their contracts are
 //! the laws.
-ghost use Rattle.std.specs.Prelude.{◌≡◌, ◌≢◌, ◌+◌, ◌*◌, ◌-◌, ◌<◌, ◌++◌, ℕ, List, [], ◌∷◌, length, replicate, true, false, None, Some};
+ghost use Rattle.std.specs.Prelude.{◌≡◌, map, ◌≢◌, ◌+◌, ◌*◌, ◌-◌, ◌<◌, ◌++◌, ℕ, List, [], ◌∷◌, length, replicate, true, false, None, Some};
 ghost use Rattle.histories.specs.Entries.{wakeups};
 ghost use Rattle.histories.specs.Entries.Entry.{Woken, Activated};
 ghost use Rattle.bus_pipes.specs.declared.names.Out.TheVariants as outs;
+ghost use Rattle.commands.specs.Rows.{numbers_of_rows};
 ghost use Rattle.commands.specs.Verdicts.{verdict_at};
 ghost use Rattle.commands.specs.declared.verdicts.Verdict.TheVariants.{Other, Request, Refused, Accepted};
 ghost use Rattle.memory_window.specs.Memory.{Memory};
@@ -12,6 +13,7 @@ ghost use Rattle.md_dwell.specs.declared.instructions.Instruction.TheVariants.{P
 ghost use Rattle.md_dwell.specs.Tables.{DwellTable, dwell_of, dwell_fault_of, blank_entry, blank_table};
 ghost use Rattle.md_dwell.specs.Lists.{delays, delays_to_last};
 ghost use Rattle.md_dwell.specs.Rounds.{round_bytes, round_at};
+ghost use Rattle.md_dwell.specs.Messages.{md_codes};
 ghost use Rattle.md_dwell.specs.Verdicts.{md_protocol};
 ghost use Rattle.md_dwell.specs.Orders.{Input, names};
 ghost use Rattle.md_dwell.specs.Histories.{Activation, MdEntry, activation_of, tables_after, started_at};
@@ -19,7 +21,7 @@ ghost use Rattle.md_dwell.specs.Housekeeping.{entries_now, is_on, enabled_bits, 
 ghost use Rattle.md_dwell.specs.Step.{dwell_packet, md_items};
 ghost use Rattle.md_dwell.specs.State.{Stands, AllBegin};
 ghost use Rattle.md_dwell.specs.declared.state.Md.{Md};
-ghost use Rattle.md_dwell.specs.Rows.{bytes_in_wakeup, quiet, three_entries, three_bytes, three_bytes_once, enabled_alone, turned_round, woken, woken_with, active, request, start_first, stop_first, jam_third, two_read, three_read, enabled_shown, sent_along};
+ghost use Rattle.md_dwell.specs.Rows.{bytes_in_wakeup, quiet, three_entries, three_bytes, three_bytes_once, enabled_alone, turned_round, woken, woken_with, active, request, start_first, stop_first, jam_third, two_read, three_read, enabled_shown, sent_along, far_bytes, far_tables, masked, jammed};
 
 /// A payload of zero bytes has no fault, and spells the table without entries.
 pub fn blank_dwell()
@@ -149,4 +151,63 @@ pub fn tables_are_exchanged()
     ensures { sent_along (three_bytes 2) (woken 0 ∷ active 2 turned_round ∷ woken_with 1 (request ∷ []) ∷ woken 2 ∷ active 1 (three_entries false 2) ∷ woken_with 3 (request ∷ []) ∷ active 1 (three_entries true 2) ∷ woken 4 ∷ woken 5 ∷ woken 6 ∷ [])
         ≡ [] ∷ [] ∷ (enabled_shown 0xE9 3 ∷ []) ∷ (three_read 1 0xEA 0xA0 0xB0 0xC2 ∷ two_read 2 0xEA 0xC1 0xA2 ∷ []) ∷ [] ∷ (enabled_shown 0xEB 2 ∷ two_read 2 0xEB 0xC2 0xA3 ∷ [])
         ∷ [] ∷ (two_read 2 0xEC 0xC3 0xA4 ∷ []) ∷ (two_read 2 0xED 0xC4 0xA5 ∷ []) ∷ (three_read 1 0xEE 0xA4 0xB4 0xC6 ∷ two_read 2 0xEE 0xC5 0xA6 ∷ []) ∷ [] }
+{}
+
+/// Each code with the shortest and the longest payload of its commands.
+pub fn length_rows()
+    ensures codes { numbers_of_rows md_codes ≡ (0 ∷ 0 ∷ 0 ∷ []) ∷ (1 ∷ 0 ∷ 0 ∷ []) ∷ (2 ∷ 2 ∷ 2 ∷ []) ∷ (3 ∷ 2 ∷ 2 ∷ []) ∷ (4 ∷ 12 ∷ 12 ∷ []) ∷ [] }
+{}
+
+/// Masks and numbers of which one byte alone is wrong, each mask of one table and that of all.
+pub fn number_rows()
+    ensures starts { map (verdict_at md_protocol far_bytes []) (masked 2 0xB7 0 1
+        ∷ masked 2 0xBE 0 8
+        ∷ masked 2 0xB9 0 0x0F
+        ∷ masked 2 0xA6 0 0x10
+        ∷ masked 2 0xB6 1 1
+        ∷ masked 2 0xB7 1 0 ∷ [])
+        ≡ Accepted 2 (Start 1) ∷ Accepted 2 (Start 8) ∷ Accepted 2 (Start 15) ∷ Refused 4 ∷ Refused 4 ∷ Refused 4 ∷ [] }
+    ensures stops { map (verdict_at md_protocol far_bytes []) (masked 3 0xB6 0 1
+        ∷ masked 3 0xBF 0 8
+        ∷ masked 3 0xB8 0 0x0F
+        ∷ masked 3 0xA7 0 0x10
+        ∷ masked 3 0xB7 1 1
+        ∷ masked 3 0xB6 1 0 ∷ [])
+        ≡ Accepted 3 (Stop 1) ∷ Accepted 3 (Stop 8) ∷ Accepted 3 (Stop 15) ∷ Refused 4 ∷ Refused 4 ∷ Refused 4 ∷ [] }
+    ensures jams { map (verdict_at md_protocol far_bytes []) (jammed 0x98 (0 ∷ 1 ∷ 0 ∷ 1 ∷ 0 ∷ 4 ∷ 0xFE ∷ 0xDC ∷ 0xFE ∷ 0xDC ∷ 0xBA ∷ 0x98 ∷ [])
+        ∷ jammed 0xA0 (0 ∷ 4 ∷ 0 ∷ 0x19 ∷ 0 ∷ 2 ∷ 1 ∷ 2 ∷ 0xFE ∷ 0xDC ∷ 0xBA ∷ 0x9A ∷ []) ∷ [])
+        ≡ Accepted 4 (Jam 1 1 (record { len = 4; delay = 0xFEDC; at = 0xFEDCBA98 }))
+        ∷ Accepted 4 (Jam 4 25 (record { len = 2; delay = 0x0102; at = 0xFEDCBA9A })) ∷ [] }
+    ensures tables { map (verdict_at md_protocol far_bytes []) (jammed 0xBA (0 ∷ 0 ∷ 0 ∷ 1 ∷ 0 ∷ 4 ∷ 0 ∷ 1 ∷ 0xFE ∷ 0xDC ∷ 0xBA ∷ 0x98 ∷ [])
+        ∷ jammed 0xBA (1 ∷ 1 ∷ 0 ∷ 1 ∷ 0 ∷ 4 ∷ 0 ∷ 1 ∷ 0xFE ∷ 0xDC ∷ 0xBA ∷ 0x98 ∷ []) ∷ []) ≡ Refused 4 ∷ Refused 4 ∷ [] }
+    ensures entries { map (verdict_at md_protocol far_bytes []) (jammed 0xBA (0 ∷ 1 ∷ 0 ∷ 0 ∷ 0 ∷ 4 ∷ 0 ∷ 1 ∷ 0xFE ∷ 0xDC ∷ 0xBA ∷ 0x98 ∷ [])
+        ∷ jammed 0xA0 (0 ∷ 1 ∷ 0 ∷ 0x1A ∷ 0 ∷ 4 ∷ 0 ∷ 1 ∷ 0xFE ∷ 0xDC ∷ 0xBA ∷ 0x98 ∷ [])
+        ∷ jammed 0xBA (0 ∷ 1 ∷ 1 ∷ 1 ∷ 0 ∷ 4 ∷ 0 ∷ 1 ∷ 0xFE ∷ 0xDC ∷ 0xBA ∷ 0x98 ∷ []) ∷ []) ≡ Refused 5 ∷ Refused 5 ∷ Refused 5 ∷ [] }
+    ensures lengths { map (verdict_at md_protocol far_bytes []) (jammed 0xBC (0 ∷ 1 ∷ 0 ∷ 1 ∷ 0 ∷ 3 ∷ 0 ∷ 1 ∷ 0xFE ∷ 0xDC ∷ 0xBA ∷ 0x98 ∷ [])
+        ∷ jammed 0xB7 (0 ∷ 1 ∷ 0 ∷ 1 ∷ 0 ∷ 8 ∷ 0 ∷ 1 ∷ 0xFE ∷ 0xDC ∷ 0xBA ∷ 0x98 ∷ [])
+        ∷ jammed 0xBA (0 ∷ 1 ∷ 0 ∷ 1 ∷ 1 ∷ 4 ∷ 0 ∷ 1 ∷ 0xFE ∷ 0xDC ∷ 0xBA ∷ 0x98 ∷ []) ∷ []) ≡ Refused 6 ∷ Refused 6 ∷ Refused 6 ∷ [] }
+    ensures addresses { map (verdict_at md_protocol (bytes_in_wakeup 0) []) (jammed 0xAD (0 ∷ 1 ∷ 0 ∷ 1 ∷ 0 ∷ 2 ∷ 0 ∷ 1 ∷ 0 ∷ 0 ∷ 0x10 ∷ 0 ∷ [])
+        ∷ jammed 0xAC (0 ∷ 1 ∷ 0 ∷ 1 ∷ 0 ∷ 2 ∷ 0 ∷ 1 ∷ 0 ∷ 1 ∷ 0x10 ∷ 0 ∷ [])
+        ∷ jammed 0xAC (0 ∷ 1 ∷ 0 ∷ 1 ∷ 0 ∷ 2 ∷ 0 ∷ 1 ∷ 1 ∷ 0 ∷ 0x10 ∷ 0 ∷ [])
+        ∷ jammed 0xAF (0 ∷ 1 ∷ 0 ∷ 1 ∷ 0 ∷ 0 ∷ 0 ∷ 1 ∷ 1 ∷ 0 ∷ 0x10 ∷ 1 ∷ []) ∷ [])
+        ≡ Accepted 4 (Jam 1 1 (record { len = 2; delay = 1; at = 0x1000 })) ∷ Refused 7 ∷ Refused 7
+        ∷ Accepted 4 (Jam 1 1 (record { len = 0; delay = 1; at = 0x01001001 })) ∷ [] }
+{}
+
+/// Jams of the first and the last entry of the first and the last table.
+pub fn place_rows()
+    ensures first { entries_now (three_bytes 2) (woken_with 0 ((jammed 0xAF (0 ∷ 1 ∷ 0 ∷ 1 ∷ 0 ∷ 1 ∷ 5 ∷ 6 ∷ 0 ∷ 0 ∷ 0x10 ∷ 3 ∷ [])) ∷ []) ∷ []) [] 1
+        ≡ (record { len = 1; delay = 0x0506; at = 0x1003 }) ∷ (record { len = 1; delay = 2; at = 0x1001 }) ∷ (record { len = 1; delay = 0; at = 0x1002 }) ∷ replicate 22 blank_entry }
+    ensures last { entries_now (three_bytes 2) (woken_with 0 ((jammed 0xB2 (0 ∷ 4 ∷ 0 ∷ 0x19 ∷ 0 ∷ 1 ∷ 5 ∷ 6 ∷ 0 ∷ 0 ∷ 0x10 ∷ 3 ∷ [])) ∷ []) ∷ []) [] 4
+        ≡ replicate 24 blank_entry ++ (record { len = 1; delay = 0x0506; at = 0x1003 }) ∷ [] }
+    ensures other { entries_now (three_bytes 2) (woken_with 0 ((jammed 0xB2 (0 ∷ 4 ∷ 0 ∷ 0x19 ∷ 0 ∷ 1 ∷ 5 ∷ 6 ∷ 0 ∷ 0 ∷ 0x10 ∷ 3 ∷ [])) ∷ []) ∷ []) [] 3 ≡ replicate 25 blank_entry }
+{}
+
+/// A round at an address and a time with all their bytes, and table numbers of which the high byte alone is wrong.
+pub fn wide_rows()
+    ensures round { md_items far_tables [] (record { time = 0x01020304; commands = []; seen = far_bytes })
+        ≡ outs.Made (8 ∷ 0x94 ∷ 0xC0 ∷ 0 ∷ 0 ∷ 0x0F ∷ 1 ∷ 2 ∷ 3 ∷ 4 ∷ 0 ∷ 0 ∷ 0 ∷ 4 ∷ 0 ∷ 6 ∷ 0xA1 ∷ 0xB2 ∷ 0xC3 ∷ 0xD4 ∷ 0xC3 ∷ 0xD4 ∷ []) ∷ [] }
+    ensures flags { map (λ n. dwell_fault_of (n ∷ 1 ∷ replicate 202 0)) (0 ∷ 1 ∷ []) ≡ None ∷ Some (record { entry = 0; reason = 2 }) ∷ [] }
+    ensures lengths { map (λ n. dwell_fault_of (0 ∷ 1 ∷ 0 ∷ 0 ∷ n ∷ 1 ∷ replicate 198 0)) (0 ∷ 1 ∷ []) ≡ None ∷ Some (record { entry = 1; reason = 1 }) ∷ [] }
+    ensures last_fault { dwell_fault_of (replicate 196 0 ++ (0 ∷ 4 ∷ 0 ∷ 0 ∷ 1 ∷ 2 ∷ 3 ∷ 2 ∷ [])) ≡ Some (record { entry = 25; reason = 3 }) }
 {}
