@@ -1,5 +1,5 @@
 -- Tables, packets and wakeups of the worked rows.
-use Rattle.std.specs.Prelude.{ℕ, ◌+◌, List, [], ◌∷◌, replicate, Some}
+use Rattle.std.specs.Prelude.{ℕ, ◌+◌, List, [], ◌∷◌, ◌++◌, replicate, Some}
 use Rattle.histories.specs.Words.{along}
 use Rattle.bus_pipes.specs.declared.names.Out.{Out}
 use Rattle.bus_pipes.specs.declared.names.Out.TheVariants.{Made, Stored}
@@ -72,3 +72,31 @@ shown late accepted active fired results =
 -- What is sent in each wakeup of a history.
 abbrev pub sent_along : Setup → List Input → List (List Out)
 sent_along setup inputs = along (lc_items setup) inputs
+
+-- A packet of a peek's id with 256 bytes, the last of which is 0xF7, and one with the value 0x89ABCDEF from byte 12 on.
+abbrev pub longest : List ℕ
+longest = (8 ∷ 0x8A ∷ 0xC0 ∷ 0 ∷ 0 ∷ 0xF9 ∷ []) ++ replicate 249 0 ++ 0xF7 ∷ []
+
+abbrev pub four_bytes : List ℕ
+four_bytes = 8 ∷ 0x8A ∷ 0xC0 ∷ 0 ∷ 0 ∷ 9 ∷ 1 ∷ 2 ∷ 3 ∷ 4 ∷ 0 ∷ 0 ∷ 0x89 ∷ 0xAB ∷ 0xCD ∷ 0xEF ∷ []
+
+-- A command for the actionpoint of this number, by its code and check.
+abbrev pub numbered : ℕ → ℕ → ℕ → ℕ → List ℕ
+numbered code check high low = 0x18 ∷ 0xA6 ∷ 0xC0 ∷ 0 ∷ 0 ∷ 3 ∷ code ∷ check ∷ high ∷ low ∷ []
+
+-- Actionpoints of which the first and the last are used, on the last watchpoint, and start the sequences 1 and 64.
+abbrev pub both_ends : List ActRow
+both_ends =
+    (record { state = 1; rts = 1; failures = 1; size = 1; words = Watch 31 ∷ replicate 15 Unknown }) ∷ replicate 14 actionpoints.blank_row
+    ++ (record { state = 1; rts = 64; failures = 1; size = 1; words = Watch 31 ∷ replicate 15 Unknown }) ∷ []
+
+-- These actionpoints, and a last watchpoint that asks whether a peek's value is over 5.
+abbrev pub ends_watched : Setup
+ends_watched = record { watch = replicate 31 watchpoints.blank_row ++ watch_row 1 20 Greater 0xFFFFFFFF 5 ∷ []; actions = both_ends }
+
+-- The event of a firing at the time 0x01020304.
+abbrev pub late_event : List ℕ
+late_event =
+    8 ∷ 8 ∷ 0xC0 ∷ 0 ∷ 0 ∷ 0x25 ∷ 1 ∷ 2 ∷ 3 ∷ 4 ∷ 0 ∷ 0
+    ∷ 0x4C ∷ 0x43 ∷ 0 ∷ 0 ∷ 0 ∷ 0 ∷ 0 ∷ 0 ∷ 0 ∷ 0 ∷ 0 ∷ 0 ∷ 0 ∷ 0 ∷ 0 ∷ 0 ∷ 0 ∷ 0 ∷ 0 ∷ 0
+    ∷ 0 ∷ 0x65 ∷ 0 ∷ 3 ∷ 0 ∷ 0 ∷ 0 ∷ 0x42 ∷ 0 ∷ 0 ∷ 0 ∷ 1 ∷ []

@@ -1,8 +1,9 @@
 //! Laws of the definitions, and worked rows, as contracts of functions that do nothing. The rows' bytes are written by hand from the
 //! layouts.
-ghost use Rattle.std.specs.Prelude.{◌≡◌, ◌==◌, ◌++◌, ◌&&◌, if◌then◌else◌, ℕ, Bool, List, [], ◌∷◌, length, replicate, true, false, Option, Some, None};
+ghost use Rattle.std.specs.Prelude.{◌≡◌, ◌==◌, ◌++◌, ◌&&◌, if◌then◌else◌, ℕ, Bool, List, [], ◌∷◌, length, map, replicate, slice_set, true, false, Option, Some, None};
 ghost use Rattle.histories.specs.Words.{along, last_or};
 ghost use Rattle.bus_pipes.specs.declared.names.Out.TheVariants as outs;
+ghost use Rattle.commands.specs.Rows.{numbers_of_rows};
 ghost use Rattle.commands.specs.Verdicts.{verdict_at};
 ghost use Rattle.commands.specs.declared.verdicts.Verdict.TheVariants.{Other, Request, Refused, Accepted};
 ghost use Rattle.lc_watch.specs.Watchpoints as watchpoints;
@@ -15,6 +16,7 @@ ghost use Rattle.lc_watch.specs.Histories.{Input, Setup, ordered_at, switches_in
 ghost use Rattle.lc_watch.specs.Firing.{is_active, is_due, fires};
 ghost use Rattle.lc_watch.specs.Housekeeping.{results_of, housekeeping_of};
 ghost use Rattle.lc_watch.specs.Step.{start_of};
+ghost use Rattle.lc_watch.specs.Messages.{lc_codes};
 ghost use Rattle.lc_watch.specs.Verdicts.{lc_protocol};
 ghost use Rattle.lc_watch.specs.declared.watchpoints.WatchRow.{WatchRow};
 ghost use Rattle.lc_watch.specs.declared.watchpoints.Operator.TheVariants.{Less, LessOrEqual, NotEqual, Equal, GreaterOrEqual, Greater};
@@ -23,7 +25,7 @@ ghost use Rattle.lc_watch.specs.declared.expressions.Word.TheVariants.{Watch, An
 ghost use Rattle.lc_watch.specs.declared.outcomes.Outcome.TheVariants.{Unseen, Clear, Tripped, Outside};
 ghost use Rattle.lc_watch.specs.declared.instructions.Instruction.{Instruction};
 ghost use Rattle.lc_watch.specs.declared.instructions.Instruction.TheVariants.{Plain, Switch};
-ghost use Rattle.lc_watch.specs.Rows.{peek, dwell, watch_row, first_act, first_alone, woken, quiet, set_active, set_passive, request, lc_event, fired_first, shown, sent_along};
+ghost use Rattle.lc_watch.specs.Rows.{peek, dwell, watch_row, first_act, first_alone, woken, quiet, set_active, set_passive, request, lc_event, fired_first, shown, sent_along, longest, four_bytes, numbered, both_ends, ends_watched, late_event};
 
 /// Payloads of zero bytes have no fault, and spell the tables without used entries.
 pub fn blank_tables()
@@ -200,4 +202,53 @@ pub fn passive_evaluations_count()
 pub fn housekeeping_rows()
     ensures { sent_along (first_alone 1 1) (woken 0 (request ∷ []) (peek 9 ∷ []) ∷ woken 1 (request ∷ set_active ∷ request ∷ []) [] ∷ [])
         ≡ (outs.Made (shown 0xE8 0 1 0 0) ∷ fired_first 0xE8) ∷ (outs.Made (shown 0xE9 0 0 1 2) ∷ outs.Made (lc_event 18 2 0xE9) ∷ outs.Made (shown 0xE9 1 1 1 2) ∷ fired_first 0xE9) ∷ [] }
+{}
+
+/// Each code with the shortest and the longest payload of its commands; and the numbers of operators and of words.
+pub fn length_rows()
+    ensures codes { numbers_of_rows lc_codes ≡ (0 ∷ 0 ∷ 0 ∷ []) ∷ (1 ∷ 0 ∷ 0 ∷ []) ∷ (2 ∷ 2 ∷ 2 ∷ []) ∷ (3 ∷ 2 ∷ 2 ∷ []) ∷ [] }
+    ensures operators { map watchpoints.operator_of (0 ∷ 1 ∷ 2 ∷ 3 ∷ 4 ∷ 5 ∷ 6 ∷ 7 ∷ 0x0101 ∷ 0x0106 ∷ 0xFFFF ∷ [])
+        ≡ None ∷ Some Less ∷ Some LessOrEqual ∷ Some NotEqual ∷ Some Equal ∷ Some GreaterOrEqual ∷ Some Greater ∷ replicate 4 None }
+    ensures words { map word_of (0 ∷ 31 ∷ 0x8001 ∷ 0x8002 ∷ 0x8003 ∷ 0x8004 ∷ 32 ∷ 0x0100 ∷ 0x7FFF ∷ 0x8000 ∷ 0x8005 ∷ 0x8101 ∷ 0xFFFF ∷ [])
+        ≡ Watch 0 ∷ Watch 31 ∷ And ∷ Or ∷ Xor ∷ Not ∷ replicate 7 Unknown }
+{}
+
+/// Numbers of actionpoints of which the high byte alone is wrong, and those next to the first and the last.
+pub fn number_rows()
+    ensures active { map (verdict_at lc_protocol both_ends []) (numbered 2 0x81 0 1
+        ∷ numbered 2 0x90 0 0x10
+        ∷ numbered 2 0x82 0 2
+        ∷ numbered 2 0x91 0 0x11
+        ∷ numbered 2 0x80 1 1
+        ∷ numbered 2 0x91 1 0x10 ∷ [])
+        ≡ Accepted 2 (Switch 1 true) ∷ Accepted 2 (Switch 16 true) ∷ Refused 5 ∷ Refused 4 ∷ Refused 4 ∷ Refused 4 ∷ [] }
+    ensures passive { map (verdict_at lc_protocol both_ends []) (numbered 3 0x80 0 1
+        ∷ numbered 3 0x91 0 0x10
+        ∷ numbered 3 0x8E 0 0x0F
+        ∷ numbered 3 0x81 0 0
+        ∷ numbered 3 0x81 1 1
+        ∷ numbered 3 0x90 1 0x10 ∷ [])
+        ≡ Accepted 3 (Switch 1 false) ∷ Accepted 3 (Switch 16 false) ∷ Refused 5 ∷ Refused 4 ∷ Refused 4 ∷ Refused 4 ∷ [] }
+    ensures failures { map (are_failing 0x0102) (replicate 258 true ∷ replicate 257 true ∷ (false ∷ replicate 2 true) ∷ []) ≡ true ∷ false ∷ false ∷ [] }
+{}
+
+/// Values, masks and limits with all their bytes, offsets over 255, and an id of which the high byte alone differs.
+pub fn value_rows()
+    ensures whole { reading (watch_row 3 12 Equal 0xFFFFFFFF 0x89ABCDEF) four_bytes ≡ Tripped }
+    ensures parts { map (λ limit. reading (watch_row 3 12 NotEqual 0xFFFFFFFF limit) four_bytes) (0x88ABCDEF ∷ 0x89AACDEF ∷ 0x89ABCCEF ∷ 0x89ABCDEE ∷ [])
+        ≡ replicate 4 Tripped }
+    ensures masks { map (λ mask. reading (watch_row 3 12 Equal mask (0x89000000)) four_bytes) (0xFF000000 ∷ 0xFF0000FF ∷ 0xFE000000 ∷ []) ≡ Tripped ∷ Clear ∷ Clear ∷ [] }
+    ensures middle { map (λ offset. reading (watch_row 2 offset Equal 0xFFFF 0xABCD) four_bytes) (12 ∷ 13 ∷ 14 ∷ 15 ∷ []) ≡ Clear ∷ Tripped ∷ Clear ∷ Outside ∷ [] }
+    ensures far { map (λ offset. reading (watch_row 1 offset Equal 0xFFFFFFFF 0xF7) longest) (255 ∷ 256 ∷ 0x01FF ∷ []) ≡ Tripped ∷ Outside ∷ Outside ∷ [] }
+    ensures past { reading (watch_row 1 0x0114 Greater 0xFFFFFFFF 5) (peek 9) ≡ Outside }
+    ensures other_id { outcome_of (watch_row 1 20 Greater 0xFFFFFFFF 5) (slice_set (peek 9) 0 9 ∷ []) ≡ Unseen }
+{}
+
+/// The last entries of both tables, and what an actionpoint in the first place and one in the last do on the last watchpoint.
+pub fn place_rows()
+    ensures last_row { actionpoints.row_at (replicate 600 0 ++ (0 ∷ 1 ∷ 0 ∷ 0x40 ∷ 1 ∷ 2 ∷ 0 ∷ 1 ∷ 0 ∷ 0x1F ∷ 0x80 ∷ 5 ∷ 0 ∷ 0 ∷ 0 ∷ 0 ∷ 0 ∷ 0 ∷ 0 ∷ 0 ∷ 0 ∷ 0 ∷ 0 ∷ 0 ∷ 0 ∷ 0 ∷ 0 ∷ 0 ∷ 0 ∷ 0 ∷ 0 ∷ 0 ∷ 0 ∷ 0 ∷ 0 ∷ 0 ∷ 0 ∷ 0 ∷ 0 ∷ 0 ∷ [])) 15
+        ≡ record { state = 1; rts = 64; failures = 0x0102; size = 1; words = Watch 31 ∷ Unknown ∷ replicate 14 (Watch 0) } }
+    ensures fires { sent_along ends_watched ((record { time = 0x01020304; commands = []; seen = peek 9 ∷ [] }) ∷ [])
+        ≡ (outs.Stored (0x18 ∷ 0xA9 ∷ 0xC0 ∷ 0 ∷ 0 ∷ 3 ∷ 4 ∷ 0x88 ∷ 0 ∷ 1 ∷ []) ∷ outs.Made late_event
+        ∷ outs.Stored (0x18 ∷ 0xA9 ∷ 0xC0 ∷ 0 ∷ 0 ∷ 3 ∷ 4 ∷ 0xC9 ∷ 0 ∷ 0x40 ∷ []) ∷ outs.Made late_event ∷ []) ∷ [] }
 {}
