@@ -10,7 +10,7 @@ ghost use Rattle.commands.specs.declared.verdicts.Verdict.TheVariants.{Other, Re
 ghost use Rattle.hs_tables.specs.Counters.{blank_row};
 ghost use Rattle.hs_actions.specs.Outcomes.{act_at};
 ghost use Rattle.hs_actions.specs.State.{left_of};
-ghost use Rattle.hs_actions.specs.Rows.{load_bytes, noop_bytes, hs_event, late_event};
+ghost use Rattle.hs_actions.specs.Rows.{load_bytes, noop_bytes, hs_event, late_event, one_act};
 ghost use Rattle.hs_monitors.specs.declared.instructions.Instruction.TheVariants.{Plain, Monitor, Listen, Clear, Limit};
 ghost use Rattle.hs_monitors.specs.Histories.{HsEntry, Setup};
 ghost use Rattle.hs_monitors.specs.Histories.Activation.{Apps};
@@ -207,12 +207,14 @@ pub fn place_rows()
     ensures other_action { map (λ n. hs_items (last_heard n) [] (heard 0)) (4 ∷ 10 ∷ []) ≡ [] ∷ [] ∷ [] }
 {}
 
-/// A time with all its bytes; and the message actions sent, which a reset of the counts keeps.
+/// A time with all its bytes; and the message actions sent, which resets and a reset of the counts keep.
 pub fn shown_edge_rows()
     ensures time { hs_items (watching 1 3) [] (record { time = 0x01020304; commands = enable ∷ []; seen = record { events = []; counters = [] } })
         ≡ outs.Made (late_event 18 2) ∷ outs.Made (late_event 103 3) ∷ [] }
     ensures sent { hs_items listening (Woken (heard 0) ∷ Woken (wakeup 1 (disable ∷ reset_counts ∷ []) [] []) ∷ []) (wakeup 2 (request ∷ []) [] [])
         ≡ outs.Made (shown 2 0 0 0 1 1 0) ∷ [] }
+    ensures behind_resets { hs_items (setup_with (load_rows 1 31 1 1) (seven_rows 1 15 4) (one_act 1) 0) (Woken (heard 0) ∷ Woken (wakeup 1 (clear ∷ []) [] []) ∷ Woken (heard 2) ∷ []) (wakeup 3 (request ∷ []) [] [])
+        ≡ outs.Made (shown 3 1 0 1 1 2 0) ∷ [] }
     ensures behind_reset { hs_items listening (Woken (heard 0) ∷ []) (wakeup 2 (reset_counts ∷ request ∷ wrong_request ∷ []) (load_event 7 ∷ []) [])
         ≡ outs.Made (hs_info 17 0xEA) ∷ outs.Made (shown 2 0 0 1 1 1 0) ∷ outs.Made (shown 2 0 0 1 1 1 0) ∷ [] }
 {}

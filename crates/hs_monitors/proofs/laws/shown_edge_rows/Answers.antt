@@ -29,5 +29,6 @@ unfolding be16_at be16_bytes be32_bytes message_id function_code is_checksum_rig
 returns c = record {
   time = refl;
   sent = refl;
+  behind_resets = refl;
   behind_reset = refl;
 }
