@@ -92,12 +92,5 @@ fn empty_words(rt: HostRuntime) -> Result<(), Fail> {
     );
     let ran = run(&rt, &["--workers", "", "s"], NOOP, &HONEST)?;
     assert_text(&rt, "err", ran.err.bytes(), "vigil: words refused\n");
-    let ran = run(&rt, &["s", ""], NOOP, &HONEST)?;
-    assert_text(
-        &rt,
-        "err",
-        ran.err.bytes(),
-        "vigil: read failed on file 1\n",
-    );
     Ok(())
 }

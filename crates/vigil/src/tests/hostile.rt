@@ -25,11 +25,6 @@ fn table(alloc: Global) -> Result<Vec<u8>, Fail> {
     dwell_file(alloc, "MD.DWELL_TABLE1", 1, &entries)
 }
 
-/// The first so many bytes.
-fn first_bytes(bytes: &[u8], count: usize) -> &[u8] {
-    &bytes[..bytes.len().min(count)]
-}
-
 /// Asserts how the rehearsal of a no-op ends beside this file.
 fn assert_ending<R: Threads + Sync + AllocGlobal + Abort>(
     rt: &R,
@@ -39,7 +34,8 @@ fn assert_ending<R: Threads + Sync + AllocGlobal + Abort>(
 ) -> Result<(), Fail> {
     let ran = run_beside(rt, &["s", "a"], NOOP, &[file], outside)?;
     let log = log_of(rt.alloc(), &LOG)?;
-    assert!(rt; ran.out.bytes() == first_bytes(log.as_bytes(), ending.written));
+    let written = ran.out.bytes();
+    assert!(rt; written.len() == ending.written && log.as_bytes().starts_with(written));
     assert_text(rt, "err", ran.err.bytes(), ending.told);
     assert_eq!(rt; ran.report, ending.report);
     Ok(())
@@ -68,10 +64,16 @@ fn ending_at_call(call: u32, on_file: u32, most: u32) -> Ending<'static> {
     }
 }
 
-/// On the file there are an opening, a call for each piece, and one that tells its end; and so on the scenario.
+/// On the file there are an opening, a call for each piece, and one that tells its end; and so on the scenario. No call comes
+/// behind these.
 #[test]
 fn each_call_of_the_shelf_fails_once(rt: HostRuntime) -> Result<(), Fail> {
     let file = table(rt.alloc())?;
+    let done = Ending {
+        report: Report::at(Status::Done, 2),
+        told: "",
+        written: 95,
+    };
     for (most, on_file, calls) in [(1, 322, 399), (4096, 3, 6)] {
         for call in 0..calls {
             let fails = [call];
@@ -83,6 +85,13 @@ fn each_call_of_the_shelf_fails_once(rt: HostRuntime) -> Result<(), Fail> {
             let ending = ending_at_call(call, on_file, most);
             assert_ending(&rt, &file, &outside, &ending)?;
         }
+        let fails = [calls];
+        let outside = Outside {
+            shelf: &fails,
+            most,
+            ..HONEST
+        };
+        assert_ending(&rt, &file, &outside, &done)?;
     }
     Ok(())
 }

@@ -149,11 +149,8 @@ pub fn counts_file(alloc: Global, entries: &[Count<'_>]) -> Result<Vec<u8>, Fail
     Ok(bytes)
 }
 
-/// A command of a relative sequence: its seconds and its packet.
-pub type Relative<'a> = (u16, &'a [u8]);
-
-/// A file of a relative sequence with these commands.
-pub fn rts_file(alloc: Global, name: &str, commands: &[Relative<'_>]) -> Result<Vec<u8>, Fail> {
+/// A file of a relative sequence with these commands: each has its seconds and its packet.
+pub fn rts_file(alloc: Global, name: &str, commands: &[(u16, &[u8])]) -> Result<Vec<u8>, Fail> {
     let mut payload = Vec::new(alloc);
     for command in commands.iter() {
         let (seconds, packet) = *command;

@@ -17,14 +17,10 @@ const HEADER: &str = "epoch 1000\nregion RAM 0 131072\nregion EEPROM 0x20000 409
 fn commands(digit: u32) -> &'static str {
     match digit {
         1 => "send 18A9C0000003078B0001\nsend 18A9C000000304880001\n",
-        7 => "send 1888C000000A08DB000001000000012C5A\n\
-            send 1888C000000305A80001\n",
-        8 => "send 1888C00000090D06000000800000012C\n\
-            send 1890C000000302B20004\n",
-        9 => "send 1888C000000602A10800020000\n\
-            send 189FC000000508B600020001\n",
-        3 => "send 18AFC00000010089\n\
-            send 18A0C00000010086\n",
+        7 => "send 1888C000000A08DB000001000000012C5A\nsend 1888C000000305A80001\n",
+        8 => "send 1888C00000090D06000000800000012C\nsend 1890C000000302B20004\n",
+        9 => "send 1888C000000602A10800020000\nsend 189FC000000508B600020001\n",
+        3 => "send 18AFC00000010089\nsend 18A0C00000010086\n",
         _ => "",
     }
 }
@@ -53,9 +49,7 @@ fn scenario(alloc: Global) -> Result<String, AllocError> {
     Ok(text)
 }
 
-// The words of a rehearsal beside six files, on one worker, on sixteen, and on others.
-const ON_ONE: &[&str] = &["--workers", "1", "s", "a", "b", "c", "d", "e", "f"];
-
+// The words of a rehearsal beside six files, on sixteen workers and on others.
 const ON_SIXTEEN: &[&str] = &["s", "a", "b", "c", "d", "e", "f", "--workers", "16"];
 
 const ON_OTHERS: [&[&str]; 3] = [
@@ -100,7 +94,8 @@ fn compare_runs<R: Threads + Sync + AllocGlobal + Abort>(
     text: &str,
     files: &[&[u8]],
 ) -> Result<(), Fail> {
-    let ran = run_beside(rt, ON_ONE, text, files, &HONEST)?;
+    let words = ["s", "a", "b", "c", "d", "e", "f"];
+    let ran = run_beside(rt, &words, text, files, &HONEST)?;
     assert_eq!(rt; ran.report, Report::at(Status::Done, 300));
     let log = std::str::from_utf8(ran.out.bytes()).unwrap_or("no text");
     assert!(rt; log.contains(SEQUENCE_ENDED));
