@@ -150,6 +150,7 @@ const REFUSED: [(&str, u32, u8, u32); 3] = [
     ),
 ];
 
+/// A refusal doesn't depend on how many bytes a call moves.
 #[test]
 fn texts_come_in_pieces(rt: HostRuntime) -> Result<(), Fail> {
     for most in [1, 7, 4096] {
