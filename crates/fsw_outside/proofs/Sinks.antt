@@ -1,5 +1,5 @@
 -- What sinks over memory tell.
-use Rattle.std.proofs.Common.{◌≡◌, List, Bool, true, false, Option, Some, None, refl, subst}
+use Rattle.std.proofs.Common.{Bool, true, false, Some, None, refl, subst}
 use Rattle.std.specs.Prelude.{if◌then◌else◌}
 use Rattle.fsw_outside.specs.Told.{WhereTold}
 use Rattle.fsw_outside.specs.TellingLaws.{same_content}

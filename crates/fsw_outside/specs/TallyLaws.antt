@@ -1,5 +1,5 @@
 -- What is tallied of what is told.
-use Rattle.std.proofs.Common.{◌≡◌, ℕ, ◌+◌, ◌%◌, ◌^◌, ◌==◌, List, [], ◌∷◌, ◌++◌, length, take, Option, Some, None, Result, Ok, Err, refl, sym, ap, ◌∙◌, subst, length-append}
+use Rattle.std.proofs.Common.{◌≡◌, ℕ, ◌+◌, ◌%◌, ◌^◌, ◌==◌, List, [], ◌++◌, length, take, Option, Some, None, Result, Ok, Err, refl, sym, ap, ◌∙◌, subst, length-append}
 use Rattle.std.specs.Prelude.{option_map, cond}
 use Rattle.std.specs.List.{fold, flat_map}
 use Rattle.std.proofs.Math.Nat.{mod-add-mod}

@@ -1,4 +1,4 @@
-use Rattle.std.proofs.Common.{◌≡◌, map, take, drop, ◌++◌, vec_len, vec_capacity}
+use Rattle.std.proofs.Common.{◌≡◌, map, take, vec_len, vec_capacity}
 use Rattle.subjects.specs.Plans.{cycled}
 use Rattle.subjects.specs.Crowds.{counter_of}
 use Rattle.subjects.proofs.Seats.{AreChanged, seen_in}
