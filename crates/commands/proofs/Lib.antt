@@ -2,5 +2,4 @@ pub mod Tallies
 pub mod Answering
 pub mod Heard
 pub mod Plain
-pub mod Machines
 pub mod Lengths
