@@ -64,7 +64,7 @@ verdict_at protocol basis orders p =
     else Other
 
 -- A command of the application whose checksum is right and whose code has this row.
-pub record IsCommandOf {B I E : Type 0} (protocol : Protocol B I E) (row : CodeRow) (p : List ℕ) : Type 0 where
+pub record IsListedCommand {B I E : Type 0} (protocol : Protocol B I E) (row : CodeRow) (p : List ℕ) : Type 0 where
   pub requests : (message_id p == protocol.language.request_id) ≡ false
   pub commands : (message_id p == protocol.language.command_id) ≡ true
   pub checked : is_checksum_right p ≡ true

@@ -3,7 +3,7 @@ ghost use Rattle.std.specs.Prelude.{◌≡◌, ◌<◌, ◌≤◌, ℕ, length, 
 ghost use Rattle.bus_pipes.specs.declared.names.Out.TheVariants as outs;
 ghost use Rattle.packet_forms.specs.Packets.{payload_of};
 ghost use Rattle.commands.specs.Rows.{numbers_of_rows};
-ghost use Rattle.commands.specs.Verdicts.{Protocol, IsCommandOf, orders_in, verdict_at, judged_own, verdicts_on};
+ghost use Rattle.commands.specs.Verdicts.{Protocol, IsListedCommand, orders_in, verdict_at, judged_own, verdicts_on};
 ghost use Rattle.commands.specs.Counting.{counts_of};
 ghost use Rattle.commands.specs.Answering.{Answers, packet_items, command_items};
 ghost use Rattle.commands.specs.Machine.{machine_protocol, machine_answers, machine_name, machine_codes};
@@ -32,26 +32,39 @@ pub fn answers_law<T, I>()
 #[tactic(auto, using(crate::proofs::Lengths::too_short, crate::proofs::Lengths::too_long, crate::proofs::Lengths::long_enough))]
 pub fn lengths_law<B, I, E>()
     ensures short { (protocol : Protocol B I E) (basis : B) (orders : List I) (row : CodeRow) (p : List ℕ)
-        → IsCommandOf protocol row p → length (payload_of p) < row.1
+        → IsListedCommand protocol row p → length (payload_of p) < row.1
         → verdict_at protocol basis orders p ≡ Refused 3 }
     ensures long { (protocol : Protocol B I E) (basis : B) (orders : List I) (row : CodeRow) (p : List ℕ)
-        → IsCommandOf protocol row p → row.2 < length (payload_of p)
+        → IsListedCommand protocol row p → row.2 < length (payload_of p)
         → verdict_at protocol basis orders p ≡ Refused 3 }
     ensures within { (protocol : Protocol B I E) (basis : B) (orders : List I) (row : CodeRow) (p : List ℕ)
-        → IsCommandOf protocol row p → row.1 ≤ length (payload_of p) → length (payload_of p) ≤ row.2
+        → IsListedCommand protocol row p → row.1 ≤ length (payload_of p)
+        → length (payload_of p) ≤ row.2
         → verdict_at protocol basis orders p ≡ judged_own protocol basis orders p }
 {}
 
 /// The first three refusals come in order, before a command's own.
 pub fn refusal_rows()
-    ensures checksum { verdict_at machine_protocol false [] (0x18 ∷ 0x88 ∷ 0xC0 ∷ 0 ∷ 0 ∷ 2 ∷ 6 ∷ 0xA3 ∷ 9 ∷ []) ≡ Refused 1 }
-    ensures code { verdict_at machine_protocol false [] (0x18 ∷ 0x88 ∷ 0xC0 ∷ 0 ∷ 0 ∷ 2 ∷ 6 ∷ 0xA2 ∷ 9 ∷ []) ≡ Refused 2 }
-    ensures long { verdict_at machine_protocol false [] (0x18 ∷ 0x88 ∷ 0xC0 ∷ 0 ∷ 0 ∷ 2 ∷ 3 ∷ 0xA7 ∷ 9 ∷ []) ≡ Refused 3 }
-    ensures short { verdict_at machine_protocol false [] (0x18 ∷ 0x88 ∷ 0xC0 ∷ 0 ∷ 0 ∷ 7 ∷ 4 ∷ 0xAC ∷ 0 ∷ 0 ∷ 0 ∷ 0 ∷ 0 ∷ 0 ∷ []) ≡ Refused 3 }
-    ensures own { verdict_at machine_protocol false [] (0x18 ∷ 0x88 ∷ 0xC0 ∷ 0 ∷ 0 ∷ 1 ∷ 3 ∷ 0xAD ∷ []) ≡ Refused 6 }
-    ensures accepted { verdict_at machine_protocol false [] (0x18 ∷ 0x88 ∷ 0xC0 ∷ 0 ∷ 0 ∷ 8 ∷ 4 ∷ 0xA3 ∷ 0 ∷ 0 ∷ 0 ∷ 0 ∷ 0 ∷ 0 ∷ 0 ∷ []) ≡ Accepted 4 4 }
-    ensures request { verdict_at machine_protocol false [] (0x18 ∷ 0x89 ∷ 0xC0 ∷ 0 ∷ 0 ∷ 1 ∷ 0 ∷ 0xAF ∷ []) ≡ Request }
-    ensures other { verdict_at machine_protocol false [] (0x18 ∷ 0x90 ∷ 0xC0 ∷ 0 ∷ 0 ∷ 1 ∷ 0 ∷ 0xB6 ∷ []) ≡ Other }
+    ensures checksum { verdict_at machine_protocol false [] (0x18 ∷ 0x88 ∷ 0xC0 ∷ 0 ∷ 0 ∷ 2 ∷ 6
+        ∷ 0xA3 ∷ 9 ∷ []) ≡ Refused 1 }
+    ensures code { verdict_at machine_protocol false [] (0x18 ∷ 0x88 ∷ 0xC0 ∷ 0 ∷ 0 ∷ 2 ∷ 6 ∷ 0xA2
+        ∷ 9 ∷ []) ≡ Refused 2 }
+    ensures long { verdict_at machine_protocol false [] (0x18 ∷ 0x88 ∷ 0xC0 ∷ 0 ∷ 0 ∷ 2 ∷ 3 ∷ 0xA7
+        ∷ 9 ∷ []) ≡ Refused 3 }
+    ensures short { verdict_at machine_protocol false [] (0x18 ∷ 0x88 ∷ 0xC0 ∷ 0 ∷ 0 ∷ 7 ∷ 4 ∷ 0xAC
+        ∷ 0 ∷ 0 ∷ 0 ∷ 0 ∷ 0 ∷ 0 ∷ []) ≡ Refused 3 }
+    ensures own { verdict_at machine_protocol false [] (0x18 ∷ 0x88 ∷ 0xC0 ∷ 0 ∷ 0 ∷ 1 ∷ 3 ∷ 0xAD
+        ∷ []) ≡ Refused 6 }
+    ensures accepted { verdict_at machine_protocol false [] (0x18 ∷ 0x88 ∷ 0xC0 ∷ 0 ∷ 0 ∷ 8 ∷ 4
+        ∷ 0xA3 ∷ 0 ∷ 0 ∷ 0 ∷ 0 ∷ 0 ∷ 0 ∷ 0 ∷ []) ≡ Accepted 4 4 }
+    ensures request { verdict_at machine_protocol false [] (0x18 ∷ 0x89 ∷ 0xC0 ∷ 0 ∷ 0 ∷ 1 ∷ 0
+        ∷ 0xAF ∷ []) ≡ Request }
+    ensures wrong_request { verdict_at machine_protocol false [] (0x18 ∷ 0x89 ∷ 0xC0 ∷ 0 ∷ 0 ∷ 1 ∷ 0
+        ∷ 0xAE ∷ []) ≡ Request }
+    ensures long_request { verdict_at machine_protocol false [] (0x18 ∷ 0x89 ∷ 0xC0 ∷ 0 ∷ 0 ∷ 3
+        ∷ 0x7F ∷ 0xD1 ∷ 1 ∷ 2 ∷ []) ≡ Request }
+    ensures other { verdict_at machine_protocol false [] (0x18 ∷ 0x90 ∷ 0xC0 ∷ 0 ∷ 0 ∷ 1 ∷ 0 ∷ 0xB6
+        ∷ []) ≡ Other }
 {}
 
 /// A start, the same again, a stop, the same again: each is judged by what was ordered before it in the wakeup.

@@ -16,5 +16,7 @@ returns c = record {
   own = refl;
   accepted = refl;
   request = refl;
+  wrong_request = refl;
+  long_request = refl;
   other = refl;
 }
