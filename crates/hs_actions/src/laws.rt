@@ -53,10 +53,13 @@ pub fn reset_rows()
 /// The message actions by their numbers; the first and the last place of the table, each used alone; and a time with all its bytes.
 pub fn message_rows()
     ensures numbers { map action_of (4 ∷ 5 ∷ 6 ∷ 7 ∷ 8 ∷ 9 ∷ 10 ∷ 11 ∷ [])
-        ≡ Message 0 ∷ Message 1 ∷ Message 2 ∷ Message 3 ∷ Message 4 ∷ Message 5 ∷ Message 6 ∷ Message 7 ∷ [] }
-    ensures first { map (λ n. items_of 0x01020304 (act_in 0 2) (past_after 1 []) (heard_once n 0 ∷ [])) (4 ∷ 5 ∷ 11 ∷ [])
+        ≡ Message 0 ∷ Message 1 ∷ Message 2 ∷ Message 3 ∷ Message 4 ∷ Message 5 ∷ Message 6
+        ∷ Message 7 ∷ [] }
+    ensures first { map (λ n. items_of 0x01020304 (act_in 0 2) (past_after 1 []) (heard_once n 0
+        ∷ [])) (4 ∷ 5 ∷ 11 ∷ [])
         ≡ (outs.Stored noop_bytes ∷ outs.Made (late_event 114 3) ∷ []) ∷ [] ∷ [] ∷ [] }
-    ensures last { map (λ n. items_of 0x01020304 (act_in 7 2) (past_after 1 []) (heard_once n 0 ∷ [])) (4 ∷ 10 ∷ 11 ∷ [])
+    ensures last { map (λ n. items_of 0x01020304 (act_in 7 2) (past_after 1 []) (heard_once n 0
+        ∷ [])) (4 ∷ 10 ∷ 11 ∷ [])
         ≡ [] ∷ [] ∷ (outs.Stored noop_bytes ∷ outs.Made (late_event 114 3) ∷ []) ∷ [] }
 {}
 
@@ -64,22 +67,29 @@ pub fn message_rows()
 /// over in the 258th behind the sending. One action's cooldown doesn't keep another one back.
 pub fn cooldown_edge_rows()
     ensures none { items_of 1001 (act_in 0 0) (past_after 2 []) (twice 1)
-        ≡ outs.Stored noop_bytes ∷ outs.Made (hs_event 114 0xE9) ∷ outs.Stored noop_bytes ∷ outs.Made (hs_event 114 0xE9) ∷ [] }
-    ensures one { items_of 1001 (act_in 0 1) (past_after 2 []) (twice 1) ≡ outs.Stored noop_bytes ∷ outs.Made (hs_event 114 0xE9) ∷ [] }
+        ≡ outs.Stored noop_bytes ∷ outs.Made (hs_event 114 0xE9) ∷ outs.Stored noop_bytes
+        ∷ outs.Made (hs_event 114 0xE9) ∷ [] }
+    ensures one { items_of 1001 (act_in 0 1) (past_after 2 []) (twice 1) ≡ outs.Stored noop_bytes
+        ∷ outs.Made (hs_event 114 0xE9) ∷ [] }
     ensures next { items_of 1002 (act_in 0 1) (past_after 3 (twice 1)) (twice 2)
         ≡ outs.Stored noop_bytes ∷ outs.Made (hs_event 114 0xEA) ∷ [] }
     ensures long { items_of 1000 (act_in 0 258) (past_after 258 (twice 0)) (twice 257) ≡ [] }
     ensures over { items_of 1000 (act_in 0 258) (past_after 259 (twice 0)) (twice 258)
         ≡ outs.Stored noop_bytes ∷ outs.Made (hs_event 114 0xE8) ∷ [] }
-    ensures other { items_of 1000 (slice_set (act_in 0 9) 1 (act_at (act_in 1 9) 1)) (past_after 1 []) (heard_once 4 0 ∷ heard_once 5 0 ∷ [])
-        ≡ outs.Stored noop_bytes ∷ outs.Made (hs_event 114 0xE8) ∷ outs.Stored noop_bytes ∷ outs.Made (hs_event 114 0xE8) ∷ [] }
+    ensures other { items_of 1000 (slice_set (act_in 0 9) 1 (act_at (act_in 1 9) 1)) (past_after 1 []) (heard_once 4 0
+        ∷ heard_once 5 0 ∷ [])
+        ≡ outs.Stored noop_bytes ∷ outs.Made (hs_event 114 0xE8) ∷ outs.Stored noop_bytes
+        ∷ outs.Made (hs_event 114 0xE8) ∷ [] }
 {}
 
 /// Resets made and their maximum over 255.
 pub fn reset_edge_rows()
     ensures goes { items_of 1000 (one_act 1) (past_with 0x0101 0x0102 []) (reset_once ∷ [])
         ≡ outs.Made (hs_event 101 0xE8) ∷ outs.Reset ∷ [] }
-    ensures full { items_of 1000 (one_act 1) (past_with 0x0102 0x0102 []) (reset_once ∷ []) ≡ outs.Made (hs_event 105 0xE8) ∷ [] }
-    ensures limited { items_of 1000 (one_act 1) (past_with 2 3 (Limits 0x0200 ∷ [])) (reset_once ∷ reset_once ∷ [])
-        ≡ outs.Made (hs_event 101 0xE8) ∷ outs.Reset ∷ outs.Made (hs_event 101 0xE8) ∷ outs.Reset ∷ [] }
+    ensures full { items_of 1000 (one_act 1) (past_with 0x0102 0x0102 []) (reset_once ∷ [])
+        ≡ outs.Made (hs_event 105 0xE8) ∷ [] }
+    ensures limited { items_of 1000 (one_act 1) (past_with 2 3 (Limits 0x0200 ∷ [])) (reset_once
+        ∷ reset_once ∷ [])
+        ≡ outs.Made (hs_event 101 0xE8) ∷ outs.Reset ∷ outs.Made (hs_event 101 0xE8) ∷ outs.Reset
+        ∷ [] }
 {}

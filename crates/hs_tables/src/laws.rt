@@ -29,13 +29,18 @@ pub fn unused_entries_answer_nothing()
         ↔ (apps.is_used (slice_index_or (apps.rows_of payload) place apps.blank_row) ≡ false) }
     ensures events { (payload : List ℕ) (place : ℕ) → events.rows_fault_of payload ≡ None
         → (events.entry_of (slice_index_or (events.rows_of payload) place events.blank_row) ≡ None)
-        ↔ (events.is_used (slice_index_or (events.rows_of payload) place events.blank_row) ≡ false) }
+        ↔ (events.is_used (slice_index_or (events.rows_of payload) place events.blank_row)
+        ≡ false) }
     ensures counters { (payload : List ℕ) (place : ℕ) → counters.rows_fault_of payload ≡ None
-        → (counters.entry_of (slice_index_or (counters.rows_of payload) place counters.blank_row) ≡ None)
-        ↔ (counters.is_used (slice_index_or (counters.rows_of payload) place counters.blank_row) ≡ false) }
+        → (counters.entry_of (slice_index_or (counters.rows_of payload) place counters.blank_row)
+        ≡ None)
+        ↔ (counters.is_used (slice_index_or (counters.rows_of payload) place counters.blank_row)
+        ≡ false) }
     ensures actions { (payload : List ℕ) (place : ℕ) → actions.rows_fault_of payload ≡ None
-        → (actions.entry_of (slice_index_or (actions.rows_of payload) place actions.blank_row) ≡ None)
-        ↔ (actions.is_used (slice_index_or (actions.rows_of payload) place actions.blank_row) ≡ false) }
+        → (actions.entry_of (slice_index_or (actions.rows_of payload) place actions.blank_row)
+        ≡ None)
+        ↔ (actions.is_used (slice_index_or (actions.rows_of payload) place actions.blank_row)
+        ≡ false) }
 {}
 
 /// Payloads of zero bytes have no fault, and spell the tables without used entries.
@@ -77,34 +82,43 @@ pub fn reason_rows()
 /// The first and the last entry of each table alone in a payload of zero bytes.
 pub fn place_rows()
     ensures first_app { apps.rows_of (app_bytes ++ replicate 744 0)
-        ≡ (record { name = Some name_bytes; cycles = 0x0102; action = 0x0304 }) ∷ replicate 31 apps.blank_row }
+        ≡ (record { name = Some name_bytes; cycles = 0x0102; action = 0x0304 })
+        ∷ replicate 31 apps.blank_row }
     ensures last_app { apps.rows_of (replicate 744 0 ++ app_bytes)
-        ≡ replicate 31 apps.blank_row ++ (record { name = Some name_bytes; cycles = 0x0102; action = 0x0304 }) ∷ [] }
+        ≡ replicate 31 apps.blank_row ++ (record { name = Some name_bytes; cycles = 0x0102; action = 0x0304 })
+        ∷ [] }
     ensures first_event { events.rows_of (event_bytes ++ replicate 360 0)
-        ≡ (record { name = Some name_bytes; id = 0x0102; action = 0x0304 }) ∷ replicate 15 events.blank_row }
+        ≡ (record { name = Some name_bytes; id = 0x0102; action = 0x0304 })
+        ∷ replicate 15 events.blank_row }
     ensures last_event { events.rows_of (replicate 360 0 ++ event_bytes)
-        ≡ replicate 15 events.blank_row ++ (record { name = Some name_bytes; id = 0x0102; action = 0x0304 }) ∷ [] }
+        ≡ replicate 15 events.blank_row ++ (record { name = Some name_bytes; id = 0x0102; action = 0x0304 })
+        ∷ [] }
     ensures first_count { counters.rows_of (count_bytes ++ replicate 682 0)
         ≡ (record { name = Some name_bytes; sort = 0x0102 }) ∷ replicate 31 counters.blank_row }
     ensures last_count { counters.rows_of (replicate 682 0 ++ count_bytes)
-        ≡ replicate 31 counters.blank_row ++ (record { name = Some name_bytes; sort = 0x0102 }) ∷ [] }
+        ≡ replicate 31 counters.blank_row ++ (record { name = Some name_bytes; sort = 0x0102 })
+        ∷ [] }
     ensures first_act { actions.rows_of (act_bytes ++ replicate 476 0)
-        ≡ (record { state = 0x0102; cooldown = 0x0304; packet = Some noop_bytes }) ∷ replicate 7 actions.blank_row }
+        ≡ (record { state = 0x0102; cooldown = 0x0304; packet = Some noop_bytes })
+        ∷ replicate 7 actions.blank_row }
     ensures last_act { actions.rows_of (replicate 476 0 ++ act_bytes)
-        ≡ replicate 7 actions.blank_row ++ (record { state = 0x0102; cooldown = 0x0304; packet = Some noop_bytes }) ∷ [] }
+        ≡ replicate 7 actions.blank_row ++ (record { state = 0x0102; cooldown = 0x0304; packet = Some noop_bytes })
+        ∷ [] }
 {}
 
 /// A stored packet of 64 bytes, one that says 65, 8, 7 and 263 bytes, and one of another version and of other sequence flags.
 pub fn stored_packet_rows()
     ensures whole { actions.row_at whole_act_bytes 0 ≡ record { state = 2; cooldown = 0x0506; packet = Some whole_packet } }
     ensures well { actions.row_reason (actions.row_at whole_act_bytes 0) ≡ None }
-    ensures lengths { map (λ n. actions.packet_in (slice_set whole_packet 5 n)) (0x3A ∷ 0 ∷ []) ≡ None ∷ None ∷ [] }
+    ensures lengths { map (λ n. actions.packet_in (slice_set whole_packet 5 n)) (0x3A ∷ 0 ∷ [])
+        ≡ None ∷ None ∷ [] }
     ensures least { actions.packet_in (slice_set whole_packet 5 1)
         ≡ Some (0x18 ∷ 0x88 ∷ 0xC0 ∷ 0 ∷ 0 ∷ 1 ∷ 4 ∷ 0xEA ∷ []) }
     ensures high_length { actions.packet_in (slice_set whole_packet 4 1) ≡ None }
     ensures version { actions.packet_in (slice_set whole_packet 0 0x38) ≡ None }
     ensures flags { actions.packet_in (slice_set whole_packet 2 0x80) ≡ None }
-    ensures no_command { actions.packet_in (slice_set whole_packet 0 0x08) ≡ Some (slice_set whole_packet 0 0x08) }
+    ensures no_command { actions.packet_in (slice_set whole_packet 0 0x08)
+        ≡ Some (slice_set whole_packet 0 0x08) }
 {}
 
 /// Names of 19 bytes and of 20, without a byte, with a byte behind their end, and with a byte that no name has.
@@ -113,8 +127,11 @@ pub fn name_rows()
     ensures too_long { name_in (longest_bytes ++ 0x54 ∷ []) 0 ≡ None }
     ensures empty { name_in (replicate 20 0) 0 ≡ None }
     ensures behind { name_in (slice_set name_bytes 19 1) 0 ≡ None }
-    ensures foreign { map (λ b. name_in (slice_set name_bytes 2 b) 0) (0x20 ∷ 0x2D ∷ 0x2F ∷ 0x3A ∷ 0x40 ∷ 0x5B ∷ 0x60 ∷ 0x7B ∷ 0xC1 ∷ [])
+    ensures foreign { map (λ b. name_in (slice_set name_bytes 2 b) 0) (0x20 ∷ 0x2D ∷ 0x2F ∷ 0x3A
+        ∷ 0x40 ∷ 0x5B ∷ 0x60 ∷ 0x7B ∷ 0xC1 ∷ [])
         ≡ replicate 9 None }
-    ensures known { map (λ b. name_in (slice_set name_bytes 2 b) 0) (0x30 ∷ 0x39 ∷ 0x41 ∷ 0x5A ∷ 0x5F ∷ 0x61 ∷ 0x7A ∷ [])
-        ≡ map (λ b. Some (slice_set name_bytes 2 b)) (0x30 ∷ 0x39 ∷ 0x41 ∷ 0x5A ∷ 0x5F ∷ 0x61 ∷ 0x7A ∷ []) }
+    ensures known { map (λ b. name_in (slice_set name_bytes 2 b) 0) (0x30 ∷ 0x39 ∷ 0x41 ∷ 0x5A
+        ∷ 0x5F ∷ 0x61 ∷ 0x7A ∷ [])
+        ≡ map (λ b. Some (slice_set name_bytes 2 b)) (0x30 ∷ 0x39 ∷ 0x41 ∷ 0x5A ∷ 0x5F ∷ 0x61 ∷ 0x7A
+        ∷ []) }
 {}
