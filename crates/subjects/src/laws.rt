@@ -5,6 +5,7 @@ ghost use Rattle.subjects.specs.Plans.{Plan, Simulated, IsSimulated, cycled, res
 ghost use Rattle.subjects.specs.Crowds.{counter_of, all_cycled, with_restarted, without, all_restarted};
 ghost use Rattle.subjects.specs.Calls.{Call, after_call, after_calls, LeaveForGood};
 ghost use Rattle.subjects.specs.Faults.{plan_fault_of, plan_fault_number};
+ghost use Rattle.subjects.specs.Own.{own_subjects};
 ghost use Rattle.subjects.specs.Worked.{nav, pwr, pwr2, three};
 ghost use Rattle.subjects.specs.declared.listed.PlanFault.{PlanFault};
 
@@ -61,4 +62,22 @@ pub fn worked_faults()
     ensures back { plan_fault_of (5 ∷ 5 ∷ []) 2 ≡ Some PlanFault.Back }
     ensures none { plan_fault_of (5 ∷ 5 ∷ []) 1 ≡ None }
     ensures numbers { map plan_fault_number (PlanFault.Empty ∷ PlanFault.Back ∷ []) ≡ 1 ∷ 2 ∷ [] }
+{}
+
+/// The simulated applications that `--subjects` gives: their names, byte by byte, their plans, and the counters of their first cycles.
+pub fn own_rows()
+    ensures names { map (λ s. s.name) own_subjects
+        ≡ (0x4E ∷ 0x41 ∷ 0x56 ∷ 0 ∷ 0 ∷ 0 ∷ 0 ∷ 0 ∷ 0 ∷ 0 ∷ 0 ∷ 0 ∷ 0 ∷ 0 ∷ 0 ∷ 0 ∷ 0 ∷ 0 ∷ 0 ∷ 0
+        ∷ [])
+        ∷ (0x50 ∷ 0x57 ∷ 0x52 ∷ 0 ∷ 0 ∷ 0 ∷ 0 ∷ 0 ∷ 0 ∷ 0 ∷ 0 ∷ 0 ∷ 0 ∷ 0 ∷ 0 ∷ 0 ∷ 0 ∷ 0 ∷ 0 ∷ 0
+        ∷ [])
+        ∷ (0x54 ∷ 0x48 ∷ 0x4D ∷ 0 ∷ 0 ∷ 0 ∷ 0 ∷ 0 ∷ 0 ∷ 0 ∷ 0 ∷ 0 ∷ 0 ∷ 0 ∷ 0 ∷ 0 ∷ 0 ∷ 0 ∷ 0 ∷ 0
+        ∷ []) ∷ [] }
+    ensures values { map (λ s. s.plan.values) own_subjects ≡ (1 ∷ 2 ∷ []) ∷ (1 ∷ 2 ∷ 3 ∷ 4 ∷ [])
+        ∷ (5 ∷ 5 ∷ 6 ∷ []) ∷ [] }
+    ensures back { map (λ s. s.plan.back) own_subjects ≡ 0 ∷ 3 ∷ 0 ∷ [] }
+    ensures at { map (λ s. s.at) own_subjects ≡ 0 ∷ 0 ∷ 0 ∷ [] }
+    ensures readings { map (readings_ahead 7) own_subjects
+        ≡ (1 ∷ 2 ∷ 1 ∷ 2 ∷ 1 ∷ 2 ∷ 1 ∷ []) ∷ (1 ∷ 2 ∷ 3 ∷ 4 ∷ 4 ∷ 4 ∷ 4 ∷ []) ∷ (5 ∷ 5 ∷ 6 ∷ 5 ∷ 5
+        ∷ 6 ∷ 5 ∷ []) ∷ [] }
 {}
