@@ -25,7 +25,12 @@ _KIT = "campaign-kit-"
 
 @dataclass
 class Totals:
-    """What a campaign took: its runs, wall clock seconds, and on workers seconds of the program, of batches and of processors."""
+    """What a campaign took.
+
+    `seconds` is its wall clock; `program_seconds` and `worker_seconds` are the wall clock of the program and of whole
+    batches, summed over workers; the processor seconds are those of workers with the program, and of this process, in
+    which Dask's scheduler runs too where the cluster is a local one.
+    """
 
     wanted: int = 0
     before: int = 0
@@ -34,6 +39,7 @@ class Totals:
     program_seconds: float = 0.0
     worker_seconds: float = 0.0
     processor_seconds: float = 0.0
+    engine_seconds: float = 0.0
     workers: int = 0
 
     def add(self, done: Done) -> None:
@@ -106,7 +112,7 @@ def connected(scheduler: str | None, workers: int) -> Iterator[Any]:
         # A batch whose worker died comes back at once, so that it is told, and cut until the run is alone that did it.
         settings = {"distributed.scheduler.allowed-failures": 0, "temporary-directory": folder}
         stack.enter_context(dask.config.set(settings))
-        cluster = stack.enter_context(LocalCluster(n_workers=workers, threads_per_worker=1, processes=True, dashboard_address=None, silence_logs=50, local_directory=folder))
+        cluster = stack.enter_context(LocalCluster(n_workers=workers, threads_per_worker=1, processes=True, dashboard_address=":0", silence_logs=50, local_directory=folder))
         yield stack.enter_context(Client(cluster))
 
 
@@ -142,7 +148,7 @@ class Engine:
             return self.client.submit(handed_on, kit_of(self.plan), key=f"{_KIT}{time.time_ns()}")
 
     def run(self, batches: Iterator[Batch]) -> Totals:
-        begun = time.perf_counter()
+        begun, processor = time.perf_counter(), time.process_time()
         try:
             self.fill(batches)
             for future in self.futures:
@@ -150,6 +156,7 @@ class Engine:
                 self.fill(batches)
         finally:
             self.totals.seconds = time.perf_counter() - begun
+            self.totals.engine_seconds = time.process_time() - processor
         return self.totals
 
     def fill(self, batches: Iterator[Batch]) -> None:
@@ -225,5 +232,5 @@ def run_plan(plan: Plan, store: Store, scheduler: str | None, workers: int | Non
             engine = Engine(plan, store, client, bar.update)
             totals = engine.run(batches_of(plan, jobs))
         totals.wanted, totals.before = wanted, before
-        store.end(number, {name: getattr(totals, name) for name in ("ran", "seconds", "program_seconds", "worker_seconds", "processor_seconds", "workers")})
+        store.end(number, {name: getattr(totals, name) for name in ("ran", "seconds", "program_seconds", "worker_seconds", "processor_seconds", "engine_seconds", "workers")})
         return totals

@@ -190,7 +190,8 @@ class Hang(Fault):
         for frame in [*range(start.frame - 1, -1, -1), start.frame]:
             for line in draft.frames[frame]:
                 if line.first == "app" and line.words[1] == name:
-                    return line.words[2]
+                    value: str = line.words[2]
+                    return value
         raise AssertionError("the frame has a line of the counter")
 
     def stop(self, draft: Draft, frame: int, name: str, value: str) -> None:

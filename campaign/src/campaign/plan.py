@@ -1,6 +1,7 @@
 """A plan, a TOML file that says what is run (docs/CAMPAIGNS.md, "The plan"); paths in it begin at its folder."""
 
 import dataclasses
+import glob
 import re
 import tomllib
 from collections.abc import Iterable, Iterator
@@ -158,13 +159,17 @@ class _Reader:
                 if not _DRILLS.fullmatch(word):
                     raise self.wrong(key, f"{word!r} isn't written as `drill:7` or `drill:0..9999`")
                 yield "drill", Generated(), [*self.span(key, word.removeprefix("drill:")).numbers()]
-                continue
-            paths = [path for path in sorted(self.folder.glob(word)) if path.is_file()] if not Path(word).is_absolute() else []
-            if not paths:
-                raise self.wrong(key, f"no file of {self.folder} matches {word!r}")
-            for path in paths:
-                name = path.relative_to(self.folder).as_posix() if path.is_relative_to(self.folder) else str(path)
-                yield name, Written(self.content(key, name)), [None]
+            else:
+                for name in self.names(key, word):
+                    yield name, Written(self.content(key, name)), [None]
+
+    def names(self, key: str, pattern: str) -> list[str]:
+        """The files that match a pattern, by name, as they are seen from the plan's folder."""
+        found = sorted(glob.glob(pattern, root_dir=self.folder, recursive=True))
+        names = [name for name in found if (self.folder / name).is_file()]
+        if not names:
+            raise self.wrong(key, f"no file of {self.folder} matches {pattern!r}")
+        return names
 
     def span(self, key: str, word: object) -> Span:
         try:

@@ -31,7 +31,7 @@ CREATE TABLE IF NOT EXISTS mishaps (
 CREATE TABLE IF NOT EXISTS plans (
     number INTEGER PRIMARY KEY, path TEXT NOT NULL, text TEXT NOT NULL, program_hash TEXT NOT NULL, allow TEXT NOT NULL,
     begun REAL NOT NULL, ended REAL, ran INTEGER, seconds REAL, program_seconds REAL, worker_seconds REAL, processor_seconds REAL,
-    workers INTEGER);
+    engine_seconds REAL, workers INTEGER);
 CREATE TABLE IF NOT EXISTS plan_sets (place INTEGER PRIMARY KEY, name TEXT NOT NULL, set_hash TEXT NOT NULL);
 CREATE TABLE IF NOT EXISTS plan_cases (place INTEGER PRIMARY KEY, scenario TEXT NOT NULL, scenario_hash TEXT NOT NULL, seed INTEGER);
 """

@@ -2,10 +2,11 @@
 
 import argparse
 import os
+import sqlite3
 import sys
 from collections import Counter
 from pathlib import Path
-from typing import NoReturn
+from typing import TYPE_CHECKING, NoReturn
 
 from campaign import Wrong, drill
 from campaign.cases import Drawn
@@ -16,6 +17,9 @@ from campaign.needs import check
 from campaign.plan import Plan, allowed_of
 from campaign.scenario import Scenario
 from campaign.store import Row, Store
+
+if TYPE_CHECKING:
+    from campaign.engine import Totals
 
 RESULTS = "campaign.sqlite"
 REFUSED, CUT = 3, 130
@@ -94,12 +98,24 @@ def run(asked: argparse.Namespace) -> Verdict:
         raise Wrong(f"--workers {asked.workers} isn't from 1 to 1000")
     plan = Plan.read(asked.plan.absolute()).allowing(asked.allow)
     store = Store(asked.results, must_exist=False)
-    totals = run_plan(plan, store, asked.scheduler, asked.workers)
-    rate = f", {totals.ran / totals.seconds:.0f} runs a second" if totals.seconds else ""
-    print(f"{totals.before} runs were known, {totals.ran} ran now on {totals.workers} workers in {totals.seconds:.1f} s{rate}")
+    try:
+        totals = run_plan(plan, store, asked.scheduler, asked.workers)
+    except sqlite3.OperationalError as error:
+        print(f"campaign: {asked.results}: {error}; what was written before is kept, and the same words go on from there", file=sys.stderr)
+        return Verdict.FAILED
+    print(f"{totals.before} runs were known, {totals.ran} ran now{cost_of(totals)}")
     for mishap in store.mishaps() if totals.ran else []:
         print(f"{mishap['what']}: {mishap['worker']} with {mishap['runs']} runs from {mishap['first']} on, which began again")
     return print_verdict(store, asked.allow)
+
+
+def cost_of(totals: "Totals") -> str:
+    """How fast it went, and the processor time of a run on its worker and in the engine."""
+    if not totals.ran:
+        return ""
+    worker, engine = (1000 * seconds / totals.ran for seconds in (totals.processor_seconds, totals.engine_seconds))
+    told = f" on {totals.workers} workers in {totals.seconds:.1f} s, {totals.ran / totals.seconds:.1f} a second"
+    return f"{told}; processor time of a run: {worker:.2f} ms on a worker, {engine:.2f} ms for the engine"
 
 
 def print_verdict(store: Store, allow: list[str]) -> Verdict:
