@@ -167,11 +167,11 @@ class Hold(Fault):
 
 @dataclass(frozen=True)
 class Hang(Fault):
-    """An execution counter keeps the value that it had before, for some frames in a row."""
+    """An execution counter keeps the value that it had before, for some frames in a row or to the end."""
 
     kind = "hang"
     name: str = ""
-    frames: Span = _spans(1, 999_999)
+    frames: Span = _spans(999_999, 999_999)
 
     def befall(self, draft: Draft, draws: Draws) -> int | None:
         spots = [place for place in draft.spots("app", self.between) if self.name in ("", draft.line(place).words[1])]
