@@ -1,8 +1,8 @@
 """What is run: a scenario that is written, drawn or generated, and the seed of its text."""
 
-import functools
 import json
 from dataclasses import asdict, dataclass
+from functools import cached_property, lru_cache
 
 from campaign import drill
 from campaign.faults import Befallen, Fault, perturbed
@@ -16,7 +16,7 @@ class Written:
 
     content: bytes
 
-    @property
+    @cached_property
     def hash(self) -> str:
         return hash_of(b"written", self.content)
 
@@ -31,7 +31,7 @@ class Drawn:
     content: bytes
     faults: tuple[Fault, ...]
 
-    @property
+    @cached_property
     def hash(self) -> str:
         faults = [{"kind": fault.kind, **asdict(fault)} for fault in self.faults]
         return hash_of(b"drawn", self.content, json.dumps(faults, sort_keys=True).encode())
@@ -44,7 +44,7 @@ class Drawn:
 class Generated:
     """The texts of `drill:K`; the seed is K."""
 
-    @property
+    @cached_property
     def hash(self) -> str:
         return hash_of(b"generated")
 
@@ -55,7 +55,7 @@ class Generated:
 Source = Written | Drawn | Generated
 
 
-@functools.lru_cache(maxsize=8)
+@lru_cache(maxsize=8)
 def _read(content: bytes) -> Scenario:
     return Scenario.read(content)
 

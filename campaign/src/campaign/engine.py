@@ -22,6 +22,9 @@ _IN_FLIGHT = 3
 _TRIES_ALONE = 2
 _KIT = "campaign-kit-"
 
+# What a local cluster looks after less often than Dask would: how punctual its loops are, and what they do.
+_QUIET = {"distributed.admin.tick.interval": "1s", "distributed.worker.profile.enabled": False}
+
 
 @dataclass
 class Totals:
@@ -110,7 +113,7 @@ def connected(scheduler: str | None, workers: int) -> Iterator[Any]:
             return
         folder = stack.enter_context(tempfile.TemporaryDirectory(prefix="campaign-", ignore_cleanup_errors=True))
         # A batch whose worker died comes back at once, so that it is told, and cut until the run is alone that did it.
-        settings = {"distributed.scheduler.allowed-failures": 0, "temporary-directory": folder}
+        settings = {"distributed.scheduler.allowed-failures": 0, "temporary-directory": folder, **_QUIET}
         stack.enter_context(dask.config.set(settings))
         cluster = stack.enter_context(LocalCluster(n_workers=workers, threads_per_worker=1, processes=True, dashboard_address=":0", silence_logs=50, local_directory=folder))
         yield stack.enter_context(Client(cluster))

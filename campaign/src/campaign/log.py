@@ -65,9 +65,9 @@ def event_of(payload: bytes) -> tuple[str, int, int]:
 
 
 def glossed(line: str) -> str:
-    """A line of the log, behind which an event is told in words."""
+    """A line of the log; where it is an event, its name and number stand before it in parentheses."""
     found = _EVENTS.match(line.encode("latin-1"))
-    return f"{line}  {' '.join(map(str, event_of(found[1])[:2]))}" if found else line
+    return f"({' '.join(map(str, event_of(found[1])[:2]))}) {line}" if found else line
 
 
 def sender_of(code: str) -> str:

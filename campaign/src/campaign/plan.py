@@ -6,6 +6,7 @@ import re
 import tomllib
 from collections.abc import Iterable, Iterator
 from dataclasses import dataclass
+from functools import cached_property
 from pathlib import Path
 from typing import Any
 
@@ -47,7 +48,7 @@ class Plan:
     allow: frozenset[str]
     limits: Limits
 
-    @property
+    @cached_property
     def program_hash(self) -> str:
         """Of the program and of how it is called."""
         return hash_of(self.program, b"--subjects" if self.subjects else b"")

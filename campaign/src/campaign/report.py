@@ -16,7 +16,7 @@ MOST_ROWS, MOST_DIFFERENCES, MOST_BARS, LINES_AROUND = 200, 10, 24, 3
 STYLE = """
 body { font: 15px/1.45 system-ui, sans-serif; color: #1c2126; background: #fff; max-width: 68rem; margin: 0 auto; padding: 0 .8rem 3rem; }
 h1 { font-size: 1.5rem; } h2 { font-size: 1.15rem; margin-top: 2.2rem; border-bottom: 1px solid #ccd3da; } h3 { font-size: 1rem; }
-.scroll { overflow-x: auto; } table { border-collapse: collapse; font-size: .9rem; margin: .6rem 0; } caption { text-align: left; color: #55606b; }
+.scroll { overflow-x: auto; } table { border-collapse: collapse; font-size: .9rem; margin: .6rem 0; }
 th, td { border: 1px solid #ccd3da; padding: .2rem .55rem; text-align: left; vertical-align: top; min-width: 4.5rem; } th { background: #eef2f5; }
 td.number { text-align: right; font-variant-numeric: tabular-nums; } td.run { min-width: 11rem; } td.differs { background: #fff1cf; } td.failed { background: #fbdcd8; }
 pre { overflow-x: auto; background: #f5f7f9; padding: .5rem; font-size: .78rem; } pre .one { background: #dbe8f7; } pre .other { background: #fbe3d0; }
@@ -52,10 +52,10 @@ def page_of(store: Store, allow: frozenset[str]) -> str:
 
 def table(names: Iterable[str], rows: Iterable[Iterable[str]], caption: str = "") -> str:
     """A table that scrolls by itself where the screen is narrow; `rows` are cells, already as HTML."""
-    told = f"<caption>{escape(caption)}</caption>" if caption else ""
+    told = f"<p>{escape(caption)}</p>\n" if caption else ""
     header = "".join(f"<th>{escape(name)}</th>" for name in names)
     body = "".join(f"<tr>{''.join(cells)}</tr>\n" for cells in rows)
-    return f'<div class="scroll"><table>{told}<thead><tr>{header}</tr></thead>\n<tbody>{body}</tbody></table></div>\n'
+    return f'{told}<div class="scroll"><table><thead><tr>{header}</tr></thead>\n<tbody>{body}</tbody></table></div>\n'
 
 
 def cell(text: object, kind: str = "") -> str:
@@ -113,9 +113,9 @@ def matrix(results: Results) -> str:
     marked = [case for case in results.store.cases() if case in is_unlike or any(case in rows and rows[case].number in failed for rows in results.tables)]
     singles = [[cell(case.name), *(run_cell(rows.get(case), case in is_unlike, results.allow) for rows in results.tables)] for case in marked[:MOST_ROWS]]
     rest = f" {len(marked) - MOST_ROWS:,} more are in the results file." if len(marked) > MOST_ROWS else ""
-    caption = f"What differs or failed, run by run; `campaign show N` prints run N.{rest}"
+    caption = f"What differs or failed, run by run; campaign show N prints run N.{rest}"
     single = table(["scenario", *results.sets], singles, caption) if singles else "<p>No scenario differs and no run failed.</p>\n"
-    return "<h2>Scenarios by sets</h2>\n" + table(["scenario", "differ", *results.sets], grouped, "All, by name") + single
+    return "<h2>Scenarios by sets</h2>\n" + table(["scenario", "differ", *results.sets], grouped, "All, by name:") + single
 
 
 def run_cell(row: Row | None, is_unlike: bool, allow: frozenset[str]) -> str:
@@ -138,7 +138,7 @@ def largest(results: Results) -> str:
 def shown(store: Store, difference: Difference) -> str:
     one, other, split = difference.first, difference.second, difference.split
     about = f"{difference.case.name}: {one.set_name} (run {one.number}) and {other.set_name} (run {other.number})"
-    deltas = ", ".join(f"{name} {delta:+}" for name, delta in difference.deltas.items()) or "all counts are equal"
+    deltas = ", ".join(f"{name} {delta:+}" for name, delta in difference.deltas.items()) or "All counts are equal"
     told = f"<h3>{escape(about)}</h3>\n<p>{difference.size:,} lines stand in one log alone. {escape(deltas)}.</p>\n"
     if split is None:
         return told

@@ -3,6 +3,7 @@
 import hashlib
 import struct
 from dataclasses import dataclass
+from functools import cached_property
 
 _TABLE, _NAME, _PAYLOAD = 8, slice(76, 116), 116
 _FIRST_SEQUENCE = "SC.RTS_TBL001"
@@ -27,7 +28,7 @@ class TableSet:
     name: str
     files: tuple[tuple[str, bytes], ...]
 
-    @property
+    @cached_property
     def hash(self) -> str:
         """Of the contents alone: a set that has another name, or files that lie elsewhere, is no other set."""
         return hash_of(*(content for _, content in self.files))
@@ -36,6 +37,7 @@ class TableSet:
         """The payloads of the FILEs of a table."""
         return [content[_PAYLOAD:] for _, content in self.files if name_of(content) == name]
 
+    @cached_property
     def has_first_sequence(self) -> bool:
         """Whether relative sequence 1 is loaded: the first FILE of it has a command."""
         return any(self.tables(_FIRST_SEQUENCE)[:1]) and any(self.tables(_FIRST_SEQUENCE)[0])

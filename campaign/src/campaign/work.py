@@ -12,6 +12,7 @@ import zlib
 from collections.abc import Collection, Iterator
 from dataclasses import dataclass, replace
 from enum import StrEnum
+from functools import cached_property
 from pathlib import Path
 
 from campaign.cases import Case, Source
@@ -50,7 +51,7 @@ class Kit:
     allow: frozenset[str]
     seconds: float
 
-    @property
+    @cached_property
     def hash(self) -> str:
         return hash_of(self.program, *(table_set.hash.encode() for table_set in self.sets))
 
@@ -198,7 +199,7 @@ class Bench:
             outcome, status, log, error = Outcome.TIME_LIMIT, None, expired.stdout or b"", f"over {self.kit.seconds:g} s"
         seconds = time.perf_counter() - begun
         frames = frames_run(text, status, error)
-        asked = Run(log, text, frames, befallen, self.kit.sets[place].has_first_sequence())
+        asked = Run(log, text, frames, befallen, self.kit.sets[place].has_first_sequence)
         answers = {question.line: question.holds(asked) for question in self.questions} if outcome == Outcome.RAN else {}
         hash_ = hashlib.sha256(log).hexdigest()
         return Result(case, place, outcome, worker, status, error, frames, Counts.of(log), crc16(log), len(log), hash_, answers, seconds), log
