@@ -104,9 +104,8 @@ def failed_rows(tables: list[dict[Case, Row]], allow: frozenset[str]) -> list[Ro
     return [row for row in rows.values() if row.failures(allow)]
 
 
-def verdict_of(store: Store, names: list[str], allow: frozenset[str]) -> Verdict:
-    """2 where a run failed or is missing, else 1 where a scenario isn't alike with all the sets, else 0."""
-    tables = [store.runs(name) for name in names]
+def verdict_of(store: Store, tables: list[dict[Case, Row]], allow: frozenset[str]) -> Verdict:
+    """2 where a run failed or is missing, else 1 where a scenario isn't alike with all the sets, else 0; a table has a set's runs."""
     if failed_rows(tables, allow) or missing_runs(store, tables):
         return Verdict.FAILED
     return Verdict.DIFFERS if unlike_cases(tables) else Verdict.ALIKE

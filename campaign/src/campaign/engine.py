@@ -184,6 +184,8 @@ class Engine:
 
         if future.status == "finished":
             return self.write(future.result())
+        if future.status != "error":
+            raise ConnectionError("the scheduler has gone")
         error = future.exception()
         if isinstance(error, KilledWorker):
             return self.died(task, error.task, str(error.last_worker.name or error.last_worker.address))

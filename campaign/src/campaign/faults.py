@@ -7,7 +7,7 @@ from typing import Any, ClassVar, NamedTuple
 
 from campaign import Wrong
 from campaign.draws import Draws, Span
-from campaign.scenario import APPLICATIONS, ITEMS, MOST_ITEMS, MOST_TEXT, NAME, Line, Scenario
+from campaign.scenario import APPLICATIONS, ITEMS, MOST_FRAMES, MOST_ITEMS, MOST_TEXT, NAME, Line, Scenario
 
 EVENT_NUMBER = range(1 << 16)
 
@@ -95,7 +95,7 @@ class Fault:
     kind: ClassVar[str]
     often: float = 1.0
     seed: int = 0
-    between: Span = _spans(0, 999_999)
+    between: Span = _spans(0, MOST_FRAMES - 1)
 
     def befall(self, draft: Draft, draws: Draws) -> int | None:
         """Changes the draft, and gives the frame in which the fault begins; nothing where it finds no place."""
@@ -171,7 +171,7 @@ class Hang(Fault):
 
     kind = "hang"
     name: str = ""
-    frames: Span = _spans(999_999, 999_999)
+    frames: Span = _spans(MOST_FRAMES, MOST_FRAMES)
 
     def befall(self, draft: Draft, draws: Draws) -> int | None:
         spots = [place for place in draft.spots("app", self.between) if self.name in ("", draft.line(place).words[1])]

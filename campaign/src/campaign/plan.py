@@ -22,6 +22,7 @@ _NAME = re.compile(r"[\w.-]{1,40}")
 _ALLOWED = re.compile(r"([0-9A-Za-z_]{1,19}) ([0-9]{1,5}|any)")
 _DRILLS = re.compile(r"drill:([0-9]{1,6}(?:\.\.[0-9]{1,6})?)")
 MOST_FILES = 100
+MOST_OF_SPAN = 1_000_000
 
 
 @dataclass(frozen=True)
@@ -174,9 +175,12 @@ class _Reader:
 
     def span(self, key: str, word: object) -> Span:
         try:
-            return Span.read(word)
+            span = Span.read(word)
         except Wrong as wrong:
             raise self.wrong(key, wrong) from wrong
+        if len(span.numbers()) > MOST_OF_SPAN:
+            raise self.wrong(key, f"{word} has over {MOST_OF_SPAN:,} numbers")
+        return span
 
     def drawn(self, sets: tuple[TableSet, ...]) -> Iterator[tuple[str, Source, list[int | None]]]:
         tables = self.keys.get("drawn", [])

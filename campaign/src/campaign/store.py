@@ -86,7 +86,7 @@ class Row:
         return fingerprint_of(self.outcome, self.status, self.error, self.log_hash)
 
     def failures(self, allow: Iterable[str]) -> list[str]:
-        return failures(self.outcome, self.status, self.counts["events"], self.answers, frozenset(allow))
+        return failures(self.outcome, self.status, self.error, self.counts["events"], self.answers, frozenset(allow))
 
 
 class Store:

@@ -100,8 +100,9 @@ def run(asked: argparse.Namespace) -> Verdict:
     store = Store(asked.results, must_exist=False)
     try:
         totals = run_plan(plan, store, asked.scheduler, asked.workers)
-    except sqlite3.OperationalError as error:
-        print(f"campaign: {asked.results}: {error}; what was written before is kept, and the same words go on from there", file=sys.stderr)
+    except (sqlite3.OperationalError, OSError) as error:
+        place = asked.results if isinstance(error, sqlite3.OperationalError) else asked.scheduler or "the local cluster"
+        print(f"campaign: {place}: {error}; what was written before is kept, and the same words go on from there", file=sys.stderr)
         return Verdict.FAILED
     print(f"{totals.before} runs were known, {totals.ran} ran now{cost_of(totals)}")
     for mishap in store.mishaps() if totals.ran else []:
@@ -128,7 +129,7 @@ def print_verdict(store: Store, allow: list[str]) -> Verdict:
         print(f"{missing} runs of the plan are missing")
     for why, count in Counter(why for row in failed for why in row.failures(allowed)).most_common():
         print(f"{count:8} {why}")
-    return verdict_of(store, names, allowed)
+    return verdict_of(store, tables, allowed)
 
 
 def compare(asked: argparse.Namespace) -> Verdict:
@@ -140,7 +141,7 @@ def compare(asked: argparse.Namespace) -> Verdict:
         print_difference(difference, asked.first, asked.second)
     if len(told) > asked.most:
         print(f"and {len(told) - asked.most} more; --most {len(told)} prints them")
-    return verdict_of(store, [asked.first, asked.second], store.allow() | set(asked.allow))
+    return verdict_of(store, [store.runs(name) for name in (asked.first, asked.second)], store.allow() | set(asked.allow))
 
 
 def print_difference(difference: Difference, first: str, second: str) -> None:

@@ -7,6 +7,7 @@ import re
 import shutil
 import subprocess
 import tempfile
+import threading
 import time
 import zlib
 from collections.abc import Collection, Iterator
@@ -53,7 +54,8 @@ class Kit:
 
     @cached_property
     def hash(self) -> str:
-        return hash_of(self.program, *(table_set.hash.encode() for table_set in self.sets))
+        asked = [*self.questions, *sorted(self.allow), str(self.seconds), str(self.subjects)]
+        return hash_of(self.program, *(table_set.hash.encode() for table_set in self.sets), *(word.encode() for word in asked))
 
 
 @dataclass(frozen=True)
@@ -138,11 +140,11 @@ def unwanted_errors(events: dict[str, int], allow: Collection[str]) -> list[str]
     return [event for event in told if event not in allow and f"{event.split(' ')[0]} any" not in allow]
 
 
-def failures(outcome: str, status: int | None, events: dict[str, int], answers: dict[str, bool], allow: Collection[str]) -> list[str]:
+def failures(outcome: str, status: int | None, error: str, events: dict[str, int], answers: dict[str, bool], allow: Collection[str]) -> list[str]:
     """Why a run failed, and nothing where it didn't."""
     if outcome != Outcome.RAN:
-        return [str(outcome)]
-    told = [f"status {status}"] if status != 0 else []
+        return [f"{outcome}: {error}"]
+    told = [f"status {status}: {error}".removesuffix(": ")] if status != 0 else []
     told += [f"event {event} of type 3" for event in unwanted_errors(events, allow)]
     return told + [f"breaks `{line}`" for line, holds in answers.items() if not holds]
 
@@ -156,13 +158,16 @@ class Bench:
         self.questions = [Question.read(line) for line in kit.questions]
         self.program = folder / "program"
         self.files = [[folder / f"{place}-{index}" for index in range(len(each.files))] for place, each in enumerate(kit.sets)]
-        shutil.rmtree(folder, ignore_errors=True)
+        self.clear()
         folder.mkdir(parents=True)
         self.program.write_bytes(kit.program)
         self.program.chmod(0o755)
         for paths, each in zip(self.files, kit.sets):
             for path, (_, content) in zip(paths, each.files):
                 path.write_bytes(content)
+
+    def clear(self) -> None:
+        shutil.rmtree(self.folder, ignore_errors=True)
 
     def run(self, job: Job, source: Source, worker: str) -> tuple[list[Result], list[AnotherLog]]:
         """The results of a job with their logs where they differ or fail, and logs of earlier runs that differ from these."""
@@ -183,7 +188,7 @@ class Bench:
         return results, [AnotherLog(result.log_hash, zlib.compress(log)) for result, log in logs]
 
     def kept(self, result: Result, log: bytes, is_alike: bool) -> Result:
-        failed = failures(result.outcome, result.status, result.counts.events, result.answers or {}, self.kit.allow)
+        failed = failures(result.outcome, result.status, result.error, result.counts.events, result.answers or {}, self.kit.allow)
         if is_alike and not failed:
             return result
         return replace(result, log=zlib.compress(log))
@@ -213,15 +218,20 @@ def frames_run(text: bytes, status: int | None, error: str) -> int:
     return len(_TICK.findall(b"\n".join(text.split(b"\n")[: int(found[1]) - 1]))) if found else 0
 
 
-_BENCHES: dict[tuple[str, Path], Bench] = {}
+_BENCHES: dict[Path, Bench] = {}
+_MOST_BENCHES = 4
+_MAKING = threading.Lock()
 
 
 def bench_of(kit: Kit, folder: Path) -> Bench:
-    """The bench of a kit in this process; it is made once, and again where a campaign asks or allows other things."""
-    bench = _BENCHES.get((kit.hash, folder))
-    if bench is None or (bench.kit.questions, bench.kit.allow, bench.kit.seconds) != (kit.questions, kit.allow, kit.seconds):
-        bench = _BENCHES[kit.hash, folder] = Bench(kit, folder / f"campaign-{kit.hash[:16]}-{os.getpid()}")
-    return bench
+    """The bench of a kit in this process, which is made once; of many kits the oldest one's is cleared away."""
+    path = folder / f"campaign-{kit.hash[:16]}-{os.getpid()}"
+    with _MAKING:
+        if path not in _BENCHES:
+            _BENCHES[path] = Bench(kit, path)
+            if len(_BENCHES) > _MOST_BENCHES:
+                _BENCHES.pop(next(iter(_BENCHES))).clear()
+        return _BENCHES[path]
 
 
 def run_batch(kit: Kit, batch: Batch, folder: Path, worker: str) -> Done:
