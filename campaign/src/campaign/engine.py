@@ -1,6 +1,7 @@
 """Spreads a plan's runs over Dask's workers, batch by batch, and writes each batch as it comes (docs/CAMPAIGNS.md)."""
 
 import os
+import signal
 import sys
 import tempfile
 import time
@@ -115,8 +116,19 @@ def connected(scheduler: str | None, workers: int) -> Iterator[Any]:
         # A batch whose worker died comes back at once, so that it is told, and cut until the run is alone that did it.
         settings = {"distributed.scheduler.allowed-failures": 0, "temporary-directory": folder, **_QUIET}
         stack.enter_context(dask.config.set(settings))
-        cluster = stack.enter_context(LocalCluster(n_workers=workers, threads_per_worker=1, processes=True, dashboard_address=":0", silence_logs=50, local_directory=folder))
+        with _no_interrupt():
+            cluster = stack.enter_context(LocalCluster(n_workers=workers, threads_per_worker=1, processes=True, dashboard_address=":0", silence_logs=50, local_directory=folder))
         yield stack.enter_context(Client(cluster))
+
+
+@contextmanager
+def _no_interrupt() -> Iterator[None]:
+    """Has the processes that are started here leave Ctrl-C to this one, which ends them."""
+    before = signal.signal(signal.SIGINT, signal.SIG_IGN)
+    try:
+        yield
+    finally:
+        signal.signal(signal.SIGINT, before)
 
 
 def _package(folder: Path) -> Any:
