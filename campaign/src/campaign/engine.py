@@ -1,5 +1,6 @@
 """Spreads a plan's runs over Dask's workers, batch by batch, and writes each batch as it comes (docs/CAMPAIGNS.md)."""
 
+import logging
 import os
 import signal
 import sys
@@ -89,7 +90,7 @@ def run_on_worker(kit: Kit, batch: Batch) -> Done:
     from distributed import get_worker
 
     worker = get_worker()
-    return run_batch(kit, batch, Path(worker.local_directory), str(worker.name or worker.address))
+    return run_batch(kit, batch, Path(worker.local_directory), str(worker.name))
 
 
 def handed_on(kit: Kit) -> Kit:
@@ -103,6 +104,9 @@ def connected(scheduler: str | None, workers: int) -> Iterator[Any]:
     import dask
     from distributed import Client, LocalCluster
 
+    # What goes wrong is told in this package's own words.
+    for name in ("distributed", "distributed.client"):
+        logging.getLogger(name).setLevel(logging.CRITICAL)
     with ExitStack() as stack:
         if scheduler:
             try:
@@ -200,7 +204,7 @@ class Engine:
             raise ConnectionError("the scheduler has gone")
         error = future.exception()
         if isinstance(error, KilledWorker):
-            return self.died(task, error.task, str(error.last_worker.name or error.last_worker.address))
+            return self.died(task, error.task, str(error.last_worker.name))
         # What isn't foreseen is told as rows too; the other batches go on.
         self.write(Done(list(_told(task.batch, Outcome.NOT_STARTED, "", f"{type(error).__name__}: {error}")), [], 0, 0))
 
