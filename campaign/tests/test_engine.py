@@ -13,7 +13,7 @@ import time
 from pathlib import Path
 
 import pytest
-from conftest import FILES, TOP, plan_text
+from conftest import TOP, plan_text
 
 from campaign import work
 from campaign.engine import Engine, batches_of, connected, jobs_of, kit_of

@@ -76,6 +76,7 @@ def deltas_of(first: Row, second: Row) -> dict[str, int]:
 
 
 def difference_of(store: Store, first: Row, second: Row) -> Difference:
+    """The difference of two runs that aren't alike; without lines where a log of them wasn't kept."""
     logs = store.log(first.log_hash), store.log(second.log_hash)
     split = split_of(logs[0], logs[1]) if logs[0] is not None and logs[1] is not None else None
     size = size_of(logs[0], logs[1]) if logs[0] is not None and logs[1] is not None else 0
@@ -100,6 +101,7 @@ def missing_runs(store: Store, tables: list[dict[Case, Row]]) -> int:
 
 
 def failed_rows(tables: list[dict[Case, Row]], allow: frozenset[str]) -> list[Row]:
+    """The runs that failed, each once; a table has a set's runs."""
     rows = {row.number: row for each in tables for row in each.values()}
     return [row for row in rows.values() if row.failures(allow)]
 

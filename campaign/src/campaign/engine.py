@@ -63,6 +63,7 @@ class Task:
 
 
 def kit_of(plan: Plan) -> Kit:
+    """What all runs of the plan share; written scenarios go with the batches that need them."""
     shared: dict[str, Source] = {name: source for name, source in plan.sources.items() if isinstance(source, (Drawn, Generated))}
     return Kit(plan.program, plan.subjects, plan.sets, shared, plan.questions, plan.allow, plan.limits.seconds)
 
@@ -79,6 +80,7 @@ def jobs_of(plan: Plan, store: Store) -> Iterator[Job]:
 
 
 def batches_of(plan: Plan, jobs: list[Job]) -> Iterator[Batch]:
+    """The jobs in their order, as many a batch as the plan says."""
     for start in range(0, len(jobs), plan.limits.batch):
         part = tuple(jobs[start : start + plan.limits.batch])
         written = {job.case.source for job in part if not isinstance(plan.sources[job.case.source], (Drawn, Generated))}

@@ -71,6 +71,7 @@ def glossed(line: str) -> str:
 
 
 def sender_of(code: str) -> str:
+    """Whose packet the four digits of an id tell; `to MM` where it is a command for MM, and the id itself where it is nobody's."""
     if code in COMMANDS:
         return f"to {COMMANDS[code]}"
     return TELEMETRY.get(code, f"0x{code}")

@@ -59,12 +59,14 @@ def table(names: Iterable[str], rows: Iterable[Iterable[str]], caption: str = ""
 
 
 def cell(text: object, kind: str = "") -> str:
+    """A cell of a table; `kind` are its classes, and numbers stand to the right."""
     shown = f"{text:,}" if isinstance(text, int) else escape(str(text))
     kind = kind or ("number" if isinstance(text, int) else "")
     return f'<td class="{kind}">{shown}</td>' if kind else f"<td>{shown}</td>"
 
 
 def head(results: Results) -> str:
+    """When it was begun, with which program, and what is allowed."""
     plan = results.store.plan()
     begun = time.strftime("%Y-%m-%d %H:%M UTC", time.gmtime(plan["begun"]))
     allowed = ", ".join(sorted(results.allow)) or "none"
@@ -72,6 +74,7 @@ def head(results: Results) -> str:
 
 
 def totals(results: Results) -> str:
+    """How many scenarios, sets and runs there are, and each set's sums."""
     runs = sum(map(len, results.tables))
     missing = missing_runs(results.store, results.tables)
     told = [(len(results.store.cases()), "scenarios"), (len(results.sets), "sets"), (runs, "runs"), (len(results.unlike), "scenarios differ"), (len(results.failed), "runs failed")]
@@ -86,6 +89,7 @@ def totals(results: Results) -> str:
 
 
 def questions(results: Results) -> str:
+    """How many runs of each set break each question."""
     asked = dict.fromkeys(line for rows in results.tables for row in rows.values() for line in row.answers)
     if not asked:
         return ""
@@ -95,6 +99,7 @@ def questions(results: Results) -> str:
 
 
 def reasons(results: Results) -> str:
+    """Why runs failed, the most frequent reason first."""
     failed = {row.number for row in results.failed}
     told = [Counter(why for row in rows.values() if row.number in failed for why in row.failures(results.allow)) for rows in results.tables]
     whole = sum(told, Counter[str]())
@@ -119,6 +124,7 @@ def matrix(results: Results) -> str:
 
 
 def run_cell(row: Row | None, is_unlike: bool, allow: frozenset[str]) -> str:
+    """The cell of a run: its number, and why it failed or how long its log is."""
     if row is None:
         return cell("no run", "failed")
     why = row.failures(allow)
@@ -136,6 +142,7 @@ def largest(results: Results) -> str:
 
 
 def shown(store: Store, difference: Difference) -> str:
+    """A difference with the lines before it, and those of each log from it on."""
     one, other, split = difference.first, difference.second, difference.split
     about = f"{difference.case.name}: {one.set_name} (run {one.number}) and {other.set_name} (run {other.number})"
     deltas = ", ".join(f"{name} {delta:+}" for name, delta in difference.deltas.items()) or "All counts are equal"
@@ -152,6 +159,7 @@ def shown(store: Store, difference: Difference) -> str:
 
 
 def plots(results: Results) -> str:
+    """Events and drops of all runs by set, the most frequent first."""
     parts = []
     for part, title in (("events", "Events by set"), ("drops", "Drops by set")):
         sums = [Counter[str]() for _ in results.sets]
@@ -166,6 +174,7 @@ def plots(results: Results) -> str:
 
 
 def mishaps(results: Results) -> str:
+    """The workers that died, and what they had under way."""
     told = results.store.mishaps()
     if not told:
         return ""

@@ -14,7 +14,7 @@ from typing import Any
 from campaign import Wrong
 from campaign.cases import Case
 from campaign.plan import Plan
-from campaign.work import AnotherLog, Batch, Done, Known, Outcome, Result, failures, fingerprint_of
+from campaign.work import Batch, Done, Known, Outcome, Result, failures, fingerprint_of
 
 _TABLES = """
 CREATE TABLE IF NOT EXISTS runs (

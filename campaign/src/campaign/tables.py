@@ -40,7 +40,7 @@ class TableSet:
     @cached_property
     def has_first_sequence(self) -> bool:
         """Whether relative sequence 1 is loaded: the first FILE of it has a command."""
-        return any(self.tables(_FIRST_SEQUENCE)[:1]) and any(self.tables(_FIRST_SEQUENCE)[0])
+        return any(map(any, self.tables(_FIRST_SEQUENCE)[:1]))
 
     def resets_at(self, name: str, number: int) -> bool:
         """Whether an event monitor of any FILE answers this event by a processor reset."""

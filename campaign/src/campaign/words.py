@@ -38,6 +38,7 @@ class Parser(argparse.ArgumentParser):
 
 
 def parser() -> Parser:
+    """The grammar of the words."""
     words = Parser(prog="campaign", description="Runs many rehearsals at once and tells what differs between sets of tables.", epilog=STATUSES, formatter_class=argparse.RawDescriptionHelpFormatter)
     commands = words.add_subparsers(dest="command", metavar="COMMAND", required=True)
 
@@ -91,6 +92,7 @@ def main(words: list[str] | None = None) -> int:
 
 
 def run(asked: argparse.Namespace) -> Verdict:
+    """Runs a plan, and says how it went."""
     check("distributed", "tqdm")
     from campaign.engine import run_plan
 
@@ -133,6 +135,7 @@ def print_verdict(store: Store, allow: list[str]) -> Verdict:
 
 
 def compare(asked: argparse.Namespace) -> Verdict:
+    """Prints which scenarios differ between two sets."""
     store = Store(asked.results)
     told = differences(store, asked.first, asked.second)
     cases = store.runs(asked.first).keys() & store.runs(asked.second).keys()
@@ -145,6 +148,7 @@ def compare(asked: argparse.Namespace) -> Verdict:
 
 
 def print_difference(difference: Difference, first: str, second: str) -> None:
+    """Prints where two runs part; `first` and `second` are the sets' names."""
     print(f"{difference.case.name}: runs {difference.first.number} and {difference.second.number}")
     for row in (difference.first, difference.second):
         if (difference.first.status, difference.first.error) != (difference.second.status, difference.second.error):
@@ -159,6 +163,7 @@ def print_difference(difference: Difference, first: str, second: str) -> None:
 
 
 def report(asked: argparse.Namespace) -> Verdict:
+    """Writes the page."""
     check("matplotlib")
     from campaign.report import page_of
 
@@ -173,6 +178,7 @@ def report(asked: argparse.Namespace) -> Verdict:
 
 
 def show(asked: argparse.Namespace) -> int:
+    """Prints a run, or the text that it ran."""
     store = Store(asked.results)
     row = store.run(asked.number)
     if asked.scenario:
@@ -209,11 +215,13 @@ def text_of(store: Store, row: Row) -> bytes:
 
 
 def print_bytes(text: bytes) -> None:
+    """Prints a text as its bytes are."""
     sys.stdout.flush()
     sys.stdout.buffer.write(text)
 
 
 def perturb(asked: argparse.Namespace) -> int:
+    """Prints the text that a seed gives."""
     if asked.seed < 0:
         raise Wrong(f"--seed {asked.seed} is below 0")
     print_bytes(drawn_of(asked).text(asked.seed)[0] if asked.plan else usual_text(asked))
@@ -221,6 +229,7 @@ def perturb(asked: argparse.Namespace) -> int:
 
 
 def usual_text(asked: argparse.Namespace) -> bytes:
+    """The text that the usual faults give; Wrong where the scenario is none."""
     try:
         scenario = Scenario.read(Path(asked.scenario).read_bytes())
     except OSError as error:
@@ -244,6 +253,7 @@ def drawn_of(asked: argparse.Namespace) -> Drawn:
 
 
 def drilled(asked: argparse.Namespace) -> int:
+    """Prints the text of a generated scenario."""
     if not 0 <= asked.number <= 999_999:
         raise Wrong(f"{asked.number} isn't from 0 to 999999")
     print_bytes(drill.text_of(asked.number).encode())

@@ -131,6 +131,7 @@ class Done:
 
 
 def fingerprint_of(outcome: str, status: int | None, error: str, log_hash: str) -> str:
+    """What two runs that are alike have in common."""
     return f"{outcome} {status} {error} {log_hash}"
 
 
@@ -251,6 +252,7 @@ def run_batch(kit: Kit, batch: Batch, folder: Path, worker: str) -> Done:
 
 
 def unmade(job: Job, worker: str, error: OSError) -> Iterator[Result]:
+    """A row for each run of a job that the system refused."""
     outcome = Outcome.DISK_FULL if error.errno in _DISK_IS_FULL else Outcome.NOT_STARTED
     for place in job.wanted:
         yield Result(job.case, place, outcome, worker, error=f"{error.strerror or error}")
