@@ -120,7 +120,17 @@ def matrix(results: Results) -> str:
     rest = f" {len(marked) - MOST_ROWS:,} more are in the results file." if len(marked) > MOST_ROWS else ""
     caption = f"What differs or failed, run by run; campaign show N prints run N.{rest}"
     single = table(["scenario", *results.sets], singles, caption) if singles else "<p>No scenario differs and no run failed.</p>\n"
-    return "<h2>Scenarios by sets</h2>\n" + table(["scenario", "differ", *results.sets], grouped, "All, by name:") + single
+    listed = "".join(seeds_that_differ(name, [case for case in results.unlike if case.scenario == name]) for name in names if unlike[name])
+    return "<h2>Scenarios by sets</h2>\n" + table(["scenario", "differ", *results.sets], grouped, "All, by name:") + listed + single
+
+
+def seeds_that_differ(name: str, cases: list[Case]) -> str:
+    """All seeds whose runs differ, as spans, behind a line that opens them; nothing for a written scenario."""
+    seeds = sorted(case.seed for case in cases if case.seed is not None)
+    starts = [seed for seed, before in zip(seeds, [-2, *seeds]) if seed != before + 1]
+    ends = [seed for seed, behind in zip(seeds, [*seeds[1:], -2]) if seed + 1 != behind]
+    spans = ", ".join(str(start) if start == end else f"{start}..{end}" for start, end in zip(starts, ends))
+    return f"<details><summary>Seeds of {escape(name)} that differ</summary><p>{spans}</p></details>\n" if seeds else ""
 
 
 def run_cell(row: Row | None, is_unlike: bool, allow: frozenset[str]) -> str:
