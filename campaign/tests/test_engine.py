@@ -135,7 +135,7 @@ def test_a_worker_that_is_killed_costs_no_run(folder: Path, program: Path) -> No
                 os.kill(workers.pop(0), signal.SIGKILL)
                 workers.clear()
 
-        totals = Engine(plan, store, client, told).run(batches_of(plan, jobs))
+        totals = Engine(plan, store, client, told).run(batches_of(plan, jobs, 2))
     assert totals.ran == len(rows(folder)) == 2 * len(plan.cases)
     assert rows(folder, "DISTINCT outcome") == [("ran",)]
     assert [mishap["what"] for mishap in store.mishaps()][:1] == ["worker died"]

@@ -79,10 +79,11 @@ def jobs_of(plan: Plan, store: Store) -> Iterator[Job]:
             yield Job(case, wanted, {place: of for place, of in told.items() if of is not None})
 
 
-def batches_of(plan: Plan, jobs: list[Job]) -> Iterator[Batch]:
-    """The jobs in their order, as many a batch as the plan says."""
-    for start in range(0, len(jobs), plan.limits.batch):
-        part = tuple(jobs[start : start + plan.limits.batch])
+def batches_of(plan: Plan, jobs: list[Job], workers: int) -> Iterator[Batch]:
+    """The jobs in their order, as many a batch as the plan says, and fewer where each worker wouldn't get a few batches."""
+    size = max(min(plan.limits.batch, len(jobs) // (max(workers, 1) * _IN_FLIGHT)), 1)
+    for start in range(0, len(jobs), size):
+        part = tuple(jobs[start : start + size])
         written = {job.case.source for job in part if not isinstance(plan.sources[job.case.source], (Drawn, Generated))}
         yield Batch(part, {name: plan.sources[name] for name in written})
 
@@ -253,7 +254,7 @@ def run_plan(plan: Plan, store: Store, scheduler: str | None, workers: int | Non
         count = workers or plan.limits.workers or os.cpu_count() or 1
         with connected(scheduler, count) as client, tqdm(total=wanted, unit="run", disable=not sys.stderr.isatty(), smoothing=0.05) as bar:
             engine = Engine(plan, store, client, bar.update)
-            totals = engine.run(batches_of(plan, jobs))
+            totals = engine.run(batches_of(plan, jobs, sum(client.nthreads().values())))
         totals.wanted, totals.before = wanted, before
         store.end(number, {name: getattr(totals, name) for name in ("ran", "seconds", "program_seconds", "worker_seconds", "processor_seconds", "engine_seconds", "workers")})
         return totals

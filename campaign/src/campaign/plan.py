@@ -27,7 +27,7 @@ MOST_OF_SPAN = 1_000_000
 
 @dataclass(frozen=True)
 class Limits:
-    """How long a run may take, in seconds, how many cases a task has, and how many workers a local cluster has (0: as processors)."""
+    """How long a run may take, in seconds, how many cases a task has at most, and how many workers a local cluster has (0: as processors)."""
 
     seconds: float = 10.0
     batch: int = 50
