@@ -67,9 +67,3 @@ one_shared leaves tasks row worked len is = record {
   worked = All-cons (IsWorked leaves tasks) row [] worked (All-nil (IsWorked leaves tasks));
   once = λ job h. (let one = times_in_order (length tasks) job row.drawn.items worked.draws.0 len is h in let c = times_in-cons job row.drawn.items [] in omega arith);
 }
-
--- the only element of a list, replaced
-pub only_set : {A : Type 0} (l : List A) (a : A) → length l ≡ 1 → set l 0 a ≡ a ∷ []
-only_set [] a one = absurd (omega arith)
-only_set (x ∷ []) a one = refl
-only_set (x ∷ y ∷ l) a one = absurd (omega arith)

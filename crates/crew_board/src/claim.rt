@@ -42,7 +42,7 @@ fn draw_together<R: Threads + Sync, S: Scratch, T: Task<Work = S>, G: Gate>(
     Way::Shared
 }
 
-/// The only row takes all jobs in order: nobody else draws.
+/// The first row takes all jobs in order: nobody else draws.
 #[inline(always)]
 pub(crate) fn take_all<S: Scratch, T: Task<Work = S>, G: Gate>(
     tasks: &[T],
@@ -50,36 +50,37 @@ pub(crate) fn take_all<S: Scratch, T: Task<Work = S>, G: Gate>(
     rows: &mut [Row<S>],
 )
     requires few { length tasks.now ≤ 64 }
-    requires one { length rows.old ≡ 1 }
+    requires some_rows { 0 < length rows.old }
     requires fits { All (FitsJobs (length tasks.now)) rows.old }
     ensures len { length rows.new ≡ length rows.old }
     ensures shared { AreShared T.leaves tasks.now rows.new }
     ensures done { (job : ℕ) → job < length tasks.now → IsRight T.leaves tasks.now (first_scratches rows.new) job }
 {
-    perform_all(tasks, gate, &mut rows[0]);
+    let Some((first, others)) = rows.split_first_mut() else {
+        unreachable!()
+    };
+    forget_draws(tasks, others);
+    perform_all(tasks, gate, first);
 }
 
-/// At most as many rows as there are jobs draw; the others can't get one. One row needs no board.
+/// The first so many rows draw; the others get no job.
 pub(crate) fn share_jobs<R: Threads + Sync, S: Scratch, T: Task<Work = S>, G: Gate>(
     rt: &R,
     alloc: Global,
+    used: usize,
     tasks: &[T],
     gate: &G,
     rows: &mut [Row<S>],
 ) -> Way
     requires few { (0 < length tasks.now) × (length tasks.now ≤ 64) }
-    requires workers { (0 < length rows.old) × (length rows.old ≤ 16) }
+    requires used { (0 < used) × (used ≤ length rows.old) }
+    requires workers { length rows.old ≤ 16 }
     requires fits { All (FitsJobs (length tasks.now)) rows.old }
     ensures len { length rows.new ≡ length rows.old }
     ensures fits { All (FitsJobs (length tasks.now)) rows.new }
     ensures shared { result ≡ Way.Shared → AreShared T.leaves tasks.now rows.new }
 {
-    let used = rows.len().min(tasks.len());
     let (active, idle) = rows.split_at_mut(used);
     forget_draws(tasks, idle);
-    if used == 1 {
-        take_all(tasks, gate, active);
-        return Way::Shared;
-    }
     draw_together(rt, alloc, tasks, gate, active)
 }

@@ -15,6 +15,9 @@ use std::alloc::Global;
 use std::marker::Model;
 use std::thread::Threads;
 
+/// The most workers of a crew.
+const WORKERS: u32 = 16;
+
 /// Workers with a scratch for each job, seen as the number of jobs, the results of the last run and its draws.
 #[derive(Drop)]
 pub struct Crew<S> {
@@ -86,7 +89,33 @@ impl<S: Scratch> Crew<S> {
         ensures draws { AreLeft result self.old.jobs (length self.old.drawn) self.new.drawn }
         ensures workers { length self.new.drawn ≡ length self.old.drawn }
     {
-        let way = run_jobs(rt, self.alloc, tasks, gate, self.rows.as_mut_slice());
+        self.run_on(rt, WORKERS, tasks, gate)
+    }
+
+    /// Does what `run` does on at most so many of the workers. One starts no thread, and takes the tasks in their order.
+    #[inline(always)]
+    pub fn run_on<R: Threads + Sync, T: Task<Work = S>, G: Gate>(
+        &mut self,
+        rt: &R,
+        workers: u32,
+        tasks: &[T],
+        gate: &G,
+    ) -> Way
+        requires workers { 0 < workers }
+        requires tasks { length tasks.now ≡ self.old.jobs }
+        ensures jobs { self.new.jobs ≡ self.old.jobs }
+        ensures results { (length self.new.results ≡ self.old.jobs) × ((job : ℕ) → job < self.old.jobs → IsRight T.leaves tasks.now self.new.results job) }
+        ensures draws { AreLeft result self.old.jobs (length self.old.drawn) self.new.drawn }
+        ensures workers { length self.new.drawn ≡ length self.old.drawn }
+    {
+        let way = run_jobs(
+            rt,
+            self.alloc,
+            workers as usize,
+            tasks,
+            gate,
+            self.rows.as_mut_slice(),
+        );
         self.ran = true;
         way
     }

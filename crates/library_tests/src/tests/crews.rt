@@ -4,7 +4,7 @@ ghost use Rattle.std.specs.Prelude.{◌≡◌, ◌<◌, ◌≤◌};
 
 use super::threads::{Counting, Meeting};
 use crew_board::{Crew, Scratch, Task, Way};
-use fsw_outside::NoMemory;
+use fsw_outside::{NoMemory, OpenGate};
 use std::alloc::Global;
 use std::process::Abort;
 use std::sync::atomic::{AtomicU64, Ordering};
@@ -115,6 +115,21 @@ fn five_workers_meet(rt: HostRuntime) -> Result<(), Fail> {
     let gate = Meeting::new(31, 31);
     crew.run(&rt, &FIVE, &gate);
     assert_eq!(rt; gate.met(), 31);
+    Ok(())
+}
+
+/// Two of sixteen workers meet in two jobs, and the others draw nothing; one of sixteen takes all jobs in order.
+#[test]
+fn fewer_workers_than_there_are(rt: HostRuntime) -> Result<(), Fail> {
+    let mut crew = Crew::<Cell>::open(rt.alloc(), 16, 5)?;
+    let gate = Meeting::new(3, 3);
+    crew.run_on(&rt, 2, &FIVE, &gate);
+    assert_eq!(rt; gate.met(), 3);
+    assert!(rt; crew.drawn(2).is_empty());
+    crew.run_on(&rt, 1, &FIVE, &OpenGate);
+    assert_eq!(rt; crew.drawn(0), [0, 1, 2, 3, 4].as_slice());
+    assert!(rt; crew.drawn(1).is_empty());
+    assert_eq!(rt; crew.result(4).value, 14);
     Ok(())
 }
 

@@ -5,8 +5,3 @@ pub returns-clause-shared : goal.returns-clause-shared
 returns-clause-shared g c = λ is.
     let idle = c.forget_draws.ensures in
     shared_with_idle g.T.Task.leaves c.args.tasks.now c.draw_together.new.rows c.forget_draws.new.rows _ (c.draw_together.ensures.shared is) idle.worked idle.draws
-
-pub returns-then-used-eq1-clause-shared : goal.returns-then-used-eq1-clause-shared
-returns-then-used-eq1-clause-shared g c = λ _.
-    let idle = c.forget_draws.ensures in
-    shared_with_idle g.T.Task.leaves c.args.tasks.now c.take_all.new.rows c.forget_draws.new.rows _ c.take_all.ensures.shared idle.worked idle.draws
