@@ -18,16 +18,18 @@ pub(crate) fn jobs_of(watched: bool) -> u32
     if watched { 6 } else { 5 }
 }
 
-/// Wakes the applications that are there, each as a job of the crew.
+/// Wakes the applications that are there, each as a job of the crew, on at most so many workers.
 #[inline(always)]
 pub(crate) fn wake_all<R: Threads + Sync, G: Gate>(
     crew: &mut Crew<Left>,
     rt: &R,
+    workers: u32,
     gate: &G,
     scene: &Scene<'_, '_, '_, '_>,
     watched: bool,
 )
-    requires { crew.old.jobs ≡ jobs_of watched }
+    requires workers { 0 < workers }
+    requires jobs { crew.old.jobs ≡ jobs_of watched }
     ensures jobs { crew.new.jobs ≡ crew.old.jobs }
     ensures count { length crew.new.results ≡ jobs_of watched }
     ensures left { AllLeave watched scene.now crew.new.results }
@@ -41,7 +43,7 @@ pub(crate) fn wake_all<R: Threads + Sync, G: Gate>(
             Wakeup(scene, Job::Md),
             Wakeup(scene, Job::Lc),
         ];
-        crew.run(rt, &jobs, gate);
+        crew.run_on(rt, workers, &jobs, gate);
     } else {
         let jobs = [
             Wakeup(scene, Job::Hs),
@@ -50,6 +52,6 @@ pub(crate) fn wake_all<R: Threads + Sync, G: Gate>(
             Wakeup(scene, Job::Mm),
             Wakeup(scene, Job::Md),
         ];
-        crew.run(rt, &jobs, gate);
+        crew.run_on(rt, workers, &jobs, gate);
     }
 }

@@ -19,7 +19,7 @@ impl<'f> Bench<'f> {
     ghost use Rattle.frame_exec.specs.declared.left.Left.{Left};
 
     /// Wakes the applications that are there on what they took, on execution counters and on the frame's image, and tells whether no item
-    /// was given. One worker wakes none of them where all rest: then no job is run.
+    /// was given. Where all rest none is woken, but in the first frame: its jobs go over all workers, whatever there is to do.
     #[inline(always)]
     pub(crate) fn step<R: Threads + Sync, G: Gate>(
         &mut self,
@@ -36,20 +36,20 @@ impl<'f> Bench<'f> {
         ensures ready { IsReady self.new }
         ensures none { result ≡ true → joined (items_in self.new) ≡ [] }
     {
-        if self.lc.there {
-            return self.step_watched(rt, gate, counters);
-        }
-        if self.workers <= 1 && self.rests(counters) {
+        if self.number > 0 && self.rests(counters) {
             return true;
         }
-        self.wake(rt, gate, counters, false);
+        let workers = self.useful_workers(counters);
+        if self.lc.there {
+            return self.step_watched(rt, gate, counters, workers);
+        }
+        self.wake(rt, gate, counters, workers, false);
         self.take_over()
     }
 
-    /// Whether no application has anything to do in this frame. LC, which is woken in every frame, isn't there.
+    /// Whether no application has anything to do in this frame.
     #[inline(always)]
     fn rests(&self, counters: &[Counter]) -> bool
-        requires away { self.now.lc.there ≡ false }
         requires time { self.now.epoch + self.now.number < 4294967296 }
         requires clear { IsClear self.now }
         ensures { result ≡ true → Steps counters.now self.now self.now }
@@ -74,17 +74,56 @@ impl<'f> Bench<'f> {
         if !self.sc.rests(&reads) {
             return false;
         }
-        self.cs.rests(&reads)
+        if !self.cs.rests(&reads) {
+            return false;
+        }
+        self.lc.slot.rests(&reads)
     }
 
-    /// Wakes the applications with LC as one of them, and tells whether no item was given.
+    /// How many workers are of use in this frame: as many as there are applications with something to do, and all in the first frame.
+    #[inline(always)]
+    fn useful_workers(&self, counters: &[Counter]) -> u32
+        requires { self.now.epoch + self.now.number < 4294967296 }
+        ensures { 0 < result }
+    {
+        if self.workers <= 1 || self.number == 0 {
+            return self.workers.max(1);
+        }
+        self.busy(counters).clamp(1, self.workers)
+    }
+
+    /// How many applications have something to do in this frame.
+    #[inline(never)]
+    fn busy(&self, counters: &[Counter]) -> u32
+        requires { self.now.epoch + self.now.number < 4294967296 }
+        ensures { result ≤ 6 }
+    {
+        let reads = Reads {
+            tables: &self.tables,
+            events: &self.events,
+            lc: &self.lc,
+            window: self.ram.window(),
+            counters,
+            time: self.epoch + self.number as u32,
+        };
+        u32::from(!self.hs.rests(&reads))
+            + u32::from(!self.cs.rests(&reads))
+            + u32::from(!self.sc.rests(&reads))
+            + u32::from(!self.mm.rests(&reads))
+            + u32::from(!self.md.rests(&reads))
+            + u32::from(!self.lc.slot.rests(&reads))
+    }
+
+    /// Wakes the applications with LC as one of them, on at most so many workers, and tells whether no item was given.
     #[inline(never)]
     fn step_watched<R: Threads + Sync, G: Gate>(
         &mut self,
         rt: &R,
         gate: &G,
         counters: &[Counter],
+        workers: u32,
     ) -> bool
+        requires workers { 0 < workers }
         requires there { self.old.lc.there ≡ true }
         requires time { self.old.epoch + self.old.number < 4294967296 }
         requires clear { IsClear self.old }
@@ -95,20 +134,22 @@ impl<'f> Bench<'f> {
         ensures ready { IsReady self.new }
         ensures none { result ≡ true → joined (items_in self.new) ≡ [] }
     {
-        self.wake(rt, gate, counters, true);
+        self.wake(rt, gate, counters, workers, true);
         let none = self.take_over();
         none & self.lc.take_over(&mut self.crew)
     }
 
-    /// Wakes the applications, each as a job of the crew: LC as the last, where it is watching.
+    /// Wakes the applications, each as a job of the crew, on at most so many workers: LC as the last, where it is watching.
     #[inline(always)]
     fn wake<R: Threads + Sync, G: Gate>(
         &mut self,
         rt: &R,
         gate: &G,
         counters: &[Counter],
+        workers: u32,
         watched: bool,
     )
+        requires workers { 0 < workers }
         requires watched { self.old.bus.watched ≡ watched }
         requires time { self.old.epoch + self.old.number < 4294967296 }
         requires ready { IsReady self.old }
@@ -132,7 +173,7 @@ impl<'f> Bench<'f> {
             md: &self.md,
             reads,
         };
-        wake_all(&mut self.crew, rt, gate, &scene, watched);
+        wake_all(&mut self.crew, rt, workers, gate, &scene, watched);
     }
 
     /// Takes over what the jobs left but LC's, in the order of the applications, and tells whether no item was given.

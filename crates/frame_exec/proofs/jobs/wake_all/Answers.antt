@@ -5,8 +5,8 @@ use Rattle.frame_exec.proofs.jobs.wake_all.Goals as goal
 
 pub returns-then-watched-clause-left : goal.returns-then-watched-clause-left
 returns-then-watched-clause-left g c =
-    let six : c.args.crew.now.jobs ≡ 6 = c.requires ∙ ap jobs_of c.if-watched.true in
-    let done = c.run.ensures.results.1 in
+    let six : c.args.crew.now.jobs ≡ 6 = c.requires.jobs ∙ ap jobs_of c.if-watched.true in
+    let done = c.run_on.ensures.results.1 in
     record {
       hs = λ left at. done 0 (omega (arith, six)) _ left refl at;
       cs = λ left at. done 1 (omega (arith, six)) _ left refl at;
@@ -18,8 +18,8 @@ returns-then-watched-clause-left g c =
 
 pub returns-else-watched-clause-left : goal.returns-else-watched-clause-left
 returns-else-watched-clause-left g c =
-    let five : c.args.crew.now.jobs ≡ 5 = c.requires ∙ ap jobs_of c.if-watched.false in
-    let done = c.run-else-watched.ensures.results.1 in
+    let five : c.args.crew.now.jobs ≡ 5 = c.requires.jobs ∙ ap jobs_of c.if-watched.false in
+    let done = c.run_on-else-watched.ensures.results.1 in
     record {
       hs = λ left at. done 0 (omega (arith, five)) _ left refl at;
       cs = λ left at. done 1 (omega (arith, five)) _ left refl at;
