@@ -154,23 +154,38 @@ pub fn event_rows()
 /// that give housekeeping whatever else they hold.
 pub fn length_rows()
     ensures codes { numbers_of_rows hs_codes
-        ≡ (0 ∷ 0 ∷ 0 ∷ []) ∷ (1 ∷ 0 ∷ 0 ∷ []) ∷ (2 ∷ 0 ∷ 0 ∷ []) ∷ (3 ∷ 0 ∷ 0 ∷ []) ∷ (4 ∷ 0 ∷ 0 ∷ []) ∷ (5 ∷ 0 ∷ 0 ∷ [])
+        ≡ (0 ∷ 0 ∷ 0 ∷ []) ∷ (1 ∷ 0 ∷ 0 ∷ []) ∷ (2 ∷ 0 ∷ 0 ∷ []) ∷ (3 ∷ 0 ∷ 0 ∷ [])
+        ∷ (4 ∷ 0 ∷ 0 ∷ []) ∷ (5 ∷ 0 ∷ 0 ∷ [])
         ∷ (8 ∷ 0 ∷ 0 ∷ []) ∷ (9 ∷ 2 ∷ 2 ∷ []) ∷ [] }
-    ensures limit { map (verdict_at hs_protocol tt []) ((0x18 ∷ 0xAE ∷ 0xC0 ∷ 0 ∷ 0 ∷ 2 ∷ 9 ∷ 0x83 ∷ 1 ∷ [])
+    ensures limit { map (verdict_at hs_protocol tt []) ((0x18 ∷ 0xAE ∷ 0xC0 ∷ 0 ∷ 0 ∷ 2 ∷ 9 ∷ 0x83
+        ∷ 1 ∷ [])
         ∷ (0x18 ∷ 0xAE ∷ 0xC0 ∷ 0 ∷ 0 ∷ 3 ∷ 9 ∷ 0xA1 ∷ 0xFE ∷ 0xDC ∷ [])
         ∷ (0x18 ∷ 0xAE ∷ 0xC0 ∷ 0 ∷ 0 ∷ 4 ∷ 9 ∷ 0x87 ∷ 0 ∷ 1 ∷ 2 ∷ []) ∷ [])
         ≡ Refused 3 ∷ Accepted 9 (Limit 0xFEDC) ∷ Refused 3 ∷ [] }
-    ensures requests { map (verdict_at hs_protocol tt []) (wrong_request ∷ long_request ∷ []) ≡ Request ∷ Request ∷ [] }
+    ensures requests { map (verdict_at hs_protocol tt []) (wrong_request ∷ long_request ∷ [])
+        ≡ Request ∷ Request ∷ [] }
 {}
 
 /// An event's number over 255, and names that differ in their last byte alone.
 pub fn event_edge_rows()
-    ensures number { is_matched longest_event (record { name = longest_bytes; id = 0x0107; action = 1 }) ≡ true }
-    ensures low_byte { is_matched longest_event (record { name = longest_bytes; id = 7; action = 1 }) ≡ false }
-    ensures high_byte { is_matched longest_event (record { name = longest_bytes; id = 0x0207; action = 1 }) ≡ false }
-    ensures last_letter { is_matched longest_event (record { name = slice_set longest_bytes 18 0x54; id = 0x0107; action = 1 }) ≡ false }
-    ensures last_byte { is_matched (slice_set longest_event 31 0x54) (record { name = longest_bytes; id = 0x0107; action = 1 }) ≡ false }
-    ensures first_letter { is_matched (slice_set longest_event 12 0x42) (record { name = longest_bytes; id = 0x0107; action = 1 }) ≡ false }
+    ensures number { is_matched longest_event
+        (record { name = longest_bytes; id = 0x0107; action = 1 })
+        ≡ true }
+    ensures low_byte { is_matched longest_event
+        (record { name = longest_bytes; id = 7; action = 1 })
+        ≡ false }
+    ensures high_byte { is_matched longest_event
+        (record { name = longest_bytes; id = 0x0207; action = 1 })
+        ≡ false }
+    ensures last_letter { is_matched longest_event
+        (record { name = slice_set longest_bytes 18 0x54; id = 0x0107; action = 1 })
+        ≡ false }
+    ensures last_byte { is_matched (slice_set longest_event 31 0x54)
+        (record { name = longest_bytes; id = 0x0107; action = 1 })
+        ≡ false }
+    ensures first_letter { is_matched (slice_set longest_event 12 0x42)
+        (record { name = longest_bytes; id = 0x0107; action = 1 })
+        ≡ false }
     ensures high_id { is_event (slice_set longest_event 0 0x09) ≡ false }
 {}
 
@@ -186,35 +201,55 @@ pub fn counter_rows()
 /// An entry that acted stays unwatched: a disable is no refresh, and housekeeping behind it shows that application monitoring is off. An
 /// enable behind that refreshes. An entry that didn't act stays watched behind a disable.
 pub fn disabled_rows()
-    ensures acted { hs_items (watching 1 3) (Woken (counted 0 0) ∷ []) (wakeup 1 (disable ∷ request ∷ enable ∷ request ∷ []) [] [])
+    ensures acted { hs_items (watching 1 3) (Woken (counted 0 0)
+        ∷ []) (wakeup 1 (disable ∷ request ∷ enable ∷ request ∷ []) [] [])
         ≡ outs.Made (hs_info 19 0xE9) ∷ outs.Made (shown 1 1 0 0 1 0 0)
-        ∷ outs.Made (hs_info 18 0xE9) ∷ outs.Made (shown 1 2 0 1 1 0 1) ∷ outs.Made (hs_event 103 0xE9) ∷ [] }
-    ensures later { hs_items (watching 1 3) (Woken (counted 0 0) ∷ Woken (wakeup 1 (disable ∷ []) [] []) ∷ []) (wakeup 2 (request ∷ []) [] [])
+        ∷ outs.Made (hs_info 18 0xE9) ∷ outs.Made (shown 1 2 0 1 1 0 1)
+        ∷ outs.Made (hs_event 103 0xE9) ∷ [] }
+    ensures later { hs_items (watching 1 3) (Woken (counted 0 0)
+        ∷ Woken (wakeup 1 (disable ∷ []) [] []) ∷ []) (wakeup 2 (request ∷ []) [] [])
         ≡ outs.Made (shown 2 1 0 0 1 0 0) ∷ [] }
-    ensures watched { hs_items (watching 3 3) (Woken (counted 0 0) ∷ []) (wakeup 1 (disable ∷ request ∷ []) [] [])
+    ensures watched { hs_items (watching 3 3) (Woken (counted 0 0)
+        ∷ []) (wakeup 1 (disable ∷ request ∷ []) [] [])
         ≡ outs.Made (hs_info 19 0xE9) ∷ outs.Made (shown 1 1 0 0 1 0 1) ∷ [] }
-    ensures begins_anew { hs_items (watching 2 3) (Woken (counted 0 0) ∷ Woken (wakeup 1 (disable ∷ []) [] []) ∷ []) (wakeup 2 (enable ∷ []) [] [])
+    ensures begins_anew { hs_items (watching 2 3) (Woken (counted 0 0)
+        ∷ Woken (wakeup 1 (disable ∷ []) [] []) ∷ []) (wakeup 2 (enable ∷ []) [] [])
         ≡ outs.Made (hs_info 18 0xEA) ∷ [] }
 {}
 
 /// The first and the last entry of the application monitors, the last event monitor with each message action, and the last message action.
 pub fn place_rows()
-    ensures apps { hs_items ends_watched [] (wakeup 0 [] [] []) ≡ outs.Made (hs_event 103 0xE8) ∷ [] }
+    ensures apps { hs_items ends_watched [] (wakeup 0 [] [] []) ≡ outs.Made (hs_event 103 0xE8)
+        ∷ [] }
     ensures last_app { hs_items ends_watched (Woken (wakeup 0 [] [] []) ∷ []) (wakeup 1 [] [] [])
         ≡ outs.Made (hs_event 102 0xE9) ∷ outs.Restart cam_bytes ∷ [] }
-    ensures last_event { hs_items (last_heard 3) [] (heard 0) ≡ outs.Made (hs_event 113 0xE8) ∷ outs.Delete load_bytes ∷ [] }
-    ensures last_action { hs_items (last_heard 11) [] (heard 0) ≡ outs.Stored noop_bytes ∷ outs.Made (hs_event 114 0xE8) ∷ [] }
-    ensures other_action { map (λ n. hs_items (last_heard n) [] (heard 0)) (4 ∷ 10 ∷ []) ≡ [] ∷ [] ∷ [] }
+    ensures last_event { hs_items (last_heard 3) [] (heard 0) ≡ outs.Made (hs_event 113 0xE8)
+        ∷ outs.Delete load_bytes ∷ [] }
+    ensures last_action { hs_items (last_heard 11) [] (heard 0) ≡ outs.Stored noop_bytes
+        ∷ outs.Made (hs_event 114 0xE8) ∷ [] }
+    ensures other_action { map (λ n. hs_items (last_heard n) [] (heard 0)) (4 ∷ 10 ∷ []) ≡ [] ∷ []
+        ∷ [] }
 {}
 
 /// A time with all its bytes; and the message actions sent, which resets and a reset of the counts keep.
 pub fn shown_edge_rows()
-    ensures time { hs_items (watching 1 3) [] (record { time = 0x01020304; commands = enable ∷ []; seen = record { events = []; counters = [] } })
+    ensures time { hs_items (watching 1 3) [] (record {
+      time = 0x01020304;
+      commands = enable
+          ∷ [];
+      seen = record { events = []; counters = [] };
+    })
         ≡ outs.Made (late_event 18 2) ∷ outs.Made (late_event 103 3) ∷ [] }
-    ensures sent { hs_items listening (Woken (heard 0) ∷ Woken (wakeup 1 (disable ∷ reset_counts ∷ []) [] []) ∷ []) (wakeup 2 (request ∷ []) [] [])
+    ensures sent { hs_items listening (Woken (heard 0) ∷ Woken (wakeup 1 (disable ∷ reset_counts
+        ∷ []) [] []) ∷ []) (wakeup 2 (request ∷ []) [] [])
         ≡ outs.Made (shown 2 0 0 0 1 1 0) ∷ [] }
-    ensures behind_resets { hs_items (setup_with (load_rows 1 31 1 1) (seven_rows 1 15 4) (one_act 1) 0) (Woken (heard 0) ∷ Woken (wakeup 1 (clear ∷ []) [] []) ∷ Woken (heard 2) ∷ []) (wakeup 3 (request ∷ []) [] [])
+    ensures behind_resets { hs_items (setup_with (load_rows 1 31 1 1) (seven_rows 1 15 4)
+        (one_act 1) 0) (Woken (heard 0)
+        ∷ Woken (wakeup 1 (clear ∷ []) [] []) ∷ Woken (heard 2)
+        ∷ []) (wakeup 3 (request ∷ []) [] [])
         ≡ outs.Made (shown 3 1 0 1 1 2 0) ∷ [] }
-    ensures behind_reset { hs_items listening (Woken (heard 0) ∷ []) (wakeup 2 (reset_counts ∷ request ∷ wrong_request ∷ []) (load_event 7 ∷ []) [])
-        ≡ outs.Made (hs_info 17 0xEA) ∷ outs.Made (shown 2 0 0 1 1 1 0) ∷ outs.Made (shown 2 0 0 1 1 1 0) ∷ [] }
+    ensures behind_reset { hs_items listening (Woken (heard 0)
+        ∷ []) (wakeup 2 (reset_counts ∷ request ∷ wrong_request ∷ []) (load_event 7 ∷ []) [])
+        ≡ outs.Made (hs_info 17 0xEA) ∷ outs.Made (shown 2 0 0 1 1 1 0)
+        ∷ outs.Made (shown 2 0 0 1 1 1 0) ∷ [] }
 {}
