@@ -55,31 +55,89 @@ pub fn worked_lines()
 
 /// The lines of a packet at each pipe that was dropped for each cause.
 pub fn drop_rows()
-    ensures hs { map (λ full. drop_line 99999 (record { pipe = PipeName.Hs; full = full; packet = 0x18 ∷ 0xAE ∷ 0xC0 ∷ 0 ∷ 0 ∷ 1 ∷ 0 ∷ 0x88 ∷ [] })) (false ∷ true ∷ [])
-        ≡ codes "99999 drop HS limit 18AEC00000010088\n" ∷ codes "99999 drop HS full 18AEC00000010088\n" ∷ [] }
-    ensures events { map (λ full. drop_line 99999 (record { pipe = PipeName.HsEv; full = full; packet = 8 ∷ 8 ∷ 0xC0 ∷ 0 ∷ 0 ∷ 0x25 ∷ 1 ∷ 2 ∷ 3 ∷ 4 ∷ 0 ∷ 0 ∷ 0x48 ∷ 0x53 ∷ 0 ∷ 0 ∷ 0 ∷ 0 ∷ 0 ∷ 0 ∷ 0 ∷ 0 ∷ 0 ∷ 0 ∷ 0 ∷ 0 ∷ 0 ∷ 0 ∷ 0 ∷ 0 ∷ 0 ∷ 0 ∷ 1 ∷ 2 ∷ 0 ∷ 3 ∷ 0 ∷ 0 ∷ 0 ∷ 0x42 ∷ 0 ∷ 0 ∷ 0 ∷ 1 ∷ [] })) (false ∷ true ∷ [])
-        ≡ codes "99999 drop HS.EV limit 0808C00000250102030400004853000000000000000000000000000000000000010200030000004200000001\n" ∷ codes "99999 drop HS.EV full 0808C00000250102030400004853000000000000000000000000000000000000010200030000004200000001\n" ∷ [] }
-    ensures cs { map (λ full. drop_line 99999 (record { pipe = PipeName.Cs; full = full; packet = 0x18 ∷ 0x9F ∷ 0xC0 ∷ 0 ∷ 0 ∷ 1 ∷ 0 ∷ 0xB9 ∷ [] })) (false ∷ true ∷ [])
-        ≡ codes "99999 drop CS limit 189FC000000100B9\n" ∷ codes "99999 drop CS full 189FC000000100B9\n" ∷ [] }
-    ensures sc { map (λ full. drop_line 99999 (record { pipe = PipeName.Sc; full = full; packet = 0x18 ∷ 0xA9 ∷ 0xC0 ∷ 0 ∷ 0 ∷ 1 ∷ 0 ∷ 0x8F ∷ [] })) (false ∷ true ∷ [])
-        ≡ codes "99999 drop SC limit 18A9C0000001008F\n" ∷ codes "99999 drop SC full 18A9C0000001008F\n" ∷ [] }
-    ensures mm { map (λ full. drop_line 99999 (record { pipe = PipeName.Mm; full = full; packet = 0x18 ∷ 0x88 ∷ 0xC0 ∷ 0 ∷ 0 ∷ 1 ∷ 0 ∷ 0xAE ∷ [] })) (false ∷ true ∷ [])
-        ≡ codes "99999 drop MM limit 1888C000000100AE\n" ∷ codes "99999 drop MM full 1888C000000100AE\n" ∷ [] }
-    ensures md { map (λ full. drop_line 99999 (record { pipe = PipeName.Md; full = full; packet = 0x18 ∷ 0x90 ∷ 0xC0 ∷ 0 ∷ 0 ∷ 1 ∷ 0 ∷ 0xB6 ∷ [] })) (false ∷ true ∷ [])
-        ≡ codes "99999 drop MD limit 1890C000000100B6\n" ∷ codes "99999 drop MD full 1890C000000100B6\n" ∷ [] }
-    ensures lc { map (λ full. drop_line 99999 (record { pipe = PipeName.Lc; full = full; packet = 0x18 ∷ 0xA6 ∷ 0xC0 ∷ 0 ∷ 0 ∷ 1 ∷ 0 ∷ 0x80 ∷ [] })) (false ∷ true ∷ [])
-        ≡ codes "99999 drop LC limit 18A6C00000010080\n" ∷ codes "99999 drop LC full 18A6C00000010080\n" ∷ [] }
-    ensures telemetry { map (λ full. drop_line 99999 (record { pipe = PipeName.LcTlm; full = full; packet = 8 ∷ 0x8A ∷ 0xC0 ∷ 0 ∷ 0 ∷ 0x0E ∷ 1 ∷ 2 ∷ 3 ∷ 4 ∷ 0 ∷ 0 ∷ 8 ∷ 0xFE ∷ 0xDC ∷ 0xBA ∷ 0x98 ∷ 0x89 ∷ 0xAB ∷ 0xCD ∷ 0xEF ∷ [] })) (false ∷ true ∷ [])
-        ≡ codes "99999 drop LC.TLM limit 088AC000000E01020304000008FEDCBA9889ABCDEF\n" ∷ codes "99999 drop LC.TLM full 088AC000000E01020304000008FEDCBA9889ABCDEF\n" ∷ [] }
+    ensures hs { map (λ full. drop_line 99999 (record {
+      pipe = PipeName.Hs;
+      full = full;
+      packet = 0x18
+          ∷ 0xAE ∷ 0xC0 ∷ 0 ∷ 0 ∷ 1 ∷ 0 ∷ 0x88 ∷ [];
+    })) (false ∷ true ∷ [])
+        ≡ codes "99999 drop HS limit 18AEC00000010088\n"
+        ∷ codes "99999 drop HS full 18AEC00000010088\n" ∷ [] }
+    ensures events { map (λ full. drop_line 99999 (record {
+      pipe = PipeName.HsEv;
+      full = full;
+      packet = 8
+          ∷ 8 ∷ 0xC0 ∷ 0 ∷ 0 ∷ 0x25 ∷ 1 ∷ 2 ∷ 3 ∷ 4 ∷ 0 ∷ 0 ∷ 0x48 ∷ 0x53 ∷ 0 ∷ 0 ∷ 0 ∷ 0 ∷ 0 ∷ 0 ∷ 0
+          ∷ 0 ∷ 0 ∷ 0 ∷ 0 ∷ 0 ∷ 0 ∷ 0 ∷ 0 ∷ 0 ∷ 0 ∷ 0 ∷ 1 ∷ 2 ∷ 0 ∷ 3 ∷ 0 ∷ 0 ∷ 0 ∷ 0x42 ∷ 0 ∷ 0 ∷ 0
+          ∷ 1 ∷ [];
+    })) (false ∷ true ∷ [])
+        ≡ codes "99999 drop HS.EV limit 0808C00000250102030400004853000000000000000000000000000000000000010200030000004200000001\n"
+        ∷ codes "99999 drop HS.EV full 0808C00000250102030400004853000000000000000000000000000000000000010200030000004200000001\n"
+        ∷ [] }
+    ensures cs { map (λ full. drop_line 99999 (record {
+      pipe = PipeName.Cs;
+      full = full;
+      packet = 0x18
+          ∷ 0x9F ∷ 0xC0 ∷ 0 ∷ 0 ∷ 1 ∷ 0 ∷ 0xB9 ∷ [];
+    })) (false ∷ true ∷ [])
+        ≡ codes "99999 drop CS limit 189FC000000100B9\n"
+        ∷ codes "99999 drop CS full 189FC000000100B9\n" ∷ [] }
+    ensures sc { map (λ full. drop_line 99999 (record {
+      pipe = PipeName.Sc;
+      full = full;
+      packet = 0x18
+          ∷ 0xA9 ∷ 0xC0 ∷ 0 ∷ 0 ∷ 1 ∷ 0 ∷ 0x8F ∷ [];
+    })) (false ∷ true ∷ [])
+        ≡ codes "99999 drop SC limit 18A9C0000001008F\n"
+        ∷ codes "99999 drop SC full 18A9C0000001008F\n" ∷ [] }
+    ensures mm { map (λ full. drop_line 99999 (record {
+      pipe = PipeName.Mm;
+      full = full;
+      packet = 0x18
+          ∷ 0x88 ∷ 0xC0 ∷ 0 ∷ 0 ∷ 1 ∷ 0 ∷ 0xAE ∷ [];
+    })) (false ∷ true ∷ [])
+        ≡ codes "99999 drop MM limit 1888C000000100AE\n"
+        ∷ codes "99999 drop MM full 1888C000000100AE\n" ∷ [] }
+    ensures md { map (λ full. drop_line 99999 (record {
+      pipe = PipeName.Md;
+      full = full;
+      packet = 0x18
+          ∷ 0x90 ∷ 0xC0 ∷ 0 ∷ 0 ∷ 1 ∷ 0 ∷ 0xB6 ∷ [];
+    })) (false ∷ true ∷ [])
+        ≡ codes "99999 drop MD limit 1890C000000100B6\n"
+        ∷ codes "99999 drop MD full 1890C000000100B6\n" ∷ [] }
+    ensures lc { map (λ full. drop_line 99999 (record {
+      pipe = PipeName.Lc;
+      full = full;
+      packet = 0x18
+          ∷ 0xA6 ∷ 0xC0 ∷ 0 ∷ 0 ∷ 1 ∷ 0 ∷ 0x80 ∷ [];
+    })) (false ∷ true ∷ [])
+        ≡ codes "99999 drop LC limit 18A6C00000010080\n"
+        ∷ codes "99999 drop LC full 18A6C00000010080\n" ∷ [] }
+    ensures telemetry { map (λ full. drop_line 99999 (record {
+      pipe = PipeName.LcTlm;
+      full = full;
+      packet = 8
+          ∷ 0x8A ∷ 0xC0 ∷ 0 ∷ 0 ∷ 0x0E ∷ 1 ∷ 2 ∷ 3 ∷ 4 ∷ 0 ∷ 0 ∷ 8 ∷ 0xFE ∷ 0xDC ∷ 0xBA ∷ 0x98 ∷ 0x89
+          ∷ 0xAB ∷ 0xCD ∷ 0xEF ∷ [];
+    })) (false ∷ true ∷ [])
+        ≡ codes "99999 drop LC.TLM limit 088AC000000E01020304000008FEDCBA9889ABCDEF\n"
+        ∷ codes "99999 drop LC.TLM full 088AC000000E01020304000008FEDCBA9889ABCDEF\n" ∷ [] }
 {}
 
 /// The line of each request, names of one byte and of 19; and the line of a packet that was made and of one that was stored.
 pub fn request_rows()
-    ensures reset { map (λ frame. request_line frame outs.Reset) (0 ∷ 99999 ∷ []) ≡ codes "0 reset\n" ∷ codes "99999 reset\n" ∷ [] }
-    ensures restart { request_line 10 (outs.Restart (name_of (codes "A"))) ≡ codes "10 restart A\n" }
-    ensures delete { request_line 256 (outs.Delete (name_of (codes "Abcdefghijklmnopq_9"))) ≡ codes "256 delete Abcdefghijklmnopq_9\n" }
-    ensures items { map (item_line 7) (outs.Made (0xFE ∷ 0xDC ∷ 0 ∷ 9 ∷ []) ∷ outs.Stored (0xAB ∷ []) ∷ outs.Reset ∷ outs.Restart (name_of (codes "L")) ∷ outs.Delete (name_of (codes "L")) ∷ [])
-        ≡ codes "7 pkt FEDC0009\n" ∷ codes "7 pkt AB\n" ∷ codes "7 reset\n" ∷ codes "7 restart L\n" ∷ codes "7 delete L\n" ∷ [] }
+    ensures reset { map (λ frame. request_line frame outs.Reset) (0 ∷ 99999 ∷ [])
+        ≡ codes "0 reset\n" ∷ codes "99999 reset\n" ∷ [] }
+    ensures restart { request_line 10 (outs.Restart (name_of (codes "A")))
+        ≡ codes "10 restart A\n" }
+    ensures delete { request_line 256 (outs.Delete (name_of (codes "Abcdefghijklmnopq_9")))
+        ≡ codes "256 delete Abcdefghijklmnopq_9\n" }
+    ensures items { map (item_line 7) (outs.Made (0xFE ∷ 0xDC ∷ 0 ∷ 9 ∷ [])
+        ∷ outs.Stored (0xAB ∷ []) ∷ outs.Reset ∷ outs.Restart (name_of (codes "L"))
+        ∷ outs.Delete (name_of (codes "L")) ∷ [])
+        ≡ codes "7 pkt FEDC0009\n" ∷ codes "7 pkt AB\n" ∷ codes "7 reset\n" ∷ codes "7 restart L\n"
+        ∷ codes "7 delete L\n" ∷ [] }
 {}
 
 /// Two summaries, byte by byte: of numbers that are written out, and of nine bytes.

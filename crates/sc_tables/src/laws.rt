@@ -70,10 +70,17 @@ pub fn relative_reason_rows()
 
 /// Commands of an absolute sequence whose times and numbers differ in their high bytes; and the first, second and last of a relative one.
 pub fn order_rows()
-    ensures times { ats_of ((1 ∷ 2 ∷ 2 ∷ 0 ∷ 0 ∷ 1 ∷ eight_bytes) ++ (3 ∷ 1 ∷ 1 ∷ 0 ∷ 0 ∷ 2 ∷ nine_bytes) ++ (2 ∷ 3 ∷ 2 ∷ 0 ∷ 0 ∷ 1 ∷ nine_bytes) ++ (1 ∷ 4 ∷ 1 ∷ 0xFF ∷ 0 ∷ 0 ∷ eight_bytes))
-        ≡ record { number = 0x0301; tag = 0x01000002; packet = nine_bytes } ∷ record { number = 0x0104; tag = 0x01FF0000; packet = eight_bytes }
-        ∷ record { number = 0x0102; tag = 0x02000001; packet = eight_bytes } ∷ record { number = 0x0203; tag = 0x02000001; packet = nine_bytes } ∷ [] }
-    ensures twice { map (λ n. ats_fault_of (numbered 1 2 ++ numbered n 2)) (2 ∷ 1 ∷ []) ≡ None ∷ Some (record { entry = 2; reason = 2 }) ∷ [] }
-    ensures relative { rts_of ((0xFE ∷ 0xDC ∷ nine_bytes) ++ (0xBA ∷ 0x98 ∷ eight_bytes) ++ (1 ∷ 0 ∷ long_bytes 250))
-        ≡ record { tag = 0xFEDC; packet = nine_bytes } ∷ record { tag = 0xBA98; packet = eight_bytes } ∷ record { tag = 0x0100; packet = long_bytes 250 } ∷ [] }
+    ensures times { ats_of ((1 ∷ 2 ∷ 2 ∷ 0 ∷ 0 ∷ 1 ∷ eight_bytes)
+        ++ (3 ∷ 1 ∷ 1 ∷ 0 ∷ 0 ∷ 2 ∷ nine_bytes) ++ (2 ∷ 3 ∷ 2 ∷ 0 ∷ 0 ∷ 1 ∷ nine_bytes)
+        ++ (1 ∷ 4 ∷ 1 ∷ 0xFF ∷ 0 ∷ 0 ∷ eight_bytes))
+        ≡ record { number = 0x0301; tag = 0x01000002; packet = nine_bytes }
+        ∷ record { number = 0x0104; tag = 0x01FF0000; packet = eight_bytes }
+        ∷ record { number = 0x0102; tag = 0x02000001; packet = eight_bytes }
+        ∷ record { number = 0x0203; tag = 0x02000001; packet = nine_bytes } ∷ [] }
+    ensures twice { map (λ n. ats_fault_of (numbered 1 2 ++ numbered n 2)) (2 ∷ 1 ∷ []) ≡ None
+        ∷ Some (record { entry = 2; reason = 2 }) ∷ [] }
+    ensures relative { rts_of ((0xFE ∷ 0xDC ∷ nine_bytes) ++ (0xBA ∷ 0x98 ∷ eight_bytes)
+        ++ (1 ∷ 0 ∷ long_bytes 250))
+        ≡ record { tag = 0xFEDC; packet = nine_bytes } ∷ record { tag = 0xBA98; packet = eight_bytes }
+        ∷ record { tag = 0x0100; packet = long_bytes 250 } ∷ [] }
 {}
