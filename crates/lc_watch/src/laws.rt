@@ -206,10 +206,14 @@ pub fn housekeeping_rows()
 
 /// Each code with the shortest and the longest payload of its commands; and the numbers of operators and of words.
 pub fn length_rows()
-    ensures codes { numbers_of_rows lc_codes ≡ (0 ∷ 0 ∷ 0 ∷ []) ∷ (1 ∷ 0 ∷ 0 ∷ []) ∷ (2 ∷ 2 ∷ 2 ∷ []) ∷ (3 ∷ 2 ∷ 2 ∷ []) ∷ [] }
-    ensures operators { map watchpoints.operator_of (0 ∷ 1 ∷ 2 ∷ 3 ∷ 4 ∷ 5 ∷ 6 ∷ 7 ∷ 0x0101 ∷ 0x0106 ∷ 0xFFFF ∷ [])
-        ≡ None ∷ Some Less ∷ Some LessOrEqual ∷ Some NotEqual ∷ Some Equal ∷ Some GreaterOrEqual ∷ Some Greater ∷ replicate 4 None }
-    ensures words { map word_of (0 ∷ 31 ∷ 0x8001 ∷ 0x8002 ∷ 0x8003 ∷ 0x8004 ∷ 32 ∷ 0x0100 ∷ 0x7FFF ∷ 0x8000 ∷ 0x8005 ∷ 0x8101 ∷ 0xFFFF ∷ [])
+    ensures codes { numbers_of_rows lc_codes ≡ (0 ∷ 0 ∷ 0 ∷ []) ∷ (1 ∷ 0 ∷ 0 ∷ [])
+        ∷ (2 ∷ 2 ∷ 2 ∷ []) ∷ (3 ∷ 2 ∷ 2 ∷ []) ∷ [] }
+    ensures operators { map watchpoints.operator_of (0 ∷ 1 ∷ 2 ∷ 3 ∷ 4 ∷ 5 ∷ 6 ∷ 7 ∷ 0x0101 ∷ 0x0106
+        ∷ 0xFFFF ∷ [])
+        ≡ None ∷ Some Less ∷ Some LessOrEqual ∷ Some NotEqual ∷ Some Equal ∷ Some GreaterOrEqual
+        ∷ Some Greater ∷ replicate 4 None }
+    ensures words { map word_of (0 ∷ 31 ∷ 0x8001 ∷ 0x8002 ∷ 0x8003 ∷ 0x8004 ∷ 32 ∷ 0x0100 ∷ 0x7FFF
+        ∷ 0x8000 ∷ 0x8005 ∷ 0x8101 ∷ 0xFFFF ∷ [])
         ≡ Watch 0 ∷ Watch 31 ∷ And ∷ Or ∷ Xor ∷ Not ∷ replicate 7 Unknown }
 {}
 
@@ -221,34 +225,60 @@ pub fn number_rows()
         ∷ numbered 2 0x91 0 0x11
         ∷ numbered 2 0x80 1 1
         ∷ numbered 2 0x91 1 0x10 ∷ [])
-        ≡ Accepted 2 (Switch 1 true) ∷ Accepted 2 (Switch 16 true) ∷ Refused 5 ∷ Refused 4 ∷ Refused 4 ∷ Refused 4 ∷ [] }
+        ≡ Accepted 2 (Switch 1 true) ∷ Accepted 2 (Switch 16 true) ∷ Refused 5 ∷ Refused 4
+        ∷ Refused 4 ∷ Refused 4 ∷ [] }
     ensures passive { map (verdict_at lc_protocol both_ends []) (numbered 3 0x80 0 1
         ∷ numbered 3 0x91 0 0x10
         ∷ numbered 3 0x8E 0 0x0F
         ∷ numbered 3 0x81 0 0
         ∷ numbered 3 0x81 1 1
         ∷ numbered 3 0x90 1 0x10 ∷ [])
-        ≡ Accepted 3 (Switch 1 false) ∷ Accepted 3 (Switch 16 false) ∷ Refused 5 ∷ Refused 4 ∷ Refused 4 ∷ Refused 4 ∷ [] }
-    ensures failures { map (are_failing 0x0102) (replicate 258 true ∷ replicate 257 true ∷ (false ∷ replicate 2 true) ∷ []) ≡ true ∷ false ∷ false ∷ [] }
+        ≡ Accepted 3 (Switch 1 false) ∷ Accepted 3 (Switch 16 false) ∷ Refused 5 ∷ Refused 4
+        ∷ Refused 4 ∷ Refused 4 ∷ [] }
+    ensures failures { map (are_failing 0x0102) (replicate 258 true ∷ replicate 257 true
+        ∷ (false ∷ replicate 2 true) ∷ []) ≡ true ∷ false ∷ false ∷ [] }
 {}
 
 /// Values, masks and limits with all their bytes, offsets over 255, and an id of which the high byte alone differs.
 pub fn value_rows()
     ensures whole { reading (watch_row 3 12 Equal 0xFFFFFFFF 0x89ABCDEF) four_bytes ≡ Tripped }
-    ensures parts { map (λ limit. reading (watch_row 3 12 NotEqual 0xFFFFFFFF limit) four_bytes) (0x88ABCDEF ∷ 0x89AACDEF ∷ 0x89ABCCEF ∷ 0x89ABCDEE ∷ [])
+    ensures parts { map (λ limit. reading (watch_row 3 12 NotEqual 0xFFFFFFFF limit) four_bytes)
+        (0x88ABCDEF
+        ∷ 0x89AACDEF ∷ 0x89ABCCEF ∷ 0x89ABCDEE ∷ [])
         ≡ replicate 4 Tripped }
-    ensures masks { map (λ mask. reading (watch_row 3 12 Equal mask (0x89000000)) four_bytes) (0xFF000000 ∷ 0xFF0000FF ∷ 0xFE000000 ∷ []) ≡ Tripped ∷ Clear ∷ Clear ∷ [] }
-    ensures middle { map (λ offset. reading (watch_row 2 offset Equal 0xFFFF 0xABCD) four_bytes) (12 ∷ 13 ∷ 14 ∷ 15 ∷ []) ≡ Clear ∷ Tripped ∷ Clear ∷ Outside ∷ [] }
-    ensures far { map (λ offset. reading (watch_row 1 offset Equal 0xFFFFFFFF 0xF7) longest) (255 ∷ 256 ∷ 0x01FF ∷ []) ≡ Tripped ∷ Outside ∷ Outside ∷ [] }
+    ensures masks { map (λ mask. reading (watch_row 3 12 Equal mask (0x89000000)) four_bytes)
+        (0xFF000000
+        ∷ 0xFF0000FF ∷ 0xFE000000 ∷ []) ≡ Tripped ∷ Clear ∷ Clear ∷ [] }
+    ensures middle { map (λ offset. reading (watch_row 2 offset Equal 0xFFFF 0xABCD) four_bytes) (12
+        ∷ 13 ∷ 14 ∷ 15 ∷ []) ≡ Clear ∷ Tripped ∷ Clear ∷ Outside ∷ [] }
+    ensures far { map (λ offset. reading (watch_row 1 offset Equal 0xFFFFFFFF 0xF7) longest) (255
+        ∷ 256 ∷ 0x01FF ∷ []) ≡ Tripped ∷ Outside ∷ Outside ∷ [] }
     ensures past { reading (watch_row 1 0x0114 Greater 0xFFFFFFFF 5) (peek 9) ≡ Outside }
-    ensures other_id { outcome_of (watch_row 1 20 Greater 0xFFFFFFFF 5) (slice_set (peek 9) 0 9 ∷ []) ≡ Unseen }
+    ensures other_id { outcome_of (watch_row 1 20 Greater 0xFFFFFFFF 5) (slice_set (peek 9) 0 9
+        ∷ []) ≡ Unseen }
 {}
 
 /// The last entries of both tables, and what an actionpoint in the first place and one in the last do on the last watchpoint.
 pub fn place_rows()
-    ensures last_row { actionpoints.row_at (replicate 600 0 ++ (0 ∷ 1 ∷ 0 ∷ 0x40 ∷ 1 ∷ 2 ∷ 0 ∷ 1 ∷ 0 ∷ 0x1F ∷ 0x80 ∷ 5 ∷ 0 ∷ 0 ∷ 0 ∷ 0 ∷ 0 ∷ 0 ∷ 0 ∷ 0 ∷ 0 ∷ 0 ∷ 0 ∷ 0 ∷ 0 ∷ 0 ∷ 0 ∷ 0 ∷ 0 ∷ 0 ∷ 0 ∷ 0 ∷ 0 ∷ 0 ∷ 0 ∷ 0 ∷ 0 ∷ 0 ∷ 0 ∷ 0 ∷ [])) 15
-        ≡ record { state = 1; rts = 64; failures = 0x0102; size = 1; words = Watch 31 ∷ Unknown ∷ replicate 14 (Watch 0) } }
-    ensures fires { sent_along ends_watched ((record { time = 0x01020304; commands = []; seen = peek 9 ∷ [] }) ∷ [])
-        ≡ (outs.Stored (0x18 ∷ 0xA9 ∷ 0xC0 ∷ 0 ∷ 0 ∷ 3 ∷ 4 ∷ 0x88 ∷ 0 ∷ 1 ∷ []) ∷ outs.Made late_event
-        ∷ outs.Stored (0x18 ∷ 0xA9 ∷ 0xC0 ∷ 0 ∷ 0 ∷ 3 ∷ 4 ∷ 0xC9 ∷ 0 ∷ 0x40 ∷ []) ∷ outs.Made late_event ∷ []) ∷ [] }
+    ensures last_row { actionpoints.row_at (replicate 600 0
+        ++ (0 ∷ 1 ∷ 0 ∷ 0x40 ∷ 1 ∷ 2 ∷ 0 ∷ 1 ∷ 0 ∷ 0x1F ∷ 0x80 ∷ 5 ∷ 0 ∷ 0 ∷ 0 ∷ 0 ∷ 0 ∷ 0 ∷ 0 ∷ 0
+        ∷ 0 ∷ 0 ∷ 0 ∷ 0 ∷ 0 ∷ 0 ∷ 0 ∷ 0 ∷ 0 ∷ 0 ∷ 0 ∷ 0 ∷ 0 ∷ 0 ∷ 0 ∷ 0 ∷ 0 ∷ 0 ∷ 0 ∷ 0 ∷ [])) 15
+        ≡ record {
+          state = 1;
+          rts = 64;
+          failures = 0x0102;
+          size = 1;
+          words = Watch 31 ∷ Unknown
+              ∷ replicate 14 (Watch 0);
+        } }
+    ensures fires { sent_along ends_watched ((record {
+      time = 0x01020304;
+      commands = [];
+      seen = peek 9
+          ∷ [];
+    }) ∷ [])
+        ≡ (outs.Stored (0x18 ∷ 0xA9 ∷ 0xC0 ∷ 0 ∷ 0 ∷ 3 ∷ 4 ∷ 0x88 ∷ 0 ∷ 1 ∷ [])
+        ∷ outs.Made late_event
+        ∷ outs.Stored (0x18 ∷ 0xA9 ∷ 0xC0 ∷ 0 ∷ 0 ∷ 3 ∷ 4 ∷ 0xC9 ∷ 0 ∷ 0x40 ∷ [])
+        ∷ outs.Made late_event ∷ []) ∷ [] }
 {}

@@ -242,7 +242,8 @@ pub fn sequences_stay_in_order()
 /// Each code with the shortest and the longest payload of its commands.
 pub fn length_rows()
     ensures codes { numbers_of_rows sc_codes
-        ≡ (0 ∷ 0 ∷ 0 ∷ []) ∷ (1 ∷ 0 ∷ 0 ∷ []) ∷ (2 ∷ 2 ∷ 2 ∷ []) ∷ (3 ∷ 0 ∷ 0 ∷ []) ∷ (4 ∷ 2 ∷ 2 ∷ []) ∷ (5 ∷ 2 ∷ 2 ∷ [])
+        ≡ (0 ∷ 0 ∷ 0 ∷ []) ∷ (1 ∷ 0 ∷ 0 ∷ []) ∷ (2 ∷ 2 ∷ 2 ∷ []) ∷ (3 ∷ 0 ∷ 0 ∷ [])
+        ∷ (4 ∷ 2 ∷ 2 ∷ []) ∷ (5 ∷ 2 ∷ 2 ∷ [])
         ∷ (6 ∷ 2 ∷ 2 ∷ []) ∷ (7 ∷ 2 ∷ 2 ∷ []) ∷ (8 ∷ 0 ∷ 0 ∷ []) ∷ (9 ∷ 4 ∷ 4 ∷ []) ∷ [] }
 {}
 
@@ -262,31 +263,39 @@ pub fn number_rows()
     ensures ats { map (verdict_at sc_protocol at_any []) (numbered_wide 2 0x8E 0 1
         ∷ numbered_wide 2 0x8D 0 2 ∷ []) ≡ Accepted 2 (StartAts 1) ∷ Accepted 2 (StartAts 2) ∷ [] }
     ensures start { map (verdict_at sc_protocol at_any []) (numbered_wide 4 0x88 0 1
-        ∷ numbered_wide 4 0xC9 0 0x40 ∷ []) ≡ Accepted 4 (StartRts 1) ∷ Accepted 4 (StartRts 64) ∷ [] }
+        ∷ numbered_wide 4 0xC9 0 0x40 ∷ []) ≡ Accepted 4 (StartRts 1) ∷ Accepted 4 (StartRts 64)
+        ∷ [] }
     ensures stop { map (verdict_at sc_protocol at_any []) (numbered_wide 5 0x89 0 1
-        ∷ numbered_wide 5 0xC8 0 0x40 ∷ []) ≡ Accepted 5 (StopRts 1) ∷ Accepted 5 (StopRts 64) ∷ [] }
+        ∷ numbered_wide 5 0xC8 0 0x40 ∷ []) ≡ Accepted 5 (StopRts 1) ∷ Accepted 5 (StopRts 64)
+        ∷ [] }
     ensures disable { map (verdict_at sc_protocol at_any []) (numbered_wide 6 0x8A 0 1
-        ∷ numbered_wide 6 0xCB 0 0x40 ∷ []) ≡ Accepted 6 (DisableRts 1) ∷ Accepted 6 (DisableRts 64) ∷ [] }
+        ∷ numbered_wide 6 0xCB 0 0x40 ∷ []) ≡ Accepted 6 (DisableRts 1) ∷ Accepted 6 (DisableRts 64)
+        ∷ [] }
     ensures enable { map (verdict_at sc_protocol at_any []) (numbered_wide 7 0x8B 0 1
-        ∷ numbered_wide 7 0xCA 0 0x40 ∷ []) ≡ Accepted 7 (EnableRts 1) ∷ Accepted 7 (EnableRts 64) ∷ [] }
+        ∷ numbered_wide 7 0xCA 0 0x40 ∷ []) ≡ Accepted 7 (EnableRts 1) ∷ Accepted 7 (EnableRts 64)
+        ∷ [] }
 {}
 
 /// Times over 2^24: a command leaves at its own time and not at one that has the low bytes of it; and the last relative sequence.
 pub fn time_rows()
-    ensures late { sent_behind (begun_at 0x01020300 (with_ats 1 (timed 0x01020304 mm_noop ∷ timed 0x02020304 md_noop ∷ []) no_tables)) []
+    ensures late { sent_behind (begun_at 0x01020300 (with_ats 1 (timed 0x01020304 mm_noop
+        ∷ timed 0x02020304 md_noop ∷ []) no_tables)) []
         (input_of 0x01020300 (numbered 2 0x8D 2 ∷ []) ∷ input_of 0x01020304 [] ∷ [])
         ≡ (told_late 18 0 ∷ []) ∷ (Stored mm_noop ∷ []) ∷ [] }
-    ensures ends { sent_behind (begun_at 0x01020300 (with_ats 0 (timed 0x00020305 mm_noop ∷ timed 0x01020305 md_noop ∷ []) no_tables)) []
+    ensures ends { sent_behind (begun_at 0x01020300 (with_ats 0 (timed 0x00020305 mm_noop
+        ∷ timed 0x01020305 md_noop ∷ []) no_tables)) []
         (input_of 0x01020300 (numbered 2 0x8E 1 ∷ []) ∷ input_of 0x01020305 [] ∷ [])
         ≡ (told_late 18 0 ∷ []) ∷ (Stored md_noop ∷ told_late 103 5 ∷ []) ∷ [] }
-    ensures last { sent_each_second (with_rts 64 (timed 0 md_noop ∷ timed 256 cs_noop ∷ []) no_tables) ((numbered 7 0xCA 0x40 ∷ numbered 4 0xC9 0x40 ∷ []) ∷ [] ∷ [])
+    ensures last { sent_each_second (with_rts 64 (timed 0 md_noop ∷ timed 256 cs_noop
+        ∷ []) no_tables) ((numbered 7 0xCA 0x40 ∷ numbered 4 0xC9 0x40 ∷ []) ∷ [] ∷ [])
         ≡ (told 23 2 0 ∷ told 20 2 0 ∷ Stored md_noop ∷ []) ∷ [] ∷ [] }
 {}
 
 /// What is shown: commands sent and commands with a wrong checksum, which differ, which a reset of the counts keeps, and of which the low 16
 /// bits are shown.
 pub fn shown_rows()
-    ensures sent { sent_each_second (with_ats 0 (timed 1000 mm_noop ∷ timed 1000 md_noop ∷ timed 1001 bad_noop ∷ timed 1005 cs_noop ∷ []) no_tables)
+    ensures sent { sent_each_second (with_ats 0 (timed 1000 mm_noop ∷ timed 1000 md_noop
+        ∷ timed 1001 bad_noop ∷ timed 1005 cs_noop ∷ []) no_tables)
         ((numbered 2 0x8E 1 ∷ []) ∷ [] ∷ (request ∷ bare 1 0x8E ∷ request ∷ []) ∷ [])
         ≡ (told 18 2 0 ∷ Stored mm_noop ∷ Stored md_noop ∷ []) ∷ (told 101 3 1 ∷ [])
         ∷ (shown 2 1 0 1 1 2 1 ∷ told 17 2 2 ∷ shown 2 0 0 1 1 2 1 ∷ []) ∷ [] }
