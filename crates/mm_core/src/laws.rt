@@ -97,37 +97,49 @@ pub fn load_rows()
 /// Each code with the shortest and the longest payload of its commands; and loads of 1 and of 200 bytes, of none and of 201.
 pub fn length_rows()
     ensures codes { numbers_of_rows mm_codes
-        ≡ (0 ∷ 0 ∷ 0 ∷ []) ∷ (1 ∷ 0 ∷ 0 ∷ []) ∷ (2 ∷ 5 ∷ 5 ∷ []) ∷ (3 ∷ 9 ∷ 9 ∷ []) ∷ (4 ∷ 7 ∷ 206 ∷ []) ∷ (5 ∷ 2 ∷ 2 ∷ [])
+        ≡ (0 ∷ 0 ∷ 0 ∷ []) ∷ (1 ∷ 0 ∷ 0 ∷ []) ∷ (2 ∷ 5 ∷ 5 ∷ []) ∷ (3 ∷ 9 ∷ 9 ∷ [])
+        ∷ (4 ∷ 7 ∷ 206 ∷ []) ∷ (5 ∷ 2 ∷ 2 ∷ [])
         ∷ (8 ∷ 9 ∷ 9 ∷ []) ∷ (11 ∷ 1 ∷ 1 ∷ []) ∷ (12 ∷ 1 ∷ 1 ∷ []) ∷ (13 ∷ 8 ∷ 8 ∷ []) ∷ [] }
-    ensures one { verdict_at mm_protocol seen_wide [] (load_with 8 0xBC 0x7B 0xC0 1) ≡ Accepted 4 (Load 0xFEDCBA99 0x7BC0 (0xA5 ∷ [])) }
-    ensures most { verdict_at mm_protocol seen_wide [] (load_with 0xCF 0x50 0x8F 0xBA 200) ≡ Accepted 4 (Load 0xFEDCBA99 0x8FBA (replicate 200 0xA5)) }
-    ensures past { map (verdict_at mm_protocol seen_wide []) ((load_with 7 0xAD 0 0 0) ∷ (load_with 0xD0 0xD9 0xC8 0xCE 201) ∷ []) ≡ Refused 3 ∷ Refused 3 ∷ [] }
+    ensures one { verdict_at mm_protocol seen_wide [] (load_with 8 0xBC 0x7B 0xC0 1)
+        ≡ Accepted 4 (Load 0xFEDCBA99 0x7BC0 (0xA5 ∷ [])) }
+    ensures most { verdict_at mm_protocol seen_wide [] (load_with 0xCF 0x50 0x8F 0xBA 200)
+        ≡ Accepted 4 (Load 0xFEDCBA99 0x8FBA (replicate 200 0xA5)) }
+    ensures past { map (verdict_at mm_protocol seen_wide []) ((load_with 7 0xAD 0 0 0)
+        ∷ (load_with 0xD0 0xD9 0xC8 0xCE 201) ∷ []) ≡ Refused 3 ∷ Refused 3 ∷ [] }
 {}
 
 /// Addresses over 0xFFFF, and the lengths of fills and dumps: the most, one more, and lengths that differ in their high bytes alone.
 pub fn address_rows()
-    ensures fills { map (verdict_at mm_protocol seen_wide []) (fill_with 8 (0xFE ∷ 0xDC ∷ 0xBA ∷ 0x99 ∷ 0 ∷ 1 ∷ 0 ∷ 0 ∷ [])
+    ensures fills { map (verdict_at mm_protocol seen_wide []) (fill_with 8 (0xFE ∷ 0xDC ∷ 0xBA
+        ∷ 0x99 ∷ 0 ∷ 1 ∷ 0 ∷ 0 ∷ [])
         ∷ fill_with 0x6F (0xFE ∷ 0xDC ∷ 0xBA ∷ 0x99 ∷ 0 ∷ 0 ∷ 0xAB ∷ 0xCD ∷ [])
         ∷ fill_with 9 (0xFE ∷ 0xDC ∷ 0xBA ∷ 0x99 ∷ 0 ∷ 1 ∷ 0 ∷ 1 ∷ [])
         ∷ fill_with 9 (0xFE ∷ 0xDC ∷ 0xBA ∷ 0x99 ∷ 1 ∷ 0 ∷ 0 ∷ 1 ∷ []) ∷ [])
-        ≡ Accepted 8 (Fill 0xFEDCBA99 0x10000 0xA5) ∷ Accepted 8 (Fill 0xFEDCBA99 0xABCD 0xA5) ∷ Refused 9 ∷ Refused 9 ∷ [] }
-    ensures dumps { map (verdict_at mm_protocol seen_wide []) (dump_with 0xA2 (0xFE ∷ 0xDC ∷ 0xBA ∷ 0x99 ∷ 0 ∷ 0 ∷ 8 ∷ 0 ∷ [])
+        ≡ Accepted 8 (Fill 0xFEDCBA99 0x10000 0xA5) ∷ Accepted 8 (Fill 0xFEDCBA99 0xABCD 0xA5)
+        ∷ Refused 9 ∷ Refused 9 ∷ [] }
+    ensures dumps { map (verdict_at mm_protocol seen_wide []) (dump_with 0xA2 (0xFE ∷ 0xDC ∷ 0xBA
+        ∷ 0x99 ∷ 0 ∷ 0 ∷ 8 ∷ 0 ∷ [])
         ∷ dump_with 0xA9 (0xFE ∷ 0xDC ∷ 0xBA ∷ 0x99 ∷ 0 ∷ 0 ∷ 1 ∷ 2 ∷ [])
         ∷ dump_with 0xAA (0xFE ∷ 0xDC ∷ 0xBA ∷ 0x99 ∷ 0 ∷ 1 ∷ 0 ∷ 1 ∷ [])
         ∷ dump_with 0xAA (0xFE ∷ 0xDC ∷ 0xBA ∷ 0x99 ∷ 1 ∷ 0 ∷ 0 ∷ 1 ∷ []) ∷ [])
-        ≡ Accepted 13 (Dump 0xFEDCBA99 0x0800) ∷ Accepted 13 (Dump 0xFEDCBA99 0x0102) ∷ Refused 9 ∷ Refused 9 ∷ [] }
-    ensures peeks { map (verdict_at mm_protocol seen_wide []) (peek_with 0x81 (0xFE ∷ 0xDC ∷ 0 ∷ 0 ∷ [])
+        ≡ Accepted 13 (Dump 0xFEDCBA99 0x0800) ∷ Accepted 13 (Dump 0xFEDCBA99 0x0102) ∷ Refused 9
+        ∷ Refused 9 ∷ [] }
+    ensures peeks { map (verdict_at mm_protocol seen_wide []) (peek_with 0x81 (0xFE ∷ 0xDC ∷ 0 ∷ 0
+        ∷ [])
         ∷ peek_with 0x80 (0xFE ∷ 0xDD ∷ 0xFF ∷ 0xFF ∷ [])
         ∷ peek_with 0x86 (0xFE ∷ 0xDB ∷ 0xFF ∷ 0xFF ∷ [])
         ∷ peek_with 0x83 (0xFE ∷ 0xDE ∷ 0 ∷ 0 ∷ [])
         ∷ peek_with 0x81 (0 ∷ 0 ∷ 0xBA ∷ 0x98 ∷ []) ∷ [])
-        ≡ Accepted 2 (Peek 8 0xFEDC0000) ∷ Accepted 2 (Peek 8 0xFEDDFFFF) ∷ Refused 4 ∷ Refused 4 ∷ Refused 4 ∷ [] }
-    ensures high { map (verdict_at mm_protocol seen_three []) (peek_with 0xB2 (0 ∷ 1 ∷ 0x10 ∷ 0 ∷ [])
+        ≡ Accepted 2 (Peek 8 0xFEDC0000) ∷ Accepted 2 (Peek 8 0xFEDDFFFF) ∷ Refused 4 ∷ Refused 4
+        ∷ Refused 4 ∷ [] }
+    ensures high { map (verdict_at mm_protocol seen_three []) (peek_with 0xB2 (0 ∷ 1 ∷ 0x10 ∷ 0
+        ∷ [])
         ∷ peek_with 0xB2 (1 ∷ 0 ∷ 0x10 ∷ 0 ∷ [])
         ∷ peek_with 0xB3 (0 ∷ 0 ∷ 0x10 ∷ 0 ∷ []) ∷ [])
         ≡ Refused 4 ∷ Refused 4 ∷ Accepted 2 (Peek 8 0x1000) ∷ [] }
     ensures operations { mm_operations (record { time = 0x01020304; commands = wide_commands; seen = seen_wide })
-        ≡ ops.Poke 16 0xFEDCBA98 0xCDEF ∷ ops.Bytes 0xFEDCBA99 (0xD1 ∷ 0xD2 ∷ 0xD3 ∷ []) ∷ ops.Fill 0xFEDCBA99 0x0102 0xA5 ∷ [] }
+        ≡ ops.Poke 16 0xFEDCBA98 0xCDEF ∷ ops.Bytes 0xFEDCBA99 (0xD1 ∷ 0xD2 ∷ 0xD3 ∷ [])
+        ∷ ops.Fill 0xFEDCBA99 0x0102 0xA5 ∷ [] }
     ensures items { mm_items [] (record { time = 0x01020304; commands = wide_commands; seen = seen_wide })
         ≡ outs.Made (late_event 19) ∷ outs.Made (late_event 20) ∷ outs.Made (late_event 24) ∷ [] }
 {}
@@ -139,11 +151,13 @@ pub fn region_rows()
         ∷ region_with 0x0B 0xAE 8
         ∷ region_with 0x0B 0xAF 9
         ∷ region_with 0x0B 0x27 0x81 ∷ [])
-        ≡ Refused 12 ∷ Accepted 11 (Protect 1 false) ∷ Accepted 11 (Protect 8 false) ∷ Refused 12 ∷ Refused 12 ∷ [] }
+        ≡ Refused 12 ∷ Accepted 11 (Protect 1 false) ∷ Accepted 11 (Protect 8 false) ∷ Refused 12
+        ∷ Refused 12 ∷ [] }
     ensures disable { map (verdict_at mm_protocol seen_eight []) (region_with 0x0C 0xA1 0
         ∷ region_with 0x0C 0xA0 1
         ∷ region_with 0x0C 0xA9 8
         ∷ region_with 0x0C 0xA8 9
         ∷ region_with 0x0C 0x20 0x81 ∷ [])
-        ≡ Refused 12 ∷ Accepted 12 (Protect 1 true) ∷ Accepted 12 (Protect 8 true) ∷ Refused 12 ∷ Refused 12 ∷ [] }
+        ≡ Refused 12 ∷ Accepted 12 (Protect 1 true) ∷ Accepted 12 (Protect 8 true) ∷ Refused 12
+        ∷ Refused 12 ∷ [] }
 {}
