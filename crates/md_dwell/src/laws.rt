@@ -155,7 +155,8 @@ pub fn tables_are_exchanged()
 
 /// Each code with the shortest and the longest payload of its commands.
 pub fn length_rows()
-    ensures codes { numbers_of_rows md_codes ≡ (0 ∷ 0 ∷ 0 ∷ []) ∷ (1 ∷ 0 ∷ 0 ∷ []) ∷ (2 ∷ 2 ∷ 2 ∷ []) ∷ (3 ∷ 2 ∷ 2 ∷ []) ∷ (4 ∷ 12 ∷ 12 ∷ []) ∷ [] }
+    ensures codes { numbers_of_rows md_codes ≡ (0 ∷ 0 ∷ 0 ∷ []) ∷ (1 ∷ 0 ∷ 0 ∷ [])
+        ∷ (2 ∷ 2 ∷ 2 ∷ []) ∷ (3 ∷ 2 ∷ 2 ∷ []) ∷ (4 ∷ 12 ∷ 12 ∷ []) ∷ [] }
 {}
 
 /// Masks and numbers of which one byte alone is wrong, each mask of one table and that of all.
@@ -166,27 +167,37 @@ pub fn number_rows()
         ∷ masked 2 0xA6 0 0x10
         ∷ masked 2 0xB6 1 1
         ∷ masked 2 0xB7 1 0 ∷ [])
-        ≡ Accepted 2 (Start 1) ∷ Accepted 2 (Start 8) ∷ Accepted 2 (Start 15) ∷ Refused 4 ∷ Refused 4 ∷ Refused 4 ∷ [] }
+        ≡ Accepted 2 (Start 1) ∷ Accepted 2 (Start 8) ∷ Accepted 2 (Start 15) ∷ Refused 4
+        ∷ Refused 4 ∷ Refused 4 ∷ [] }
     ensures stops { map (verdict_at md_protocol far_bytes []) (masked 3 0xB6 0 1
         ∷ masked 3 0xBF 0 8
         ∷ masked 3 0xB8 0 0x0F
         ∷ masked 3 0xA7 0 0x10
         ∷ masked 3 0xB7 1 1
         ∷ masked 3 0xB6 1 0 ∷ [])
-        ≡ Accepted 3 (Stop 1) ∷ Accepted 3 (Stop 8) ∷ Accepted 3 (Stop 15) ∷ Refused 4 ∷ Refused 4 ∷ Refused 4 ∷ [] }
-    ensures jams { map (verdict_at md_protocol far_bytes []) (jammed 0x98 (0 ∷ 1 ∷ 0 ∷ 1 ∷ 0 ∷ 4 ∷ 0xFE ∷ 0xDC ∷ 0xFE ∷ 0xDC ∷ 0xBA ∷ 0x98 ∷ [])
+        ≡ Accepted 3 (Stop 1) ∷ Accepted 3 (Stop 8) ∷ Accepted 3 (Stop 15) ∷ Refused 4 ∷ Refused 4
+        ∷ Refused 4 ∷ [] }
+    ensures jams { map (verdict_at md_protocol far_bytes []) (jammed 0x98 (0 ∷ 1 ∷ 0 ∷ 1 ∷ 0 ∷ 4
+        ∷ 0xFE ∷ 0xDC ∷ 0xFE ∷ 0xDC ∷ 0xBA ∷ 0x98 ∷ [])
         ∷ jammed 0xA0 (0 ∷ 4 ∷ 0 ∷ 0x19 ∷ 0 ∷ 2 ∷ 1 ∷ 2 ∷ 0xFE ∷ 0xDC ∷ 0xBA ∷ 0x9A ∷ []) ∷ [])
         ≡ Accepted 4 (Jam 1 1 (record { len = 4; delay = 0xFEDC; at = 0xFEDCBA98 }))
         ∷ Accepted 4 (Jam 4 25 (record { len = 2; delay = 0x0102; at = 0xFEDCBA9A })) ∷ [] }
-    ensures tables { map (verdict_at md_protocol far_bytes []) (jammed 0xBA (0 ∷ 0 ∷ 0 ∷ 1 ∷ 0 ∷ 4 ∷ 0 ∷ 1 ∷ 0xFE ∷ 0xDC ∷ 0xBA ∷ 0x98 ∷ [])
-        ∷ jammed 0xBA (1 ∷ 1 ∷ 0 ∷ 1 ∷ 0 ∷ 4 ∷ 0 ∷ 1 ∷ 0xFE ∷ 0xDC ∷ 0xBA ∷ 0x98 ∷ []) ∷ []) ≡ Refused 4 ∷ Refused 4 ∷ [] }
-    ensures entries { map (verdict_at md_protocol far_bytes []) (jammed 0xBA (0 ∷ 1 ∷ 0 ∷ 0 ∷ 0 ∷ 4 ∷ 0 ∷ 1 ∷ 0xFE ∷ 0xDC ∷ 0xBA ∷ 0x98 ∷ [])
+    ensures tables { map (verdict_at md_protocol far_bytes []) (jammed 0xBA (0 ∷ 0 ∷ 0 ∷ 1 ∷ 0 ∷ 4
+        ∷ 0 ∷ 1 ∷ 0xFE ∷ 0xDC ∷ 0xBA ∷ 0x98 ∷ [])
+        ∷ jammed 0xBA (1 ∷ 1 ∷ 0 ∷ 1 ∷ 0 ∷ 4 ∷ 0 ∷ 1 ∷ 0xFE ∷ 0xDC ∷ 0xBA ∷ 0x98 ∷ []) ∷ [])
+        ≡ Refused 4 ∷ Refused 4 ∷ [] }
+    ensures entries { map (verdict_at md_protocol far_bytes []) (jammed 0xBA (0 ∷ 1 ∷ 0 ∷ 0 ∷ 0 ∷ 4
+        ∷ 0 ∷ 1 ∷ 0xFE ∷ 0xDC ∷ 0xBA ∷ 0x98 ∷ [])
         ∷ jammed 0xA0 (0 ∷ 1 ∷ 0 ∷ 0x1A ∷ 0 ∷ 4 ∷ 0 ∷ 1 ∷ 0xFE ∷ 0xDC ∷ 0xBA ∷ 0x98 ∷ [])
-        ∷ jammed 0xBA (0 ∷ 1 ∷ 1 ∷ 1 ∷ 0 ∷ 4 ∷ 0 ∷ 1 ∷ 0xFE ∷ 0xDC ∷ 0xBA ∷ 0x98 ∷ []) ∷ []) ≡ Refused 5 ∷ Refused 5 ∷ Refused 5 ∷ [] }
-    ensures lengths { map (verdict_at md_protocol far_bytes []) (jammed 0xBC (0 ∷ 1 ∷ 0 ∷ 1 ∷ 0 ∷ 3 ∷ 0 ∷ 1 ∷ 0xFE ∷ 0xDC ∷ 0xBA ∷ 0x98 ∷ [])
+        ∷ jammed 0xBA (0 ∷ 1 ∷ 1 ∷ 1 ∷ 0 ∷ 4 ∷ 0 ∷ 1 ∷ 0xFE ∷ 0xDC ∷ 0xBA ∷ 0x98 ∷ []) ∷ [])
+        ≡ Refused 5 ∷ Refused 5 ∷ Refused 5 ∷ [] }
+    ensures lengths { map (verdict_at md_protocol far_bytes []) (jammed 0xBC (0 ∷ 1 ∷ 0 ∷ 1 ∷ 0 ∷ 3
+        ∷ 0 ∷ 1 ∷ 0xFE ∷ 0xDC ∷ 0xBA ∷ 0x98 ∷ [])
         ∷ jammed 0xB7 (0 ∷ 1 ∷ 0 ∷ 1 ∷ 0 ∷ 8 ∷ 0 ∷ 1 ∷ 0xFE ∷ 0xDC ∷ 0xBA ∷ 0x98 ∷ [])
-        ∷ jammed 0xBA (0 ∷ 1 ∷ 0 ∷ 1 ∷ 1 ∷ 4 ∷ 0 ∷ 1 ∷ 0xFE ∷ 0xDC ∷ 0xBA ∷ 0x98 ∷ []) ∷ []) ≡ Refused 6 ∷ Refused 6 ∷ Refused 6 ∷ [] }
-    ensures addresses { map (verdict_at md_protocol (bytes_in_wakeup 0) []) (jammed 0xAD (0 ∷ 1 ∷ 0 ∷ 1 ∷ 0 ∷ 2 ∷ 0 ∷ 1 ∷ 0 ∷ 0 ∷ 0x10 ∷ 0 ∷ [])
+        ∷ jammed 0xBA (0 ∷ 1 ∷ 0 ∷ 1 ∷ 1 ∷ 4 ∷ 0 ∷ 1 ∷ 0xFE ∷ 0xDC ∷ 0xBA ∷ 0x98 ∷ []) ∷ [])
+        ≡ Refused 6 ∷ Refused 6 ∷ Refused 6 ∷ [] }
+    ensures addresses { map (verdict_at md_protocol (bytes_in_wakeup 0) []) (jammed 0xAD (0 ∷ 1 ∷ 0
+        ∷ 1 ∷ 0 ∷ 2 ∷ 0 ∷ 1 ∷ 0 ∷ 0 ∷ 0x10 ∷ 0 ∷ [])
         ∷ jammed 0xAC (0 ∷ 1 ∷ 0 ∷ 1 ∷ 0 ∷ 2 ∷ 0 ∷ 1 ∷ 0 ∷ 1 ∷ 0x10 ∷ 0 ∷ [])
         ∷ jammed 0xAC (0 ∷ 1 ∷ 0 ∷ 1 ∷ 0 ∷ 2 ∷ 0 ∷ 1 ∷ 1 ∷ 0 ∷ 0x10 ∷ 0 ∷ [])
         ∷ jammed 0xAF (0 ∷ 1 ∷ 0 ∷ 1 ∷ 0 ∷ 0 ∷ 0 ∷ 1 ∷ 1 ∷ 0 ∷ 0x10 ∷ 1 ∷ []) ∷ [])
@@ -196,18 +207,29 @@ pub fn number_rows()
 
 /// Jams of the first and the last entry of the first and the last table.
 pub fn place_rows()
-    ensures first { entries_now (three_bytes 2) (woken_with 0 ((jammed 0xAF (0 ∷ 1 ∷ 0 ∷ 1 ∷ 0 ∷ 1 ∷ 5 ∷ 6 ∷ 0 ∷ 0 ∷ 0x10 ∷ 3 ∷ [])) ∷ []) ∷ []) [] 1
-        ≡ (record { len = 1; delay = 0x0506; at = 0x1003 }) ∷ (record { len = 1; delay = 2; at = 0x1001 }) ∷ (record { len = 1; delay = 0; at = 0x1002 }) ∷ replicate 22 blank_entry }
-    ensures last { entries_now (three_bytes 2) (woken_with 0 ((jammed 0xB2 (0 ∷ 4 ∷ 0 ∷ 0x19 ∷ 0 ∷ 1 ∷ 5 ∷ 6 ∷ 0 ∷ 0 ∷ 0x10 ∷ 3 ∷ [])) ∷ []) ∷ []) [] 4
+    ensures first { entries_now (three_bytes 2) (woken_with 0 ((jammed 0xAF (0 ∷ 1 ∷ 0 ∷ 1 ∷ 0 ∷ 1
+        ∷ 5 ∷ 6 ∷ 0 ∷ 0 ∷ 0x10 ∷ 3 ∷ [])) ∷ []) ∷ []) [] 1
+        ≡ (record { len = 1; delay = 0x0506; at = 0x1003 })
+        ∷ (record { len = 1; delay = 2; at = 0x1001 }) ∷
+        (record { len = 1; delay = 0; at = 0x1002 })
+        ∷ replicate 22 blank_entry }
+    ensures last { entries_now (three_bytes 2) (woken_with 0 ((jammed 0xB2 (0 ∷ 4 ∷ 0 ∷ 0x19 ∷ 0 ∷ 1
+        ∷ 5 ∷ 6 ∷ 0 ∷ 0 ∷ 0x10 ∷ 3 ∷ [])) ∷ []) ∷ []) [] 4
         ≡ replicate 24 blank_entry ++ (record { len = 1; delay = 0x0506; at = 0x1003 }) ∷ [] }
-    ensures other { entries_now (three_bytes 2) (woken_with 0 ((jammed 0xB2 (0 ∷ 4 ∷ 0 ∷ 0x19 ∷ 0 ∷ 1 ∷ 5 ∷ 6 ∷ 0 ∷ 0 ∷ 0x10 ∷ 3 ∷ [])) ∷ []) ∷ []) [] 3 ≡ replicate 25 blank_entry }
+    ensures other { entries_now (three_bytes 2) (woken_with 0 ((jammed 0xB2 (0 ∷ 4 ∷ 0 ∷ 0x19 ∷ 0
+        ∷ 1 ∷ 5 ∷ 6 ∷ 0 ∷ 0 ∷ 0x10 ∷ 3 ∷ [])) ∷ []) ∷ []) [] 3 ≡ replicate 25 blank_entry }
 {}
 
 /// A round at an address and a time with all their bytes, and table numbers of which the high byte alone is wrong.
 pub fn wide_rows()
-    ensures round { md_items far_tables [] (record { time = 0x01020304; commands = []; seen = far_bytes })
-        ≡ outs.Made (8 ∷ 0x94 ∷ 0xC0 ∷ 0 ∷ 0 ∷ 0x0F ∷ 1 ∷ 2 ∷ 3 ∷ 4 ∷ 0 ∷ 0 ∷ 0 ∷ 4 ∷ 0 ∷ 6 ∷ 0xA1 ∷ 0xB2 ∷ 0xC3 ∷ 0xD4 ∷ 0xC3 ∷ 0xD4 ∷ []) ∷ [] }
-    ensures flags { map (λ n. dwell_fault_of (n ∷ 1 ∷ replicate 202 0)) (0 ∷ 1 ∷ []) ≡ None ∷ Some (record { entry = 0; reason = 2 }) ∷ [] }
-    ensures lengths { map (λ n. dwell_fault_of (0 ∷ 1 ∷ 0 ∷ 0 ∷ n ∷ 1 ∷ replicate 198 0)) (0 ∷ 1 ∷ []) ≡ None ∷ Some (record { entry = 1; reason = 1 }) ∷ [] }
-    ensures last_fault { dwell_fault_of (replicate 196 0 ++ (0 ∷ 4 ∷ 0 ∷ 0 ∷ 1 ∷ 2 ∷ 3 ∷ 2 ∷ [])) ≡ Some (record { entry = 25; reason = 3 }) }
+    ensures round { md_items far_tables []
+        (record { time = 0x01020304; commands = []; seen = far_bytes })
+        ≡ outs.Made (8 ∷ 0x94 ∷ 0xC0 ∷ 0 ∷ 0 ∷ 0x0F ∷ 1 ∷ 2 ∷ 3 ∷ 4 ∷ 0 ∷ 0 ∷ 0 ∷ 4 ∷ 0 ∷ 6 ∷ 0xA1
+        ∷ 0xB2 ∷ 0xC3 ∷ 0xD4 ∷ 0xC3 ∷ 0xD4 ∷ []) ∷ [] }
+    ensures flags { map (λ n. dwell_fault_of (n ∷ 1 ∷ replicate 202 0)) (0 ∷ 1 ∷ []) ≡ None
+        ∷ Some (record { entry = 0; reason = 2 }) ∷ [] }
+    ensures lengths { map (λ n. dwell_fault_of (0 ∷ 1 ∷ 0 ∷ 0 ∷ n ∷ 1 ∷ replicate 198 0)) (0 ∷ 1
+        ∷ []) ≡ None ∷ Some (record { entry = 1; reason = 1 }) ∷ [] }
+    ensures last_fault { dwell_fault_of (replicate 196 0 ++ (0 ∷ 4 ∷ 0 ∷ 0 ∷ 1 ∷ 2 ∷ 3 ∷ 2 ∷ []))
+        ≡ Some (record { entry = 25; reason = 3 }) }
 {}
