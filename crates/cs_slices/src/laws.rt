@@ -195,7 +195,8 @@ pub fn miscompares_are_told()
 /// Each code with the shortest and the longest payload of its commands.
 pub fn length_rows()
     ensures codes { numbers_of_rows cs_codes
-        ≡ (0 ∷ 0 ∷ 0 ∷ []) ∷ (1 ∷ 0 ∷ 0 ∷ []) ∷ (2 ∷ 0 ∷ 0 ∷ []) ∷ (3 ∷ 0 ∷ 0 ∷ []) ∷ (4 ∷ 2 ∷ 2 ∷ []) ∷ (5 ∷ 2 ∷ 2 ∷ [])
+        ≡ (0 ∷ 0 ∷ 0 ∷ []) ∷ (1 ∷ 0 ∷ 0 ∷ []) ∷ (2 ∷ 0 ∷ 0 ∷ []) ∷ (3 ∷ 0 ∷ 0 ∷ [])
+        ∷ (4 ∷ 2 ∷ 2 ∷ []) ∷ (5 ∷ 2 ∷ 2 ∷ [])
         ∷ (6 ∷ 4 ∷ 4 ∷ []) ∷ (7 ∷ 4 ∷ 4 ∷ []) ∷ (8 ∷ 4 ∷ 4 ∷ []) ∷ [] }
 {}
 
@@ -209,32 +210,44 @@ pub fn number_rows()
         ∷ for_table 5 0xBE 0 0
         ∷ for_table 5 0xBF 0 1
         ∷ for_table 5 0xBD 2 1 ∷ [])
-        ≡ Refused 4 ∷ Accepted 4 (Table 1 true) ∷ Accepted 4 (Table 2 true) ∷ Refused 4 ∷ Refused 4 ∷ Refused 4 ∷ Accepted 5 (Table 1 false) ∷ Refused 4 ∷ [] }
-    ensures of_entries { map (verdict_at cs_protocol second_table []) (for_entry 6 0xB9 (1 ∷ 2 ∷ 0 ∷ 1 ∷ [])
+        ≡ Refused 4 ∷ Accepted 4 (Table 1 true) ∷ Accepted 4 (Table 2 true) ∷ Refused 4 ∷ Refused 4
+        ∷ Refused 4 ∷ Accepted 5 (Table 1 false) ∷ Refused 4 ∷ [] }
+    ensures of_entries { map (verdict_at cs_protocol second_table []) (for_entry 6 0xB9 (1 ∷ 2 ∷ 0
+        ∷ 1 ∷ [])
         ∷ for_entry 7 0xB8 (1 ∷ 2 ∷ 0 ∷ 1 ∷ [])
         ∷ for_entry 8 0xB7 (1 ∷ 2 ∷ 0 ∷ 1 ∷ []) ∷ []) ≡ Refused 4 ∷ Refused 4 ∷ Refused 4 ∷ [] }
-    ensures entries { map (verdict_at cs_protocol second_table []) (for_entry 6 0xB9 (0 ∷ 2 ∷ 1 ∷ 1 ∷ [])
+    ensures entries { map (verdict_at cs_protocol second_table []) (for_entry 6 0xB9 (0 ∷ 2 ∷ 1 ∷ 1
+        ∷ [])
         ∷ for_entry 7 0xB8 (0 ∷ 2 ∷ 1 ∷ 1 ∷ [])
         ∷ for_entry 8 0xB7 (0 ∷ 2 ∷ 1 ∷ 1 ∷ [])
-        ∷ for_entry 8 0xB7 (0 ∷ 2 ∷ 0 ∷ 0 ∷ []) ∷ []) ≡ Refused 5 ∷ Refused 5 ∷ Refused 5 ∷ Refused 5 ∷ [] }
-    ensures ends { map (verdict_at cs_protocol (pair_of both_ends blank_segments) []) (for_entry 6 0xBB (0 ∷ 1 ∷ 0 ∷ 1 ∷ [])
+        ∷ for_entry 8 0xB7 (0 ∷ 2 ∷ 0 ∷ 0 ∷ []) ∷ []) ≡ Refused 5 ∷ Refused 5 ∷ Refused 5
+        ∷ Refused 5 ∷ [] }
+    ensures ends { map (verdict_at cs_protocol (pair_of both_ends blank_segments) [])
+        (for_entry 6 0xBB (0
+        ∷ 1 ∷ 0 ∷ 1 ∷ [])
         ∷ for_entry 7 0xAB (0 ∷ 1 ∷ 0 ∷ 0x10 ∷ [])
         ∷ for_entry 8 0xB6 (0 ∷ 1 ∷ 0 ∷ 2 ∷ [])
         ∷ for_entry 8 0xBB (0 ∷ 1 ∷ 0 ∷ 0x0F ∷ [])
         ∷ for_entry 8 0xA7 (0 ∷ 2 ∷ 0 ∷ 0x10 ∷ []) ∷ [])
-        ≡ Accepted 6 (Entry 1 1 true) ∷ Accepted 7 (Entry 1 16 false) ∷ Refused 6 ∷ Refused 6 ∷ Refused 6 ∷ [] }
-    ensures states { map (λ n. segments_fault_of (n ∷ 1 ∷ 0 ∷ 0 ∷ 1 ∷ 2 ∷ 3 ∷ 4 ∷ 1 ∷ 0 ∷ 0 ∷ 0 ∷ replicate 180 0)) (0 ∷ 1 ∷ []) ≡ None ∷ Some (record { entry = 1; reason = 1 }) ∷ [] }
-    ensures last { segments_fault_of (replicate 180 0 ++ (0 ∷ 2 ∷ replicate 10 0)) ≡ Some (record { entry = 16; reason = 2 }) }
+        ≡ Accepted 6 (Entry 1 1 true) ∷ Accepted 7 (Entry 1 16 false) ∷ Refused 6 ∷ Refused 6
+        ∷ Refused 6 ∷ [] }
+    ensures states { map (λ n. segments_fault_of (n ∷ 1 ∷ 0 ∷ 0 ∷ 1 ∷ 2 ∷ 3 ∷ 4 ∷ 1 ∷ 0 ∷ 0 ∷ 0
+        ∷ replicate 180 0)) (0 ∷ 1 ∷ []) ≡ None ∷ Some (record { entry = 1; reason = 1 }) ∷ [] }
+    ensures last { segments_fault_of (replicate 180 0 ++ (0 ∷ 2 ∷ replicate 10 0))
+        ≡ Some (record { entry = 16; reason = 2 }) }
 {}
 
 /// The ring goes over the first and the last entry of the EEPROM table and then over those of the memory table.
 pub fn place_rows()
-    ensures ring { places_of (pair_of both_ends both_ends) (at 0 ∷ at 1 ∷ at 2 ∷ at 3 ∷ at 4 ∷ []) ≡ 0 ∷ 15 ∷ 16 ∷ 31 ∷ 0 ∷ [] }
-    ensures eeprom { places_of (pair_of both_ends blank_segments) (at 0 ∷ at 1 ∷ at 2 ∷ []) ≡ 0 ∷ 15 ∷ 0 ∷ [] }
+    ensures ring { places_of (pair_of both_ends both_ends) (at 0 ∷ at 1 ∷ at 2 ∷ at 3 ∷ at 4 ∷ [])
+        ≡ 0 ∷ 15 ∷ 16 ∷ 31 ∷ 0 ∷ [] }
+    ensures eeprom { places_of (pair_of both_ends blank_segments) (at 0 ∷ at 1 ∷ at 2 ∷ []) ≡ 0 ∷ 15
+        ∷ 0 ∷ [] }
 {}
 
 /// A pass at an address with all its bytes, and its report at such a time.
 pub fn wide_rows()
-    ensures report { cs_items (pair_of far_entry blank_segments) (Woken (far_wakeup 0x01020303 []) ∷ []) (far_wakeup 0x01020304 (far_report ∷ []))
+    ensures report { cs_items (pair_of far_entry blank_segments) (Woken (far_wakeup 0x01020303 [])
+        ∷ []) (far_wakeup 0x01020304 (far_report ∷ []))
         ≡ outs.Made far_baseline ∷ outs.Made far_event ∷ [] }
 {}
