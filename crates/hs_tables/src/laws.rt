@@ -22,7 +22,7 @@ pub fn used_entries_are_whole()
     ensures actions { (row : ActRow) → actions.row_reason row ≡ None → actions.is_used row ≡ true → IsSome (actions.entry_of row) }
 {}
 
-/// Of a payload without a fault an entry that isn't used answers nothing, and each other one does.
+/// Of a payload without a fault, an entry answers nothing exactly where it isn't used.
 pub fn unused_entries_answer_nothing()
     ensures apps { (payload : List ℕ) (place : ℕ) → apps.rows_fault_of payload ≡ None
         → (apps.entry_of (slice_index_or (apps.rows_of payload) place apps.blank_row) ≡ None)
