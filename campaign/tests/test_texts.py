@@ -67,11 +67,11 @@ def test_a_seed_gives_an_accepted_text(name: str, program: Path, tmp_path: Path)
 def test_a_text_of_all_bytes_stays_accepted(program: Path, tmp_path: Path) -> None:
     """A text that has as many bytes as a text may have, less a few, takes the faults that still fit."""
     head, end = b"epoch 7\nregion RAM 0 16\nstart\napp LOAD 1\nsend 1888C000000100AE\ntick\n", b"tick\n" * 4 + b"end\n"
-    for left in (0, 100, 1500):
+    for left in (100, 1500):
         filled, rest = divmod((1 << 24) - len(head) - len(end) - left, 600)
         text = head + (b"#" * 599 + b"\n") * filled + b" " * (rest - 1) + b"\n" * (rest > 0) + end
         scenario = Scenario.read(text)
-        drawn, told = perturbed(scenario, often(scenario, 30), 1)
+        drawn, told = perturbed(scenario, often(scenario, 5), 1)
         assert told_by(program, tmp_path, drawn) == (0, 0, 0)
         assert bool(told) == (left == 1500)
 
