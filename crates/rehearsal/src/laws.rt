@@ -10,6 +10,7 @@ ghost use Rattle.rehearsal.specs.Words.{Asked, drill_in, accepted_words};
 ghost use Rattle.rehearsal.specs.Files.{Refusal, AreTaken};
 ghost use Rattle.rehearsal.specs.Lines.{Rehearsed, FailsOn, Refuses, ReadsText, IsDrill};
 ghost use Rattle.rehearsal.specs.Outcome.{drill_of, refused_read, HasCauses, Seen, GivesReads, IsRefusedAt, Rehearses};
+ghost use Rattle.rehearsal.specs.Report.{error_line};
 ghost use Rattle.rehearsal.specs.declared.report.Report.{Report};
 ghost use Rattle.rehearsal.specs.declared.report.Status.TheVariants as statuses;
 
@@ -134,4 +135,36 @@ pub fn worked_words()
     ensures undrilled_long { drill_in (codes "drill:1234567") ≡ None }
     ensures undrilled_sign { drill_in (codes "drill:+7") ≡ None }
     ensures undrilled_case { drill_in (codes "Drill:7") ≡ None }
+{}
+
+/// The line of each status on the error output, of reports whose fields all differ; that of a failed read of the scenario; and a line
+/// number of all digits.
+pub fn status_rows()
+    ensures done { error_line
+        (record { status = statuses.Done; file = 100; line = 1000; reason = 15; frames = 7 })
+        ≡ [] }
+    ensures words { error_line
+        (record { status = statuses.WordsRefused; file = 100; line = 1000; reason = 15; frames = 7 })
+        ≡ codes "vigil: words refused\n" }
+    ensures file { error_line
+        (record { status = statuses.FileRefused; file = 100; line = 1000; reason = 15; frames = 7 })
+        ≡ codes "vigil: file 100 refused, reason 15, entry 1000\n" }
+    ensures scenario { error_line
+        (record { status = statuses.ScenarioRefused; file = 100; line = 1000; reason = 15; frames = 7 })
+        ≡ codes "vigil: scenario refused at line 1000, reason 15\n" }
+    ensures read { error_line
+        (record { status = statuses.ReadFailed; file = 100; line = 1000; reason = 15; frames = 7 })
+        ≡ codes "vigil: read failed on file 100\n" }
+    ensures write { error_line
+        (record { status = statuses.WriteFailed; file = 100; line = 1000; reason = 15; frames = 7 })
+        ≡ codes "vigil: write failed\n" }
+    ensures memory { error_line
+        (record { status = statuses.NoMemory; file = 100; line = 1000; reason = 15; frames = 7 })
+        ≡ codes "vigil: out of memory\n" }
+    ensures scenario_read { error_line
+        (record { status = statuses.ReadFailed; file = 0; line = 0; reason = 0; frames = 7 })
+        ≡ codes "vigil: read failed on file 0\n" }
+    ensures last_line { error_line
+        (record { status = statuses.ScenarioRefused; file = 0; line = 1234567890; reason = 7; frames = 9 })
+        ≡ codes "vigil: scenario refused at line 1234567890, reason 7\n" }
 {}
