@@ -1,4 +1,4 @@
-"""What the tests share: the built program, and a folder with a small plan."""
+"""What the tests share: the built program, cases of rehearsals, and a folder with a small plan."""
 
 import os
 import shutil
@@ -8,6 +8,7 @@ import pytest
 
 TOP = Path(__file__).resolve().parent.parent.parent
 EXAMPLES = TOP / "examples"
+CASES = TOP / "crates" / "rehearsals" / "data"
 FILES = ["events.table", "counters.table", "actions.table", "eeprom.table", "dwell1.table"]
 
 
@@ -18,6 +19,11 @@ def program() -> Path:
     if not path.is_file():
         pytest.fail(f"{path} isn't built; `examples/run` builds it")
     return path.resolve()
+
+
+def log_of(case: str) -> bytes:
+    """The log that a rehearsal wants which ends well: what it wants, without the line of its status."""
+    return (CASES / case / "wanted").read_bytes().removesuffix(b"status 0\n")
 
 
 @pytest.fixture

@@ -13,7 +13,7 @@ import time
 from pathlib import Path
 
 import pytest
-from conftest import TOP, plan_text
+from conftest import CASES, TOP, plan_text
 
 from campaign import work
 from campaign.engine import Engine, batches_of, connected, jobs_of, kit_of
@@ -82,7 +82,7 @@ def test_only_what_changed_runs_again(folder: Path) -> None:
     shutil.copy(folder / "apps_flown.table", folder / "apps_next.table")
     assert run(folder) == 0
     assert {row[0]: row[1:] for row in rows(folder, "number, set_name, ended")} == before
-    shutil.copy(TOP / "examples" / "standby" / "apps_2.table", folder / "apps_next.table")
+    shutil.copy(CASES / "standby" / "apps_2.table", folder / "apps_next.table")
     assert run(folder) == 1
     after = rows(folder, "number, set_name, ended")
     assert {row[0]: row[1:] for row in after if row[0] in before} == before

@@ -1,10 +1,10 @@
-"""Plans, logs and questions, on the examples' logs, which the rules give."""
+"""Plans, logs and questions, on the logs of rehearsals, which the rules give."""
 
 import shutil
 from pathlib import Path
 
 import pytest
-from conftest import EXAMPLES
+from conftest import CASES, log_of
 
 from campaign import Wrong
 from campaign.compare import size_of, split_of
@@ -15,24 +15,23 @@ from campaign.questions import Question, Run
 from campaign.sequences import done_sequences
 
 
-def run_of(example: str, befallen: tuple[Befallen, ...] = (), has_first: bool = False) -> Run:
-    folder = EXAMPLES / example
-    text = (folder / "scenario.txt").read_bytes()
-    return Run((folder / "log").read_bytes(), text, text.count(b"\ntick"), befallen, has_first)
+def run_of(case: str, befallen: tuple[Befallen, ...] = (), has_first: bool = False) -> Run:
+    text = (CASES / case / "scenario.txt").read_bytes()
+    return Run(log_of(case), text, text.count(b"\ntick"), befallen, has_first)
 
 
 def test_counts_are_those_of_the_log() -> None:
-    """examples/held drops packets of MM's pipe; examples/reset has two resets and no drop."""
-    counts = Counts.of((EXAMPLES / "reset" / "log").read_bytes())
+    """The rehearsal `held` drops packets of MM's pipe; `reset` has two resets and no drop."""
+    counts = Counts.of(log_of("reset"))
     assert counts.requests == {"reset": 2} and counts.drops == {} and counts.lines == 16
     assert counts.events["HS 101 type 3"] == 2 and counts.events["SC 104 type 2"] == 3
     assert counts.packets == {"HS": 4, "MM": 4, "SC": 3, "to MM": 3} and counts.events["MM 18 type 2"] == 1
-    log = (EXAMPLES / "held" / "log").read_text()
+    log = log_of("held").decode()
     assert sum(Counts.of(log.encode()).drops.values()) == sum(line.split(" ")[1] == "drop" for line in log.splitlines())
 
 
 @pytest.mark.parametrize(
-    "example, line, holds",
+    "case, line, holds",
     [
         ("health", "never event HS 102", False),
         ("health", "never event HS 104", True),
@@ -59,13 +58,13 @@ def test_counts_are_those_of_the_log() -> None:
         ("commands", "ends with sequence ATS1 done", False),
     ],
 )
-def test_a_question_is_answered(example: str, line: str, holds: bool) -> None:
-    """As the examples' pages tell what happens in them."""
-    assert Question.read(line).holds(run_of(example)) == holds
+def test_a_question_is_answered(case: str, line: str, holds: bool) -> None:
+    """As the cases tell what happens in them."""
+    assert Question.read(line).holds(run_of(case)) == holds
 
 
 def test_within_asks_where_its_frames_are_run() -> None:
-    """In examples/checksum bytes are upset in frames 0 and 4, and found in frames 5 and 8; the run has nine frames."""
+    """In the rehearsal `checksum` bytes are upset in frames 0 and 4, and found in frames 5 and 8; the run has nine frames."""
     run = run_of("checksum")
     assert [frame for frame in range(9) if Question.read(f"within {frame} of upset: event CS 101").holds(run)] == [5, 6, 7, 8]
     stalled = run_of("health", (Befallen("hang", 2),))
