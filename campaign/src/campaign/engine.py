@@ -56,10 +56,10 @@ class Totals:
 
 @dataclass
 class Task:
-    """A batch that was handed to a worker; `tries` counts the workers that died with it while it was one job alone."""
+    """A batch that is handed to a worker; `tries_alone` counts how often nothing else was under way beside it."""
 
     batch: Batch
-    tries: int = 0
+    tries_alone: int = 0
 
 
 def kit_of(plan: Plan) -> Kit:
@@ -159,6 +159,7 @@ class Engine:
         self.totals = Totals()
         self.kit = self.handed_kit()
         self.waiting: list[Task] = []
+        self.suspects: list[Task] = []
         self.tasks: dict[str, Task] = {}
         self.futures = as_completed()
         self.made = 0
@@ -182,14 +183,17 @@ class Engine:
         return self.totals
 
     def fill(self, batches: Iterator[Batch]) -> None:
-        """Hands on batches until each worker thread has a few, however many there are by now."""
+        """Hands on batches until each worker thread has a few, however many there are by now; suspects come last, one by one."""
         threads = sum(self.client.nthreads().values())
         self.totals.workers = max(self.totals.workers, threads)
         while len(self.tasks) < max(threads, 1) * _IN_FLIGHT:
             batch = None if self.waiting else next(batches, None)
             if batch is None and not self.waiting:
-                return
+                break
             self.hand_on(Task(batch) if batch else self.waiting.pop())
+        if not self.tasks and self.suspects:
+            task = self.suspects.pop()
+            self.hand_on(Task(task.batch, task.tries_alone + 1))
 
     def hand_on(self, task: Task) -> None:
         self.made += 1
@@ -212,7 +216,10 @@ class Engine:
         self.write(Done(list(_told(task.batch, Outcome.NOT_STARTED, "", f"{type(error).__name__}: {error}")), [], 0, 0))
 
     def died(self, task: Task, key: str, worker: str) -> None:
-        """A worker died with a batch: the batch is halved, and a job that was alone on two workers that died is told as rows."""
+        """A worker died that had a batch, perhaps behind another one: it is halved, and a single job becomes a suspect.
+
+        A suspect with which two workers died while nothing else was under way is told as rows.
+        """
         if key.startswith(_KIT):
             # It died as it took the kit, which has nothing to do with the batch.
             if self.kit.status == "error":
@@ -222,8 +229,8 @@ class Engine:
         self.store.add_mishap(Outcome.WORKER_DIED, worker, task.batch)
         if len(task.batch.jobs) > 1:
             self.waiting.extend(map(Task, task.batch.halves()))
-        elif task.tries + 1 < _TRIES_ALONE:
-            self.waiting.append(Task(task.batch, task.tries + 1))
+        elif task.tries_alone < _TRIES_ALONE:
+            self.suspects.append(task)
         else:
             self.write(Done(list(_told(task.batch, Outcome.WORKER_DIED, worker, "each worker that ran it died")), [], 0, 0))
 
