@@ -1,5 +1,5 @@
 -- Landing bank by bank.
-use Rattle.std.proofs.Common.{◌≡◌, ◌⊎◌, inl, inr, ℕ, ◌+◌, ◌-◌, ◌<◌, ◌≤◌, Bool, true, false, List, [], ◌∷◌, length, get_or, take, drop, refl, sym, ap, ◌∙◌, arith, length-take, length-drop, get_or-take, get_or-drop}
+use Rattle.std.proofs.Common.{◌≡◌, ◌⊎◌, inl, inr, ℕ, ◌+◌, ◌-◌, ◌<◌, ◌≤◌, Bool, true, false, List, [], ◌∷◌, length, get_or, take, drop, refl, sym, ap, subst, ◌∙◌, arith, length-take, length-drop, get_or-take, get_or-drop}
 use Rattle.std.specs.Prelude.{nat_lt}
 use Rattle.std.proofs.lemmas.Bool.Decides.{nat_tests}
 use borrow.Rule.Slice.PartMut.{put_mid}
@@ -19,13 +19,17 @@ before-or-on k a = by_test (nat_lt k a) refl
     by_test true is = inl (grind (arith, nat_tests))
     by_test false is = inr (grind (arith, nat_tests))
 
--- bytes on which operations that write only between two addresses land
-module _ (loads : List (ℕ × List ℕ)) (ops : List MemOp) (at first end : ℕ) (within : WriteWithin first end ops) (old : List ℕ) where
-  pub before-landed : (k : ℕ) → at + k < first → get_or old k 0 ≡ landed loads ops (at + k) (get_or old k 0)
-  before-landed k lt = sym (uncovered loads ops (at + k) (get_or old k 0) (within.before (at + k) lt))
+-- where operations write in bytes, by another name of where these begin
+pub span_here : (at start : ℕ) (bytes : List ℕ) (first end : ℕ) (ops : List MemOp) → start ≡ at → WriteWithin start (start + length bytes) first end ops → WriteWithin at (at + length bytes) first end ops
+span_here at start bytes first end ops same = subst (λ (n : ℕ). WriteWithin n (n + length bytes) first end ops) same
 
-  pub behind-landed : (k : ℕ) → end ≤ at + k → get_or old k 0 ≡ landed loads ops (at + k) (get_or old k 0)
-  behind-landed k le = sym (uncovered loads ops (at + k) (get_or old k 0) (within.behind (at + k) le))
+-- bytes on which operations that write only between two of their addresses land
+module _ (loads : List (ℕ × List ℕ)) (ops : List MemOp) (at first end : ℕ) (old : List ℕ) (within : WriteWithin at (at + length old) first end ops) where
+  pub before-landed : (k : ℕ) → k < length old → at + k < first → get_or old k 0 ≡ landed loads ops (at + k) (get_or old k 0)
+  before-landed k inside lt = sym (uncovered loads ops (at + k) (get_or old k 0) (within.before (at + k) (omega arith) (omega arith) lt))
+
+  pub behind-landed : (k : ℕ) → k < length old → end ≤ at + k → get_or old k 0 ≡ landed loads ops (at + k) (get_or old k 0)
+  behind-landed k inside le = sym (uncovered loads ops (at + k) (get_or old k 0) (within.behind (at + k) (omega arith) (omega arith) le))
 
   -- where each of them lies before or behind, all have landed
   pub none-landed : (low : ℕ) → ((k : ℕ) → k < low → at + k < first) → ((k : ℕ) → k < length old → low ≤ k → end ≤ at + k)
@@ -33,8 +37,8 @@ module _ (loads : List (ℕ × List ℕ)) (ops : List MemOp) (at first end : ℕ
   none-landed low before behind k lt = by_place (before-or-on k low)
     where
       by_place : (k < low) ⊎ (low ≤ k) → get_or old k 0 ≡ landed loads ops (at + k) (get_or old k 0)
-      by_place (inl early) = before-landed k (before k early)
-      by_place (inr late) = behind-landed k (behind k lt late)
+      by_place (inl early) = before-landed k lt (before k early)
+      by_place (inr late) = behind-landed k lt (behind k lt late)
 
 -- a list of which the part between two places became what a function of address and byte makes of it
 module _ (f : ℕ → ℕ → ℕ) (at from to : ℕ) (xs part : List ℕ) (order : from ≤ to) (fits : to ≤ length xs) (same : length part ≡ length (take (to - from) (drop from xs)))

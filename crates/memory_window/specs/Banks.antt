@@ -22,7 +22,7 @@ bank_holds n r at = holds at r && (nat_le (r.start + n * bank_size) at && nat_lt
 unfoldable pub bank_at : Region → ℕ → ℕ
 bank_at r at = (at - r.start) / bank_size
 
--- operations write no byte before one address, and none from another one on
-pub record WriteWithin (first end : ℕ) (ops : List MemOp) : Type 0 where
-  pub before : (a : ℕ) → a < first → list_any (λ op. covers op a) ops ≡ false
-  pub behind : (a : ℕ) → end ≤ a → list_any (λ op. covers op a) ops ≡ false
+-- from the address low to before high, operations write no byte before first, and none from end on
+pub record WriteWithin (low high first end : ℕ) (ops : List MemOp) : Type 0 where
+  pub before : (a : ℕ) → low ≤ a → a < high → a < first → list_any (λ op. covers op a) ops ≡ false
+  pub behind : (a : ℕ) → low ≤ a → a < high → end ≤ a → list_any (λ op. covers op a) ops ≡ false

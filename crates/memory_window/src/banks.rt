@@ -21,7 +21,7 @@ const BANK_SIZE: usize = 65_536;
 /// What the first bank of a region is called at a gate; the others follow.
 const FIRST_BANK: u32 = 64;
 
-/// Operations write nothing before `first`, and nothing from `end` on.
+/// Of a region, operations write nothing before `first`, and nothing from `end` on.
 #[derive(Clone, Copy)]
 struct Span {
     first: u64,
@@ -29,33 +29,32 @@ struct Span {
 }
 
 impl Span {
-    /// The span with what one operation more writes.
-    fn with(self, op: &MemOp) -> Span
+    /// The span with what one operation more writes from one address to before another.
+    fn with(self, op: &MemOp, low: u64, high: u64) -> Span
         ensures wider { (result.first ≤ self.first) × (self.end ≤ result.end) }
-        ensures holds { 0 < op_len op.now → (result.first ≤ op_at op.now) × (op_at op.now + op_len op.now ≤ result.end) }
+        ensures holds { 0 < op_len op.now → op_at op.now < high → low < op_at op.now + op_len op.now → (result.first ≤ op_at op.now) × (op_at op.now + op_len op.now ≤ result.end) }
     {
-        let len = u64::from(op.len());
-        if len == 0 {
+        if !op.writes_in(low, high) {
             return self;
         }
         let at = u64::from(op.at());
         Span {
             first: self.first.min(at),
-            end: self.end.max(at + len),
+            end: self.end.max(at + u64::from(op.len())),
         }
     }
 }
 
-/// Where operations write.
-fn span_of(ops: &[MemOp]) -> Span
-    ensures { WriteWithin result.first result.end ops.now }
+/// Where operations write from one address to before another.
+fn span_of(ops: &[MemOp], low: u64, high: u64) -> Span
+    ensures { WriteWithin low high result.first result.end ops.now }
 {
     let mut span = Span {
         first: u64::MAX,
         end: 0,
     };
     for op in ops {
-        span = span.with(op);
+        span = span.with(op, low, high);
     }
     span
 }
@@ -83,6 +82,22 @@ fn pass_banks<G: Gate>(gate: &G, from: usize, to: usize)
     }
 }
 
+/// How many of so many banks operations write. The first bank begins at the address `at`.
+fn written_banks(at: u32, banks: usize, ops: &[MemOp]) -> u32
+    requires { banks ≤ 65536 }
+    ensures { result ≤ banks }
+{
+    let mut written = 0;
+    for bank in 0..banks {
+        let low = u64::from(at) + (bank * BANK_SIZE) as u64;
+        let high = low + BANK_SIZE as u64;
+        if ops.iter().any(|op| op.writes_in(low, high)) {
+            written += 1;
+        }
+    }
+    written
+}
+
 /// Lands operations on banks that lie side by side, one after another. The first byte has the address `at`, and the first bank
 /// is the one of number `place` in its region.
 fn land_in_turn<G: Gate>(gate: &G, at: u32, place: u32, landing: &Landing<'_, '_>, bytes: &mut [u8])
@@ -105,7 +120,8 @@ fn land_in_turn<G: Gate>(gate: &G, at: u32, place: u32, landing: &Landing<'_, '_
     }
 }
 
-/// The same in as many threads as there are workers, each of which lands a run of banks; one worker, and one bank, start no thread.
+/// The same in as many threads as there are workers, but no more than there are banks that change; each thread lands a run of banks.
+/// One worker, and one bank, start no thread.
 fn land_beside<R: Threads + Sync, G: Gate>(
     rt: &R,
     workers: u32,
@@ -128,7 +144,8 @@ fn land_beside<R: Threads + Sync, G: Gate>(
         land_in_turn(gate, at, place, landing, bytes);
         return;
     }
-    let share = banks.div_ceil(workers as usize) * BANK_SIZE;
+    let threads = workers.min(written_banks(at, banks, landing.ops)).max(1);
+    let share = banks.div_ceil(threads as usize) * BANK_SIZE;
     let land = |start: usize, part: &mut [u8]|
         requires { (place * bank_size ≤ at) × (0 < length part.old) × (at + start + length part.old ≤ 2 ^ 32) × All IsSound landing.now.ops.now × All (IsBacked (loads_of landing.now.files.now)) landing.now.ops.now }
         ensures { (k : ℕ) → k < length part.old → slice_index part.new k ≡ landed (loads_of landing.entry.now.files.now) landing.entry.now.ops.now (at + start + k) (slice_index part.old k) }
@@ -146,17 +163,17 @@ fn land_region<R: Threads + Sync, G: Gate>(
     workers: u32,
     gate: &G,
     at: u32,
-    span: Span,
     landing: &Landing<'_, '_>,
     bytes: &mut [u8],
 )
     requires workers { 0 < workers }
-    requires span { WriteWithin span.first span.end landing.now.ops.now }
     requires fits { at + length bytes.old ≤ 2 ^ 32 }
     requires sound { All IsSound landing.now.ops.now }
     requires backed { All (IsBacked (loads_of landing.now.files.now)) landing.now.ops.now }
     ensures { (k : ℕ) → k < length bytes.old → slice_index bytes.new k ≡ landed (loads_of landing.now.files.now) landing.now.ops.now (at + k) (slice_index bytes.old k) }
 {
+    let start = u64::from(at);
+    let span = span_of(landing.ops, start, start + bytes.len() as u64);
     let (from, to) = busy_banks(at, bytes.len(), span);
     pass_banks(gate, 0, from);
     pass_banks(gate, to, bytes.len().div_ceil(BANK_SIZE));
@@ -193,7 +210,6 @@ pub(crate) fn land_regions<R: Threads + Sync, G: Gate>(
     requires backed { All (IsBacked (loads_of landing.now.files.now)) landing.now.ops.now }
     ensures { cut regions.now block.new ≡ changed (landed (loads_of landing.now.files.now) landing.now.ops.now) (cut regions.now block.old) }
 {
-    let span = span_of(landing.ops);
     let mut from = 0;
     for region in regions {
         let to = from + region.len as usize;
@@ -202,7 +218,6 @@ pub(crate) fn land_regions<R: Threads + Sync, G: Gate>(
             workers,
             gate,
             region.start,
-            span,
             landing,
             &mut block[from..to],
         );

@@ -1,5 +1,5 @@
 //! Operations on memory.
-ghost use Rattle.std.specs.Prelude.{◌≡◌, ◌-◌, ◌*◌, ◌/◌, ◌%◌, ◌^◌, ◌<◌, ◌≤◌};
+ghost use Rattle.std.specs.Prelude.{◌≡◌, false, ◌+◌, ◌-◌, ◌*◌, ◌/◌, ◌%◌, ◌^◌, ◌<◌, ◌≤◌};
 ghost use Rattle.memory_window.specs.Operations.{is_size, op_at, op_len};
 
 use crate::Chunk;
@@ -51,6 +51,14 @@ impl MemOp {
             MemOp::FromFile { len, .. } => *len,
             MemOp::Protect { .. } => 0,
         }
+    }
+
+    /// Whether it writes a byte from one address to before another.
+    pub(crate) fn writes_in(&self, low: u64, high: u64) -> bool
+        ensures { result ≡ false → 0 < op_len self.now → op_at self.now < high → op_at self.now + op_len self.now ≤ low }
+    {
+        let (at, len) = (u64::from(self.at()), u64::from(self.len()));
+        0 < len && at < high && low < at + len
     }
 }
 
