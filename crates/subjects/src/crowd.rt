@@ -17,6 +17,9 @@ use std::thread::Threads;
 /// The most workers that cycle a crowd.
 const WORKERS: u32 = 16;
 
+/// How many subjects are worth a worker: starting a thread takes tens of microseconds.
+const SHARE: u32 = 32;
+
 /// Up to 64 subjects in order, seen as their list with the counters of the last cycle.
 #[derive(Drop)]
 pub struct Crowd<S = Box<dyn Subject + Send>> {
@@ -143,13 +146,14 @@ impl<S: Subject + Send> Crowd<S> {
         self.cycle_on(rt, WORKERS);
     }
 
-    /// Cycles each subject once, on up to so many workers. One worker starts no thread.
+    /// Cycles each subject once, on up to so many workers, each with 32 subjects or more. One worker starts no thread.
     pub fn cycle_on<R: Threads + Sync>(&mut self, rt: &R, workers: u32)
         requires { 0 < workers }
         ensures subjects { map S.seen self.new.subjects ≡ all_cycled (map S.seen self.old.subjects) }
         ensures readings { self.new.readings ≡ map counter_of (map S.seen self.old.subjects) }
     {
-        if workers == 1 {
+        let workers = workers.min(self.seats.len() as u32 / SHARE);
+        if workers <= 1 {
             cycle_in_turn(self.seats.as_mut_slice(), &mut self.readings);
             return;
         }
