@@ -13,10 +13,11 @@ fn named(text: &str) -> Result<Name, Fail> {
     Ok(Name::from_text(text).ok_or("no name")?)
 }
 
-/// A subject that waits in a cycle until the other one has begun its own, or for very many turns.
+/// A subject that waits in a cycle until those awaited have begun their own, or for very many turns. Subjects are bits.
 struct Waiting {
     name: Name,
     bit: u64,
+    awaited: u64,
     begun: Arc<AtomicU64>,
     met: Arc<AtomicU64>,
 }
@@ -31,7 +32,7 @@ impl Subject for Waiting {
     }
 
     fn cycle(&mut self) -> u32 {
-        if meet(&self.begun, self.bit, 3) {
+        if meet(&self.begun, self.bit, self.awaited) {
             self.met.fetch_or(self.bit, Ordering::SeqCst);
         }
         9
@@ -45,28 +46,41 @@ impl Drop for Waiting {
         let Waiting {
             name: _,
             bit: _,
+            awaited: _,
             begun: _,
             met: _,
         } = self;
     }
 }
 
+/// The bit of a subject by its place in a crowd of 64, and those that it waits for: the first and the last wait for each other.
+fn bits_at(place: u32) -> (u64, u64) {
+    match place {
+        0 => (1, 3),
+        63 => (2, 3),
+        _ => (0, 0),
+    }
+}
+
+/// A crowd of 64 is worth two workers.
 #[test]
 fn two_subjects_are_cycled_at_once(rt: HostRuntime) -> Result<(), Fail> {
     let alloc = rt.alloc();
     let begun = Arc::new(alloc, AtomicU64::new(0))?;
     let met = Arc::new(alloc, AtomicU64::new(0))?;
     let mut subjects: Vec<Boxed> = Vec::new(alloc);
-    for bit in [1, 2] {
+    for place in 0..64 {
+        let (bit, awaited) = bits_at(place);
         let waiting = Waiting {
             name: named("NAV")?,
             bit,
+            awaited,
             begun: Arc::try_clone(&begun)?,
             met: Arc::try_clone(&met)?,
         };
         subjects.push(Box::new(alloc, waiting)?)?;
     }
-    assert_eq!(rt; subjects.len(), 2);
+    assert_eq!(rt; subjects.len(), 64);
     let mut crowd = Crowd::open(alloc, subjects)?;
     crowd.cycle_on(&rt, 2);
     assert_eq!(rt; met.load(Ordering::SeqCst), 3);
