@@ -1,0 +1,12 @@
+use Rattle.std.proofs.Common.{sym}
+use Rattle.row_forms.proofs.WordsLemmas.{position_none, no_word, word_behind}
+use Rattle.row_forms.proofs.words.split_word.Goals as goal
+
+pub returns-in-None-clause-words : goal.returns-in-None-clause-words
+returns-in-None-clause-words c = no_word _ (position_none _ _ (sym c.in-None.ensures))
+
+pub returns-in-Some-clause-words : goal.returns-in-Some-clause-words
+returns-in-Some-clause-words c = (word_behind _ _ _ _ _ _ c.in-Some.ensures c.split_at.ensures.back c.word_len.ensures.value c.split_at-in-Some.ensures.front c.split_at-in-Some.ensures.back).0
+
+pub returns-in-Some-clause-filled : goal.returns-in-Some-clause-filled
+returns-in-Some-clause-filled c = (word_behind _ _ _ _ _ _ c.in-Some.ensures c.split_at.ensures.back c.word_len.ensures.value c.split_at-in-Some.ensures.front c.split_at-in-Some.ensures.back).1

@@ -1,0 +1,5 @@
+pub mod Words
+pub mod Lists
+pub mod Numbers
+pub mod Values
+pub mod Rows

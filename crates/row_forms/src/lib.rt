@@ -1,0 +1,9 @@
+//! Rows: words `KEY=VALUE` of a line, and the bytes that they say.
+#![tactic(auto)]
+
+mod fault;
+mod field;
+mod words;
+
+pub use fault::{ReadError, Reason, RowFault};
+pub use field::{Choice, Field, Kind, Spelling, Width};
