@@ -1,1 +1,5 @@
+pub mod BlockLemmas
+pub mod NumberLemmas
+pub mod PartsLemmas
+pub mod StepLemmas
 pub mod WordsLemmas

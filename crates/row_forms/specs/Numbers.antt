@@ -37,10 +37,10 @@ number_at U8 bytes = slice_index bytes 0
 number_at U16 bytes = be16_at bytes 0
 number_at U32 bytes = be32_at bytes 0
 
--- the number of the first choice with this text; else the number that the text writes
+-- the number of the first choice with this text, where it isn't over `most`; else the number that the text writes
 unfoldable pub choice_said : ℕ → List Choice → List ℕ → Option ℕ
 choice_said most [] text = number most text
-choice_said most (c ∷ cs) text = if bytes_eq c.text.now text then Some c.number else choice_said most cs text
+choice_said most (c ∷ cs) text = if bytes_eq c.text.now text then at_most most c.number else choice_said most cs text
 
 -- the text of the first choice with this number; else its decimal digits
 unfoldable pub choice_shown : List Choice → ℕ → List ℕ

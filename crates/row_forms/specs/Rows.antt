@@ -115,3 +115,8 @@ GivesField said new (Err (refusals.Because reason)) = said ≡ Err reason
 abbrev pub GivesValue : Option (List ℕ) → List ℕ → List ℕ → Bool → Type 0
 GivesValue (Some bytes) old new is_said = (is_said ≡ true) × (new ≡ old ++ bytes)
 GivesValue None old new is_said = is_said ≡ false
+
+-- why the n-th word wasn't read
+abbrev pub error_at : ℕ → Refusal → ReadError
+error_at n (refusals.Memory e) = errors.Memory e
+error_at n (refusals.Because reason) = errors.Row (fault_at n reason)

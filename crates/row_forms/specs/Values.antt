@@ -23,6 +23,10 @@ steps_said words [] = Some []
 steps_said words (text ∷ more) =
     option_and_then (λ n. option_map (λ rest. n ∷ rest) (steps_said words more)) (choice_said 65535 words text)
 
+-- the bytes of an expression's words
+abbrev pub steps_bytes : Option (List ℕ) → Option (List ℕ)
+steps_bytes steps = option_map (flat_map be16_bytes) steps
+
 -- an expression of these words: how many they are, and they, in 16 places of two bytes
 abbrev pub expression_of : List ℕ → Option (List ℕ)
 expression_of steps =

@@ -1,4 +1,9 @@
 //! The fields of a row, and how their values are written.
+ghost use Rattle.std.specs.Prelude.{◌≡◌};
+ghost use Rattle.row_forms.specs.Numbers.{bytes_of, most_of};
+ghost use Rattle.row_forms.specs.Values.{reason_of, reason_of_number, width};
+
+use crate::fault::Reason;
 
 /// A field of a row, in the order in which the bytes stand.
 #[derive(Clone, Copy, Debug)]
@@ -55,4 +60,67 @@ pub struct Choice {
     pub number: u32,
 }
 
-pub const U8: Kind = Kind::Number(Width::U8, Spelling::Decimal);
+impl Width {
+    /// How many bytes a number has.
+    pub(crate) fn bytes(self) -> usize
+        ensures { result ≡ bytes_of self }
+    {
+        match self {
+            Width::U8 => 1,
+            Width::U16 => 2,
+            Width::U32 => 4,
+        }
+    }
+
+    /// The largest number.
+    pub(crate) fn most(self) -> u32
+        ensures { result ≡ most_of self }
+    {
+        match self {
+            Width::U8 => 255,
+            Width::U16 => 65_535,
+            Width::U32 => 4_294_967_295,
+        }
+    }
+}
+
+impl Kind {
+    /// How many of these bytes are the value's.
+    pub(crate) fn width(&self, bytes: &[u8]) -> usize
+        ensures { result ≡ width self.now bytes.now }
+    {
+        match self {
+            Kind::Number(number, _) => number.bytes(),
+            Kind::Name => 20,
+            Kind::Block => bytes.len(),
+            Kind::Expression(_) => 34,
+        }
+    }
+
+    /// Why a text says no value.
+    pub(crate) fn reason(&self) -> Reason
+        ensures { result ≡ reason_of self.now }
+    {
+        match self {
+            Kind::Number(width, spelling) => number_reason(*width, spelling),
+            Kind::Name => Reason::Name,
+            Kind::Block => Reason::Block,
+            Kind::Expression(_) => Reason::Expression,
+        }
+    }
+}
+
+fn number_reason(width: Width, spelling: &Spelling) -> Reason
+    ensures { result ≡ reason_of_number width spelling.now }
+{
+    match spelling {
+        Spelling::Decimal | Spelling::Hex => match width {
+            Width::U8 => Reason::Number8,
+            Width::U16 => Reason::Number16,
+            Width::U32 => Reason::Number32,
+        },
+        Spelling::Choice(_) => Reason::Choice,
+        Spelling::Mask => Reason::Mask,
+        Spelling::Time => Reason::Time,
+    }
+}

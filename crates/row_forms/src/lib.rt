@@ -3,7 +3,12 @@
 
 mod fault;
 mod field;
+mod numbers;
+mod parts;
+mod rows;
+mod values;
 mod words;
 
 pub use fault::{ReadError, Reason, RowFault};
 pub use field::{Choice, Field, Kind, Spelling, Width};
+pub use rows::{is_row, read_row, show_row};

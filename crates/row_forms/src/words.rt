@@ -1,5 +1,5 @@
 //! The words of a line, and what a word says.
-ghost use Rattle.std.specs.Prelude.{◌≡◌, ◌≤◌, ◌<◌, ◌+◌, ◌*◌, ◌%◌, ◌==◌, ◌∷◌, [], ℕ, Some, None, take, drop, length, not, option_map, MatchOption, IfSome, IsTrue, codes, nat_eq, ◌&&◌};
+ghost use Rattle.std.specs.Prelude.{◌≡◌, ◌≤◌, ◌<◌, ◌+◌, ◌*◌, ◌^◌, ◌==◌, ◌∷◌, [], ℕ, Some, None, take, drop, length, not, option_map, MatchOption, IfSome, IsTrue, codes, nat_eq, ◌&&◌};
 ghost use Rattle.std.specs.List.{position, position_or_len, list_all, starts_with};
 ghost use Rattle.std.specs.Char.{is_digit, digit_value};
 ghost use Rattle.row_forms.specs.Words.{words, digits, any_number, number, hex_said, name_said};
@@ -75,7 +75,7 @@ static DIGITS: [u8; 256] = [
 ];
 
 /// The value of a digit or a letter, from 0 for `0` to 35 for `Z` and `z`, and 36 for any other byte.
-fn digit(byte: u8) -> u8
+pub(crate) fn digit(byte: u8) -> u8
     ensures value { result ≡ digit_value byte }
     ensures bound { result ≤ 36 }
 {
@@ -88,7 +88,8 @@ fn digit(byte: u8) -> u8
 pub(crate) fn digits(base: u8, room: usize, word: &[u8]) -> Option<u64>
     requires base { base ≤ 16 }
     requires room { room ≤ 10 }
-    ensures { result ≡ digits base room word.now }
+    ensures value { result ≡ digits base room word.now }
+    ensures bound { IfSome result (λ n. n < 16 ^ 10) }
 {
     if word.is_empty() || word.len() > room {
         return None;
