@@ -137,7 +137,7 @@ fn seal(at: usize, out: &mut Vec<u8>)
     requires { at + 2 ≤ vec_len out.old }
     ensures { out.new.items ≡ take at out.old.items ++ (be16_bytes (crc_of 0 (drop (at + 2) out.old.items)) ++ drop (at + 2) out.old.items) }
 {
-    let check = crc16(0, &out[at + 2..]).to_be_bytes();
+    let check = crc16(0, behind(out, at + 2)).to_be_bytes();
     place(out, at, &check);
 }
 
