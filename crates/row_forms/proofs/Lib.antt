@@ -3,6 +3,7 @@ pub mod HexLemmas
 pub mod NumberLemmas
 pub mod PartsLemmas
 pub mod RowLemmas
+pub mod SpellingLemmas
 pub mod StepLemmas
 pub mod TextLemmas
 pub mod WordsLemmas

@@ -187,7 +187,7 @@ differs_first : (c d : ℕ) (cs ds : List ℕ) → (c == d) ≡ false → bytes_
 differs_first c d cs ds other = rw other refl
 
 digit_other : (c d : ℕ) → not (is_digit c 10) ≡ true → is_digit d 10 ≡ true → (c == d) ≡ false
-digit_other c d no is = by (c == d) refl where
+digit_other c d plain is = by (c == d) refl where
   by : (b : Bool) → (c == d) ≡ b → (c == d) ≡ false
   by false e = e
   by true e =
@@ -205,13 +205,7 @@ pub decimal_differs : (text : List ℕ) (n : ℕ) → begins_plain text ≡ true
 decimal_differs text n plain small = digits_differ text (decimal n) plain (own n small) (some_digits n small)
 
 plus_no_digit : (d : ℕ) → is_digit d 10 ≡ true → (d == 43) ≡ false
-plus_no_digit d is = by (d == 43) refl where
-  by : (b : Bool) → (d == 43) ≡ b → (d == 43) ≡ false
-  by false e = e
-  by true e =
-      let same : d ≡ 43 = grind (arith, nat_tests) in
-      let none : is_digit 43 10 ≡ true = rw (← same) is in
-      absurd (cc)
+plus_no_digit d is = grind (arith, nat_tests)
 
 no_plus : (ds : List ℕ) → AllDigits 10 ds → 0 < length ds → (get_or ds 0 0 == 43) ≡ false
 no_plus [] all some = absurd (omega (arith, some))

@@ -3,6 +3,7 @@
 
 mod fault;
 mod field;
+pub mod laws;
 mod numbers;
 mod parts;
 mod rows;
