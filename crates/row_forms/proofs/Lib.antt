@@ -1,9 +1,11 @@
+pub mod BackLemmas
 pub mod BlockLemmas
 pub mod HexLemmas
 pub mod NumberLemmas
 pub mod PartsLemmas
 pub mod RowLemmas
 pub mod SpellingLemmas
+pub mod SizeLemmas
 pub mod StepLemmas
 pub mod TextLemmas
 pub mod WordsLemmas

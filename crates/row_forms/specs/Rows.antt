@@ -13,7 +13,7 @@ use Rattle.row_forms.specs.declared.fault.ReadError.{ReadError}
 use Rattle.row_forms.specs.declared.fault.ReadError.TheVariants as errors
 use Rattle.row_forms.specs.declared.fault.Refusal.{Refusal}
 use Rattle.row_forms.specs.declared.fault.Refusal.TheVariants as refusals
-use Rattle.row_forms.specs.Values.{value_said, width, can_show, value_shown, reason_of, is_kind}
+use Rattle.row_forms.specs.Values.{value_said, width, can_show, value_shown, reason_of, is_kind, fixed_size}
 
 -- bytes in front of bytes that are said
 abbrev pub with_front : {E : Type 0} → List ℕ → Result (List ℕ) E → Result (List ℕ) E
@@ -120,3 +120,14 @@ GivesValue None old new is_said = is_said ≡ false
 abbrev pub error_at : ℕ → Refusal → ReadError
 error_at n (refusals.Memory e) = errors.Memory e
 error_at n (refusals.Because reason) = errors.Row (fault_at n reason)
+
+abbrev pub plus_size : Option ℕ → Option ℕ → Option ℕ
+plus_size (Some m) (Some n) = Some (m + n)
+plus_size m n = None
+
+-- how many bytes a row says, where no field is all that is left
+unfoldable pub row_size : List Field → Option ℕ
+row_size [] = Some 0
+row_size (Value key kind ∷ fs) = plus_size (fixed_size kind) (row_size fs)
+row_size (Zeros count ∷ fs) = plus_size (Some count) (row_size fs)
+row_size (Check ∷ fs) = plus_size (Some 2) (row_size fs)

@@ -1,5 +1,5 @@
 -- What a value's text says in bytes, and the text that bytes have.
-use Rattle.std.specs.Prelude.{ℕ, zero, suc, ◌+◌, ◌-◌, ◌*◌, ◌==◌, Bool, true, false, ◌&&◌, if◌then◌else◌, nat_lt, nat_le, List, [], ◌∷◌, ◌++◌, length, take, drop, map, replicate, codes, Option, Some, None, option_map, option_and_then}
+use Rattle.std.specs.Prelude.{◌≡◌, ◌≤◌, ℕ, zero, suc, ◌+◌, ◌-◌, ◌*◌, ◌==◌, Bool, true, false, ◌&&◌, if◌then◌else◌, nat_lt, nat_le, List, [], ◌∷◌, ◌++◌, length, take, drop, map, replicate, codes, Option, Some, None, option_map, option_and_then}
 use Rattle.std.specs.List.{list_all, flat_map}
 use Rattle.packet_forms.specs.Hex.{hex}
 use Rattle.packet_forms.specs.Names.{is_name, name_text}
@@ -109,3 +109,16 @@ is_kind (Number w spelling) = is_spelling w spelling
 is_kind Name = true
 is_kind Block = true
 is_kind (Expression words) = are_choices 65535 words.now
+
+-- how many bytes a value has, where it isn't all that is left
+abbrev pub fixed_size : Kind → Option ℕ
+fixed_size (Number w spelling) = Some (bytes_of w)
+fixed_size Name = Some 20
+fixed_size Block = None
+fixed_size (Expression words) = Some 34
+
+-- these bytes are the number that a text says
+pub record IsSaidNumber (epoch : Option ℕ) (w : Width) (s : Spelling) (text bytes : List ℕ) : Type 0 where
+  pub number : number_said epoch w s text ≡ Some (number_at w bytes)
+  pub within : number_at w bytes ≤ most_of w
+  pub size : length bytes ≡ bytes_of w
