@@ -3,3 +3,4 @@ pub mod Lists
 pub mod Numbers
 pub mod Values
 pub mod Rows
+pub mod Worked

@@ -52,7 +52,7 @@ fn hex_digit(value: u8) -> u8
 }
 
 /// Appends the two hexadecimal digits of each byte.
-pub(crate) fn push_hex(bytes: &[u8], out: &mut Vec<u8>) -> Result<(), AllocError>
+pub fn push_hex(bytes: &[u8], out: &mut Vec<u8>) -> Result<(), AllocError>
     ensures { OnOk result (out.new.items ≡ out.old.items ++ hex bytes.now) }
 {
     for byte in bytes {

@@ -15,22 +15,9 @@ use packet_forms::{are_zeros, be16, behind, crc16, place};
 use std::alloc::AllocError;
 
 /// Reads the words of a line as a row, and appends the bytes that they say. `epoch` is what times such as `+0:01:00` are counted
-/// from, where the text has one. The fault is that of the first word that doesn't fit. What is appended where there is a fault has no
-/// meaning.
+/// from, where the text has one, and `word` the number of the line's first word among those of the text's line. The fault is that of
+/// the first word that doesn't fit. What is appended where there is a fault has no meaning.
 pub fn read_row(
-    epoch: Option<u32>,
-    fields: &[Field],
-    line: &[u8],
-    out: &mut Vec<u8>,
-) -> Result<(), ReadError>
-    requires { length fields.now < 2 ^ 16 }
-    ensures { Gives (with_front out.old.items (row_said epoch 1 fields.now (words line.now))) out.new.items result }
-{
-    read_fields(epoch, fields, 1, line, out)
-}
-
-/// Reads the words of a line, the first of which is so many-th of the row.
-fn read_fields(
     epoch: Option<u32>,
     fields: &[Field],
     word: usize,
@@ -49,12 +36,12 @@ fn read_fields(
                 return Err(fault_at(word, Reason::Missing));
             };
             match read_field(epoch, key, kind, text, out) {
-                Ok(()) => read_fields(epoch, fields, word + 1, line, out),
+                Ok(()) => read_row(epoch, fields, word + 1, line, out),
                 Err(refusal) => Err(error_at(word, refusal)),
             }
         }
         Field::Zeros(count) => match push_zeros(*count, out) {
-            Ok(()) => read_fields(epoch, fields, word, line, out),
+            Ok(()) => read_row(epoch, fields, word, line, out),
             Err(error) => Err(ReadError::Memory(error)),
         },
         Field::Check => {
@@ -62,7 +49,7 @@ fn read_fields(
             if let Err(error) = push_zeros(2, out) {
                 return Err(ReadError::Memory(error));
             }
-            match read_fields(epoch, fields, word, line, out) {
+            match read_row(epoch, fields, word, line, out) {
                 Ok(()) => {
                     seal(at, out);
                     Ok(())
@@ -102,7 +89,7 @@ fn end_of_row(word: usize, line: &[u8]) -> Result<(), ReadError>
 
 /// What comes behind `KEY=`.
 #[tactic(auto, unfolding(crate::specs::Rows::behind_key))]
-fn behind_key<'a>(key: &str, word: &'a [u8]) -> Option<&'a [u8]>
+pub fn behind_key<'a>(key: &str, word: &'a [u8]) -> Option<&'a [u8]>
     ensures { MatchOption result (behind_key key.now word.now ≡ None) (λ text. behind_key key.now word.now ≡ Some text.now) }
 {
     let key = key.as_bytes();

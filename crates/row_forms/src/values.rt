@@ -45,7 +45,7 @@ pub(crate) fn read_value(
 }
 
 /// Appends the bytes that pairs of hexadecimal digits write, the higher digit first.
-fn read_block(text: &[u8], out: &mut Vec<u8>) -> Result<bool, AllocError>
+pub fn read_block(text: &[u8], out: &mut Vec<u8>) -> Result<bool, AllocError>
     ensures { IfOk result (GivesValue (hex_said text.now) out.old.items out.new.items) }
 {
     if text.len() % 2 != 0 {
