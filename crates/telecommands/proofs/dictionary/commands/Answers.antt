@@ -1,0 +1,13 @@
+use Rattle.std.proofs.Common.{refl}
+use Rattle.row_forms.specs.Rows.{behind_key}
+use Rattle.row_forms.specs.Values.{is_kind}
+use Rattle.telecommands.specs.Commands.{is_good, are_good, are_distinct}
+use Rattle.telecommands.proofs.dictionary.commands.Goals as goal
+
+pub returns-clause-good : goal.returns-clause-good
+unfolding is_good are_good behind_key is_kind
+returns-clause-good c = refl
+
+pub returns-clause-distinct : goal.returns-clause-distinct
+unfolding are_distinct
+returns-clause-distinct c = refl
