@@ -39,7 +39,7 @@ all_take P zero xs all = tt
 all_take P (suc n) [] all = tt
 all_take P (suc n) (x ∷ xs) all = (all.0, all_take P n xs all.1)
 
-all_drop : (P : ℕ → Type 0) (n : ℕ) (xs : List ℕ) → AllByRecursion P xs → AllByRecursion P (drop n xs)
+pub all_drop : (P : ℕ → Type 0) (n : ℕ) (xs : List ℕ) → AllByRecursion P xs → AllByRecursion P (drop n xs)
 all_drop P zero xs all = all
 all_drop P (suc n) [] all = tt
 all_drop P (suc n) (x ∷ xs) all = all_drop P n xs all.1
@@ -237,7 +237,7 @@ value_plain (Expression words) bytes good all e = expression_plain words.now byt
 
 -- ---- rows
 
-key_plain : (key : List ℕ) → list_all (nat_lt 32) key ≡ true → AllByRecursion IsPlain key
+pub key_plain : (key : List ℕ) → list_all (nat_lt 32) key ≡ true → AllByRecursion IsPlain key
 key_plain [] e = tt
 key_plain (b ∷ key) e =
     let both = and_both (nat_lt 32 b) (list_all (nat_lt 32) key) e in
@@ -252,7 +252,7 @@ bytes_same [] = refl
 bytes_same (x ∷ xs) = let e : nat_eq x x ≡ true = grind (arith, nat_tests) in rw (e, bytes_same xs) refl
 
 -- what comes behind the key of a word
-key_back : (key text : List ℕ) → behind_key key (word_shown key text) ≡ Some text
+pub key_back : (key text : List ℕ) → behind_key key (word_shown key text) ≡ Some text
 unfolding behind_key
 key_back key text =
     let front : starts_with nat_eq (key ++ 61 ∷ text) key ≡ true = rw (take-append_seam key (61 ∷ text)) (bytes_same key) in

@@ -59,7 +59,7 @@ space_first : (rest : List ℕ) → words (32 ∷ rest) ≡ words rest
 unfolding words
 space_first rest = refl
 
-word_alone : (w : List ℕ) → IsWord w → words w ≡ w ∷ []
+pub word_alone : (w : List ℕ) → IsWord w → words w ≡ w ∷ []
 unfolding words
 word_alone w is = ap (filter is_word) (split_none (λ b. b == 32) w (all_map IsPlain _ plain_no_space w is.1)) ∙ word_cons w [] is.0
 

@@ -179,7 +179,7 @@ bytes_same : (xs : List ℕ) → bytes_eq xs xs ≡ true
 bytes_same [] = refl
 bytes_same (x ∷ xs) = let e : nat_eq x x ≡ true = grind (arith, nat_tests) in rw (e, bytes_same xs) refl
 
-same_bytes : (xs ys : List ℕ) → bytes_eq xs ys ≡ true → xs ≡ ys
+pub same_bytes : (xs ys : List ℕ) → bytes_eq xs ys ≡ true → xs ≡ ys
 same_bytes [] [] e = refl
 same_bytes [] (y ∷ ys) e = absurd (false≢true e)
 same_bytes (x ∷ xs) [] e = absurd (false≢true e)
@@ -225,9 +225,9 @@ other_name first c [] packet others e = absurd (none_some e)
 other_name first c (d ∷ cs) packet others e =
     let both = and_both (not (bytes_eq d.name.now first.name.now)) (list_all (λ d. not (bytes_eq d.name.now first.name.now)) cs) others in
     by (shows packet d) e (not_false (bytes_eq d.name.now first.name.now) both.0) (other_name first c cs packet both.1) where
-  by : (b : Bool) → (if b then Some d else showing cs packet) ≡ Some c → bytes_eq d.name.now first.name.now ≡ false → (showing cs packet ≡ Some c → bytes_eq c.name.now first.name.now ≡ false) → bytes_eq c.name.now first.name.now ≡ false
-  by true f here behind = let same = some_same d c f in rw (← same) here
-  by false f here behind = behind f
+      by : (b : Bool) → (if b then Some d else showing cs packet) ≡ Some c → bytes_eq d.name.now first.name.now ≡ false → (showing cs packet ≡ Some c → bytes_eq c.name.now first.name.now ≡ false) → bytes_eq c.name.now first.name.now ≡ false
+      by true f here behind = let same = some_same d c f in rw (← same) here
+      by false f here behind = behind f
 
 -- the first command that shows a packet is the first of its name
 pub found_is : (cs : List Command) (packet : List ℕ) (c : Command) → are_good cs ≡ true → are_distinct cs ≡ true → showing cs packet ≡ Some c → IsFound cs packet c
@@ -236,15 +236,15 @@ found_is (d ∷ cs) packet c good distinct e =
     let goods = good_cons d cs good in
     let names = distinct_is d cs distinct in
     by (shows packet d) refl (sym (showing_cons d cs packet) ∙ e) goods.0 (found_is cs packet c goods.1 names.1) (other_name d c cs packet names.0) where
-  by : (b : Bool) → shows packet d ≡ b → (if b then Some d else showing cs packet) ≡ Some c → is_good d ≡ true → (showing cs packet ≡ Some c → IsFound cs packet c) → (showing cs packet ≡ Some c → bytes_eq c.name.now d.name.now ≡ false) → IsFound (d ∷ cs) packet c
-  by true s f here behind other =
-      let same = some_same d c f in
-      record {
-        good = rw (← same) here;
-        shown = rw (← same) s;
-        name = rw (← same) (named_cons d cs d.name.now ∙ rw (bytes_same d.name.now) refl);
-      }
-  by false s f here behind other =
-      let is = behind f in
-      let differs = bytes_turned c.name.now d.name.now (other f) in
-      record { good = is.good; shown = is.shown; name = named_cons d cs c.name.now ∙ rw differs is.name }
+      by : (b : Bool) → shows packet d ≡ b → (if b then Some d else showing cs packet) ≡ Some c → is_good d ≡ true → (showing cs packet ≡ Some c → IsFound cs packet c) → (showing cs packet ≡ Some c → bytes_eq c.name.now d.name.now ≡ false) → IsFound (d ∷ cs) packet c
+      by true s f here behind other =
+          let same = some_same d c f in
+          record {
+            good = rw (← same) here;
+            shown = rw (← same) s;
+            name = rw (← same) (named_cons d cs d.name.now ∙ rw (bytes_same d.name.now) refl);
+          }
+      by false s f here behind other =
+          let is = behind f in
+          let differs = bytes_turned c.name.now d.name.now (other f) in
+          record { good = is.good; shown = is.shown; name = named_cons d cs c.name.now ∙ rw differs is.name }

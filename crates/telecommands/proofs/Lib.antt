@@ -1,1 +1,3 @@
 pub mod CommandLemmas
+pub mod PlaceLemmas
+pub mod ReadBackLemmas

@@ -1,11 +1,12 @@
 //! The commands of the applications, as docs/COMMANDS.md lists them.
-ghost use Rattle.std.specs.Prelude.{◌≡◌, true};
+ghost use Rattle.std.specs.Prelude.{◌≡◌, true, map};
 ghost use Rattle.telecommands.specs.Commands.{are_good, are_distinct};
+ghost use Rattle.telecommands.specs.Dictionary.{placed, dictionary};
 
 use crate::command::Command;
 use packet_forms::message_ids::{
-    CS_COMMAND, CS_REQUEST, HS_COMMAND, HS_REQUEST, LC_COMMAND, LC_REQUEST, MD_COMMAND, MD_REQUEST, MM_COMMAND, MM_REQUEST,
-    SC_COMMAND, SC_REQUEST,
+    CS_COMMAND, CS_REQUEST, HS_COMMAND, HS_REQUEST, LC_COMMAND, LC_REQUEST, MD_COMMAND, MD_REQUEST,
+    MM_COMMAND, MM_REQUEST, SC_COMMAND, SC_REQUEST,
 };
 use row_forms::Field::{Check, Value};
 use row_forms::Kind::{Block, Number};
@@ -14,28 +15,63 @@ use row_forms::Width::{U8, U16, U32};
 use row_forms::{Field, Kind};
 
 const BYTE: Kind = Number(U8, Decimal);
+
 const COUNT: Kind = Number(U16, Decimal);
+
 const LENGTH: Kind = Number(U32, Decimal);
+
 const FILLED: Kind = Number(U8, Hex);
+
 const ADDRESS: Kind = Number(U32, Hex);
+
 const BITS: Kind = Number(U16, Mask);
+
 const SECONDS: Kind = Number(U32, Time);
 
 const NO_FIELDS: &[Field] = &[];
+
 const MAXIMUM: &[Field] = &[Value("maximum", COUNT)];
+
 const PEEK: &[Field] = &[Value("width", BYTE), Value("address", ADDRESS)];
-const POKE: &[Field] = &[Value("width", BYTE), Value("address", ADDRESS), Value("value", ADDRESS)];
+
+const POKE: &[Field] = &[
+    Value("width", BYTE),
+    Value("address", ADDRESS),
+    Value("value", ADDRESS),
+];
+
 const LOAD: &[Field] = &[Value("address", ADDRESS), Check, Value("bytes", Block)];
+
 const LOAD_FILE: &[Field] = &[Value("load", COUNT)];
-const FILL: &[Field] = &[Value("address", ADDRESS), Value("length", LENGTH), Value("byte", FILLED)];
+
+const FILL: &[Field] = &[
+    Value("address", ADDRESS),
+    Value("length", LENGTH),
+    Value("byte", FILLED),
+];
+
 const REGION: &[Field] = &[Value("region", BYTE)];
+
 const DUMP: &[Field] = &[Value("address", ADDRESS), Value("length", LENGTH)];
+
 const TABLES: &[Field] = &[Value("tables", BITS)];
-const JAM: &[Field] = &[Value("table", COUNT), Value("entry", COUNT), Value("length", COUNT), Value("delay", COUNT), Value("address", ADDRESS)];
+
+const JAM: &[Field] = &[
+    Value("table", COUNT),
+    Value("entry", COUNT),
+    Value("length", COUNT),
+    Value("delay", COUNT),
+    Value("address", ADDRESS),
+];
+
 const TABLE: &[Field] = &[Value("table", COUNT)];
+
 const ENTRY: &[Field] = &[Value("table", COUNT), Value("entry", COUNT)];
+
 const NUMBER: &[Field] = &[Value("number", COUNT)];
+
 const TIME: &[Field] = &[Value("time", SECONDS)];
+
 const POINT: &[Field] = &[Value("point", COUNT)];
 
 /// How many commands there are.
@@ -358,6 +394,7 @@ static COMMANDS: [Command; COUNT_OF_COMMANDS] = [
 
 /// Every command of the six applications and the requests for their housekeeping.
 pub fn commands() -> &'static [Command]
+    ensures listed { map placed result.now ≡ dictionary }
     ensures good { are_good result.now ≡ true }
     ensures distinct { are_distinct result.now ≡ true }
 {

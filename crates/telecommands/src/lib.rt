@@ -4,6 +4,7 @@
 mod command;
 mod dictionary;
 mod fault;
+pub mod laws;
 mod reading;
 mod showing;
 
@@ -12,3 +13,6 @@ pub use dictionary::commands;
 pub use fault::{CommandFault, ReadError};
 pub use reading::read_command;
 pub use showing::show_command;
+
+#[cfg(test)]
+mod tests;

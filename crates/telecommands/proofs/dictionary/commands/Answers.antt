@@ -2,6 +2,7 @@ use Rattle.std.proofs.Common.{refl}
 use Rattle.row_forms.specs.Rows.{behind_key}
 use Rattle.row_forms.specs.Values.{is_kind}
 use Rattle.telecommands.specs.Commands.{is_good, are_good, are_distinct}
+use Rattle.telecommands.specs.Dictionary.{dictionary, hs_rows, mm_rows, md_rows, cs_rows, sc_rows, lc_rows}
 use Rattle.telecommands.proofs.dictionary.commands.Goals as goal
 
 pub returns-clause-good : goal.returns-clause-good
@@ -11,3 +12,7 @@ returns-clause-good c = refl
 pub returns-clause-distinct : goal.returns-clause-distinct
 unfolding are_distinct
 returns-clause-distinct c = refl
+
+pub returns-clause-listed : goal.returns-clause-listed
+unfolding dictionary hs_rows mm_rows md_rows cs_rows sc_rows lc_rows
+returns-clause-listed c = refl
