@@ -261,9 +261,9 @@ key_back key text =
     let behind : drop (length key + 1) (key ++ 61 ∷ text) ≡ text = rw (long, ← append_assoc key (61 ∷ []) text) (drop-append_seam (key ++ 61 ∷ []) text) in
     rw (front, here) (ap Some behind)
   where
-  at_seam : (xs : List ℕ) (y : ℕ) (ys : List ℕ) → get_or (xs ++ y ∷ ys) (length xs) 0 ≡ y
-  at_seam [] y ys = refl
-  at_seam (x ∷ xs) y ys = at_seam xs y ys
+    at_seam : (xs : List ℕ) (y : ℕ) (ys : List ℕ) → get_or (xs ++ y ∷ ys) (length xs) 0 ≡ y
+    at_seam [] y ys = refl
+    at_seam (x ∷ xs) y ys = at_seam xs y ys
 
 field_back : (epoch : Option ℕ) (key : List ℕ) (kind : Kind) (bytes : List ℕ) → is_kind kind ≡ true → AllByRecursion (λ b. b < 256) bytes → can_show kind bytes ≡ true → field_said epoch key kind (word_shown key (value_shown kind bytes)) ≡ Ok bytes
 unfolding field_said

@@ -60,7 +60,6 @@ hex_odd_at (x ∷ y ∷ rest) front h = absurd (omega (arith, h))
 pub hex_odd : (w front : List ℕ) (i : ℕ) → length w ≡ 2 * i + 1 → onto front (hex_said (drop (2 * i) w)) ≡ None
 hex_odd w front i h = hex_odd_at _ front (length-drop (2 * i) w ∙ omega arith)
 
-
 odd_one : (b : Bool) (n : ℕ) → (if b then before n None else None) ≡ None
 odd_one true n = refl
 odd_one false n = refl

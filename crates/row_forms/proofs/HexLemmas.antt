@@ -52,7 +52,6 @@ hex_is_bytes (b ∷ bytes) all =
     let whole : 16 * (b / 16) + b % 16 ≡ b = omega arith in
     rw (high.0, low.0, high.1, low.1, hex_is_bytes bytes all.1, whole) refl
 
-
 hex_digits_are : (bytes : List ℕ) → AllByRecursion (λ b. b < 256) bytes → list_all (λ c. is_digit c 16) (hex bytes) ≡ true
 unfolding hex
 hex_digits_are [] all = refl

@@ -5,6 +5,7 @@ pub mod NumberLemmas
 pub mod PartsLemmas
 pub mod RowLemmas
 pub mod SpellingLemmas
+pub mod RowNumberLemmas
 pub mod SizeLemmas
 pub mod StepLemmas
 pub mod TextLemmas

@@ -188,7 +188,7 @@ keyed_size : (epoch : Option ℕ) (kind : Kind) (o : Option (List ℕ)) (bytes :
 keyed_size epoch kind None bytes size f e = absurd (cc)
 keyed_size epoch kind (Some text) bytes size f e = value_size epoch kind text bytes size f (or_size (reason_of kind) (value_said epoch kind text) bytes e)
 
-field_size : (epoch : Option ℕ) (key : List ℕ) (kind : Kind) (word bytes : List ℕ) (size : ℕ) → fixed_size kind ≡ Some size → field_said epoch key kind word ≡ Ok bytes → length bytes ≡ size
+pub field_size : (epoch : Option ℕ) (key : List ℕ) (kind : Kind) (word bytes : List ℕ) (size : ℕ) → fixed_size kind ≡ Some size → field_said epoch key kind word ≡ Ok bytes → length bytes ≡ size
 unfolding field_said
 field_size epoch key kind word bytes size f e = keyed_size epoch kind (behind_key key word) bytes size f e
 

@@ -44,25 +44,37 @@ pub number_is : (w : Width) (bytes : List ℕ) → length bytes ≡ bytes_of w �
 unfolding be16_at be32_at be16_bytes be32_bytes
 number_is U8 [] long all = absurd (omega (arith, long))
 number_is U8 (a ∷ []) long all = let small = all.0 in record {
-  within = omega (arith, small); small = omega (arith, small);
+  within = omega (arith, small);
+  small = omega (arith, small);
   back = (let same : a % 256 ≡ a = omega (arith, small) in cc);
-  horner = omega arith; some = omega arith; few = omega arith }
+  horner = omega arith;
+  some = omega arith;
+  few = omega arith;
+}
 number_is U8 (a ∷ b ∷ rest) long all = absurd (omega (arith, long))
 number_is U16 [] long all = absurd (omega (arith, long))
 number_is U16 (a ∷ []) long all = absurd (omega (arith, long))
 number_is U16 (a ∷ b ∷ []) long all = let first = all.0 in let second = all.1.0 in record {
-  within = omega (arith, first, second); small = omega (arith, first, second);
+  within = omega (arith, first, second);
+  small = omega (arith, first, second);
   back = two _ _ _ _ (omega (arith, first, second)) (omega (arith, first, second));
-  horner = omega arith; some = omega arith; few = omega arith }
+  horner = omega arith;
+  some = omega arith;
+  few = omega arith;
+}
 number_is U16 (a ∷ b ∷ c ∷ rest) long all = absurd (omega (arith, long))
 number_is U32 [] long all = absurd (omega (arith, long))
 number_is U32 (a ∷ []) long all = absurd (omega (arith, long))
 number_is U32 (a ∷ b ∷ []) long all = absurd (omega (arith, long))
 number_is U32 (a ∷ b ∷ c ∷ []) long all = absurd (omega (arith, long))
 number_is U32 (a ∷ b ∷ c ∷ d ∷ []) long all = let f1 = all.0 in let f2 = all.1.0 in let f3 = all.1.1.0 in let f4 = all.1.1.1.0 in record {
-  within = omega (arith, f1, f2, f3, f4); small = omega (arith, f1, f2, f3, f4);
+  within = omega (arith, f1, f2, f3, f4);
+  small = omega (arith, f1, f2, f3, f4);
   back = four _ _ _ _ _ _ _ _ (omega (arith, f1, f2, f3, f4)) (omega (arith, f1, f2, f3, f4)) (omega (arith, f1, f2, f3, f4)) (omega (arith, f1, f2, f3, f4));
-  horner = omega arith; some = omega arith; few = omega arith }
+  horner = omega arith;
+  some = omega arith;
+  few = omega arith;
+}
 number_is U32 (a ∷ b ∷ c ∷ d ∷ e ∷ rest) long all = absurd (omega (arith, long))
 
 -- ---- choices
@@ -145,9 +157,9 @@ others_first : (text : List ℕ) (c : Choice) (cs : List Choice) → list_all (�
 others_first text c cs e =
     let both = and_both (not (bytes_eq c.text.now text)) (list_all (λ d. not (bytes_eq d.text.now text)) cs) e in
     (by (bytes_eq c.text.now text) both.0, both.1) where
-  by : (b : Bool) → not b ≡ true → b ≡ false
-  by true h = absurd (cc)
-  by false h = refl
+      by : (b : Bool) → not b ≡ true → b ≡ false
+      by true h = absurd (cc)
+      by false h = refl
 
 -- no text of other choices is this one
 differs : (text : List ℕ) (cs : List Choice) (n : ℕ) → begins_plain text ≡ true → list_all (λ d. not (bytes_eq d.text.now text)) cs ≡ true → n < 4294967296 → bytes_eq text (choice_shown cs n) ≡ false
@@ -155,9 +167,9 @@ differs text [] n plain others small = rw (shown_none n) (decimal_differs text n
 differs text (c ∷ cs) n plain others small =
     let both = others_first text c cs others in
     by (c.number == n) refl (bytes_turned c.text.now text both.0) (differs text cs n plain both.1 small) where
-  by : (b : Bool) → (c.number == n) ≡ b → bytes_eq text c.text.now ≡ false → bytes_eq text (choice_shown cs n) ≡ false → bytes_eq text (choice_shown (c ∷ cs) n) ≡ false
-  by true e here behind = rw (shown_here c cs n e) here
-  by false e here behind = rw (shown_behind c cs n e) behind
+      by : (b : Bool) → (c.number == n) ≡ b → bytes_eq text c.text.now ≡ false → bytes_eq text (choice_shown cs n) ≡ false → bytes_eq text (choice_shown (c ∷ cs) n) ≡ false
+      by true e here behind = rw (shown_here c cs n e) here
+      by false e here behind = rw (shown_behind c cs n e) behind
 
 -- the text of a number says it
 pub choice_back : (most : ℕ) (cs : List Choice) (n : ℕ) → are_choices most cs ≡ true → n ≤ most → n < 4294967296 → choice_said most cs (choice_shown cs n) ≡ Some n
@@ -165,12 +177,12 @@ choice_back most [] n good within small = said_none most (choice_shown [] n) ∙
 choice_back most (c ∷ cs) n good within small =
     let is = choices_are most c cs good in
     by (c.number == n) refl (differs c.text.now cs n (text_begins c.text.now is.text) is.others small) (choice_back most cs n is.behind within small) where
-  by : (b : Bool) → (c.number == n) ≡ b → bytes_eq c.text.now (choice_shown cs n) ≡ false → choice_said most cs (choice_shown cs n) ≡ Some n → choice_said most (c ∷ cs) (choice_shown (c ∷ cs) n) ≡ Some n
-  by true e other behind =
-      let same : c.number ≡ n = grind (arith, nat_tests) in
-      let low : nat_le n most ≡ true = grind (arith, nat_tests) in
-      rw (shown_here c cs n e) (said_here most c cs c.text.now (bytes_same c.text.now) ∙ rw (same, low) refl)
-  by false e other behind = rw (shown_behind c cs n e) (said_behind most c cs (choice_shown cs n) other ∙ behind)
+      by : (b : Bool) → (c.number == n) ≡ b → bytes_eq c.text.now (choice_shown cs n) ≡ false → choice_said most cs (choice_shown cs n) ≡ Some n → choice_said most (c ∷ cs) (choice_shown (c ∷ cs) n) ≡ Some n
+      by true e other behind =
+          let same : c.number ≡ n = grind (arith, nat_tests) in
+          let low : nat_le n most ≡ true = grind (arith, nat_tests) in
+          rw (shown_here c cs n e) (said_here most c cs c.text.now (bytes_same c.text.now) ∙ rw (same, low) refl)
+      by false e other behind = rw (shown_behind c cs n e) (said_behind most c cs (choice_shown cs n) other ∙ behind)
 
 -- and is a mark
 pub choice_is_mark : (most : ℕ) (cs : List Choice) (n : ℕ) → are_choices most cs ≡ true → n < 4294967296 → AllByRecursion IsMark (choice_shown cs n)
@@ -178,9 +190,9 @@ choice_is_mark most [] n good small = rw (shown_none n) (decimal_marks n small)
 choice_is_mark most (c ∷ cs) n good small =
     let is = choices_are most c cs good in
     by (c.number == n) refl (text_marks c.text.now is.text) (choice_is_mark most cs n is.behind small) where
-  by : (b : Bool) → (c.number == n) ≡ b → AllByRecursion IsMark c.text.now → AllByRecursion IsMark (choice_shown cs n) → AllByRecursion IsMark (choice_shown (c ∷ cs) n)
-  by true e here behind = rw (shown_here c cs n e) here
-  by false e here behind = rw (shown_behind c cs n e) behind
+      by : (b : Bool) → (c.number == n) ≡ b → AllByRecursion IsMark c.text.now → AllByRecursion IsMark (choice_shown cs n) → AllByRecursion IsMark (choice_shown (c ∷ cs) n)
+      by true e here behind = rw (shown_here c cs n e) here
+      by false e here behind = rw (shown_behind c cs n e) behind
 
 -- ---- masks
 
@@ -233,17 +245,17 @@ bits_back (suc k) bits first last n above room few small =
     let high : n / 2 < 2 ^ k = half_small k n small in
     let next : first + 1 + k ≡ bits + 1 = omega (arith, room) in
     by (n % 2 == 1) refl (bits_back k bits (first + 1) first (n / 2) (omega arith) next few high) (bits_back k bits (first + 1) last (n / 2) (omega (arith, above)) next few high) where
-  by : (b : Bool) → (n % 2 == 1) ≡ b → bits_said bits first (map decimal (bits_of k (first + 1) (n / 2))) ≡ Some (n / 2 * 2 ^ (first + 1 - 1)) → bits_said bits last (map decimal (bits_of k (first + 1) (n / 2))) ≡ Some (n / 2 * 2 ^ (first + 1 - 1)) → bits_said bits last (map decimal (bits_of (suc k) first n)) ≡ Some (n * 2 ^ (first - 1))
-  by true e behind other =
-      let odd : n ≡ 2 * (n / 2) + 1 = let h : n % 2 ≡ 1 = grind (arith, nat_tests) in omega (arith, h) in
-      let power = power_next first (omega (arith, above)) in
-      rw (bits_odd k first n e)
-      (bit_before bits last first (n / 2 * 2 ^ (first + 1 - 1)) (decimal first) (map decimal (bits_of k (first + 1) (n / 2))) (bit_is bits last first above (omega (arith, room)) few) behind
-      ∙ ap Some (ap (λ (p : ℕ). 2 ^ (first - 1) + n / 2 * p) power ∙ odd_power (n / 2) (2 ^ (first - 1)) ∙ ap (λ (m : ℕ). m * 2 ^ (first - 1)) (sym odd)))
-  by false e behind other =
-      let even : n ≡ 2 * (n / 2) = let h : n % 2 ≡ 1 → ⊥ = grind (arith, nat_tests) in omega (arith, h) in
-      let power = power_next first (omega (arith, above)) in
-      rw (bits_even k first n e) (other ∙ ap Some (ap (λ (p : ℕ). n / 2 * p) power ∙ even_power (n / 2) (2 ^ (first - 1)) ∙ ap (λ (m : ℕ). m * 2 ^ (first - 1)) (sym even)))
+      by : (b : Bool) → (n % 2 == 1) ≡ b → bits_said bits first (map decimal (bits_of k (first + 1) (n / 2))) ≡ Some (n / 2 * 2 ^ (first + 1 - 1)) → bits_said bits last (map decimal (bits_of k (first + 1) (n / 2))) ≡ Some (n / 2 * 2 ^ (first + 1 - 1)) → bits_said bits last (map decimal (bits_of (suc k) first n)) ≡ Some (n * 2 ^ (first - 1))
+      by true e behind other =
+          let odd : n ≡ 2 * (n / 2) + 1 = let h : n % 2 ≡ 1 = grind (arith, nat_tests) in omega (arith, h) in
+          let power = power_next first (omega (arith, above)) in
+          rw (bits_odd k first n e)
+          (bit_before bits last first (n / 2 * 2 ^ (first + 1 - 1)) (decimal first) (map decimal (bits_of k (first + 1) (n / 2))) (bit_is bits last first above (omega (arith, room)) few) behind
+          ∙ ap Some (ap (λ (p : ℕ). 2 ^ (first - 1) + n / 2 * p) power ∙ odd_power (n / 2) (2 ^ (first - 1)) ∙ ap (λ (m : ℕ). m * 2 ^ (first - 1)) (sym odd)))
+      by false e behind other =
+          let even : n ≡ 2 * (n / 2) = let h : n % 2 ≡ 1 → ⊥ = grind (arith, nat_tests) in omega (arith, h) in
+          let power = power_next first (omega (arith, above)) in
+          rw (bits_even k first n e) (other ∙ ap Some (ap (λ (p : ℕ). n / 2 * p) power ∙ even_power (n / 2) (2 ^ (first - 1)) ∙ ap (λ (m : ℕ). m * 2 ^ (first - 1)) (sym even)))
 
 bits_small : (k first n : ℕ) → first + k ≤ 33 → AllByRecursion (λ b. b < 4294967296) (bits_of k first n)
 bits_small zero first n room = rw (no_bits first n) tt

@@ -85,12 +85,14 @@ good_by (Some steps) commas old mid new end h few put given pad =
     let count = h steps refl in
     let within : nat_le (length steps) 16 ≡ true = grind (arith, nat_tests) in
     let room : 30 - 2 * commas ≡ 32 - 2 * length steps = omega arith in
-    rw within (refl,
+    rw within (
+      refl,
       pad ∙ ap (λ (bytes : List ℕ). bytes ++ replicate (30 - 2 * commas) 0) (given.1 ∙ ap (λ (bytes : List ℕ). bytes ++ flat_map be16_bytes steps) put)
-      ∙ ap (λ (n : ℕ). ((old ++ be16_bytes (commas + 1)) ++ flat_map be16_bytes steps) ++ replicate n 0) room
-      ∙ ap (λ (n : ℕ). ((old ++ be16_bytes n) ++ flat_map be16_bytes steps) ++ replicate (32 - 2 * length steps) 0) (sym count)
-      ∙ append_assoc (old ++ be16_bytes (length steps)) (flat_map be16_bytes steps) (replicate (32 - 2 * length steps) 0)
-      ∙ append_assoc old (be16_bytes (length steps)) (flat_map be16_bytes steps ++ replicate (32 - 2 * length steps) 0))
+          ∙ ap (λ (n : ℕ). ((old ++ be16_bytes (commas + 1)) ++ flat_map be16_bytes steps) ++ replicate n 0) room
+          ∙ ap (λ (n : ℕ). ((old ++ be16_bytes n) ++ flat_map be16_bytes steps) ++ replicate (32 - 2 * length steps) 0) (sym count)
+          ∙ append_assoc (old ++ be16_bytes (length steps)) (flat_map be16_bytes steps) (replicate (32 - 2 * length steps) 0)
+          ∙ append_assoc old (be16_bytes (length steps)) (flat_map be16_bytes steps ++ replicate (32 - 2 * length steps) 0),
+    )
 
 -- a whole expression
 pub expression_good : (words : List Choice) (text : List ℕ) (commas : ℕ) (old mid new end : List ℕ) → commas ≡ count_by (λ b. b == 44) text → commas ≤ 15 → mid ≡ old ++ be16_bytes (commas + 1) → GivesValue (steps_bytes (steps_said words (parts text))) mid new true → end ≡ new ++ replicate (30 - 2 * commas) 0 → GivesValue (expression_said words text) old end true

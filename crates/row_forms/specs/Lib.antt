@@ -3,4 +3,5 @@ pub mod Lists
 pub mod Numbers
 pub mod Values
 pub mod Rows
+pub mod RowNumbers
 pub mod Worked

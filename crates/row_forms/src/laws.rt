@@ -10,6 +10,7 @@ ghost use Rattle.row_forms.specs.declared.field.Width.TheVariants.{U16, U32};
 ghost use Rattle.row_forms.specs.Words.{words};
 ghost use Rattle.row_forms.specs.Values.{value_said, IsSaidNumber};
 ghost use Rattle.row_forms.specs.Rows.{fault_at, row_said, row_shown, row_size, is_row, are_fields};
+ghost use Rattle.row_forms.specs.RowNumbers.{numbers_said, numbers_in};
 ghost use Rattle.row_forms.specs.Worked.{worked_numbers as numbers_row, worked_block, worked_expression, worked_expression_bytes, worked_name};
 
 use crate::fault::Reason;
@@ -22,6 +23,11 @@ pub fn rows_read_back()
 /// The bytes that a number's text says are that number, in as many bytes as its width has.
 pub fn values_are_numbers()
     ensures { (epoch : Option ℕ) (w : Width) (s : Spelling) (text bytes : List ℕ) → value_said epoch (Number w s) text ≡ Some bytes → IsSaidNumber epoch w s text bytes }
+{}
+
+/// The numbers that the words of a row say stand in its bytes, in their order.
+pub fn rows_say_numbers()
+    ensures { (epoch : Option ℕ) (n : ℕ) (fields : List Field) (ws : List (List ℕ)) (bytes : List ℕ) → row_said epoch n fields ws ≡ Ok bytes → numbers_said epoch fields ws ≡ Some (numbers_in fields bytes) }
 {}
 
 /// A row without a block says as many bytes as its fields have.

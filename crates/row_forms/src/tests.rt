@@ -11,11 +11,23 @@ const FIELDS: &[Field] = &[
 #[test]
 fn a_row_is_read_and_shown(rt: HostRuntime) -> Result<(), Fail> {
     let mut bytes = Vec::new(rt.alloc());
-    read_row(None, FIELDS, 1, b"address=0x1020 bytes=313233343536373839", &mut bytes)?;
-    assert_eq!(rt; bytes.as_slice(), b"\0\0\x10\x20\xBB\x3D123456789".as_slice());
+    read_row(
+        None,
+        FIELDS,
+        1,
+        b"address=0x1020 bytes=313233343536373839",
+        &mut bytes,
+    )?;
+    assert_eq!(rt;
+        bytes.as_slice(),
+        b"\0\0\x10\x20\xBB\x3D123456789".as_slice()
+    );
     assert!(rt; is_row(FIELDS, &bytes));
     let mut line = Vec::new(rt.alloc());
     show_row(FIELDS, &bytes, &mut line)?;
-    assert_eq!(rt; line.as_slice(), b" address=0x00001020 bytes=313233343536373839".as_slice());
+    assert_eq!(rt;
+        line.as_slice(),
+        b" address=0x00001020 bytes=313233343536373839".as_slice()
+    );
     Ok(())
 }

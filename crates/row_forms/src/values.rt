@@ -81,11 +81,7 @@ fn count_commas(text: &[u8]) -> usize
 }
 
 /// Appends the expression whose steps a text says, between commas.
-fn read_expression(
-    words: &[Choice],
-    text: &[u8],
-    out: &mut Vec<u8>,
-) -> Result<bool, AllocError>
+fn read_expression(words: &[Choice], text: &[u8], out: &mut Vec<u8>) -> Result<bool, AllocError>
     ensures { IfOk result (GivesValue (expression_said words.now text.now) out.old.items out.new.items) }
 {
     let commas = count_commas(text);

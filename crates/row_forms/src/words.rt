@@ -144,4 +144,3 @@ pub(crate) fn name(word: &[u8]) -> Option<Name>
         Err(_) => None,
     }
 }
-
