@@ -15,3 +15,4 @@ pub mod Step
 pub mod State
 pub mod Telling
 pub mod Rows
+pub mod Decoded

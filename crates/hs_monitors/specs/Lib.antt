@@ -14,3 +14,4 @@ pub mod Cooldowns
 pub mod Entries
 pub mod State
 pub mod Rows
+pub mod Decoded

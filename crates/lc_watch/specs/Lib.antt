@@ -12,3 +12,4 @@ pub mod Housekeeping
 pub mod Step
 pub mod State
 pub mod Rows
+pub mod Decoded

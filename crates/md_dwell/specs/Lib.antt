@@ -14,3 +14,4 @@ pub mod Step
 pub mod Streams
 pub mod State
 pub mod Rows
+pub mod Decoded

@@ -7,3 +7,4 @@ pub mod Answers
 pub mod Step
 pub mod State
 pub mod Rows
+pub mod Decoded

@@ -13,3 +13,4 @@ pub mod KeptLaws
 pub mod State
 pub mod Rows
 pub mod Laws
+pub mod Decoded
