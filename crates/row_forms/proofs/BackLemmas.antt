@@ -1,12 +1,11 @@
 -- Lemmas on values and rows that are shown and read back.
-use Rattle.std.proofs.Common.{◌≡◌, ℕ, zero, suc, ◌+◌, ◌*◌, ◌-◌, ◌<◌, ◌≤◌, ◌/◌, ◌%◌, Bool, true, false, List, [], ◌∷◌, ◌++◌, length, take, drop, map, get_or, refl, sym, ◌∙◌, ap, arith, Option, Some, None, append_assoc, append-nil, length-append, length-take, length-drop, take_all, Bor}
-use Rattle.std.specs.Prelude.{◌==◌, ◌&&◌, not, if◌then◌else◌, nat_lt, nat_le, nat_eq, replicate, option_map, option_and_then, Result, Ok, Err}
+use Rattle.std.proofs.Common.{◌≡◌, ℕ, zero, suc, ◌+◌, ◌*◌, ◌-◌, ◌<◌, ◌≤◌, ◌/◌, ◌%◌, true, false, List, [], ◌∷◌, ◌++◌, length, take, drop, map, get_or, refl, sym, ◌∙◌, ap, arith, Option, Some, append_assoc, length-append, length-take, length-drop, Bor}
+use Rattle.std.specs.Prelude.{◌==◌, ◌&&◌, nat_lt, nat_le, nat_eq, replicate, option_map, Ok}
 use Rattle.std.specs.List.{AllByRecursion, list_all, flat_map, starts_with, position_or_len}
 use Rattle.std.specs.Str.{bytes_eq}
 use Rattle.std.proofs.lemmas.Bool.Decides.{nat_tests}
-use Rattle.std.proofs.lemmas.List.{take-append-drop, drop_all, drop-drop}
+use Rattle.std.proofs.lemmas.List.{take-append-drop}
 use Rattle.std.proofs.Math.Seq.{drop-append_seam, take-append_seam}
-use Rattle.packet_forms.specs.Hex.{hex}
 use Rattle.packet_forms.specs.Crc.{crc_of}
 use Rattle.packet_forms.specs.Names.{is_name, is_name_byte, is_name_text, name_text, name_of}
 use Rattle.packet_forms.specs.Numbers.{be16_at, be16_bytes}
@@ -16,19 +15,15 @@ use Rattle.row_forms.specs.declared.field.Field.{Field}
 use Rattle.row_forms.specs.declared.field.Field.TheVariants.{Value, Zeros, Check}
 use Rattle.row_forms.specs.declared.field.Kind.{Kind}
 use Rattle.row_forms.specs.declared.field.Kind.TheVariants.{Number, Name, Block, Expression}
-use Rattle.row_forms.specs.declared.field.Spelling.{Spelling}
-use Rattle.row_forms.specs.declared.field.Width.{Width}
-use Rattle.row_forms.specs.declared.fault.Reason.{Reason}
-use Rattle.row_forms.specs.declared.fault.RowFault.{RowFault}
-use Rattle.row_forms.specs.Words.{words, hex_said, name_said}
+use Rattle.row_forms.specs.Words.{words, name_said}
 use Rattle.row_forms.specs.Lists.{parts, listed}
-use Rattle.row_forms.specs.Numbers.{bytes_of, number_bytes, number_at, number_said, number_shown, choice_said, choice_shown, are_choices}
-use Rattle.row_forms.specs.Values.{is_spelling, is_kind, width, can_show, value_said, value_shown, steps_said, steps_at, expression_of, expression_said, expression_shown, is_expression, reason_of}
-use Rattle.row_forms.specs.Rows.{with_front, with_check, behind_key, value_or, field_said, row_said, row_words, row_shown, spaced, word_shown, is_row, is_field, are_fields}
+use Rattle.row_forms.specs.Numbers.{bytes_of, number_bytes, choice_said, choice_shown, are_choices}
+use Rattle.row_forms.specs.Values.{is_kind, width, can_show, value_said, value_shown, steps_said, steps_at, expression_said, expression_shown, is_expression}
+use Rattle.row_forms.specs.Rows.{behind_key, field_said, row_said, row_words, word_shown, is_row, are_fields}
 use Rattle.row_forms.proofs.WordsLemmas.{position_or_len-le}
-use Rattle.row_forms.proofs.TextLemmas.{IsPlain, IsMark, IsWord, and_both, all_append, all_map, parts_listed, listed_plain, words_spaced}
+use Rattle.row_forms.proofs.TextLemmas.{IsPlain, IsMark, IsWord, and_both, all_append, parts_listed, listed_plain}
 use Rattle.row_forms.proofs.HexLemmas.{hex_is_bytes, hex_is_plain}
-use Rattle.row_forms.proofs.SpellingLemmas.{IsNumber, number_is, choice_back, choice_is_mark, spelling_back, spelling_plain}
+use Rattle.row_forms.proofs.SpellingLemmas.{number_is, choice_back, choice_is_mark, spelling_back, spelling_plain}
 use Rattle.row_forms.proofs.RowLemmas.{row_shows, row_has_zeros, row_has_check}
 
 abbrev AreBytes : List ℕ → Type 0

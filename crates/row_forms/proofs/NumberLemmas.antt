@@ -1,5 +1,5 @@
 -- Lemmas on the loops and recursions that read and show numbers.
-use Rattle.std.proofs.Common.{◌≡◌, ◌==◌, ℕ, zero, ◌+◌, ◌-◌, ◌*◌, ◌/◌, ◌%◌, ◌^◌, ◌<◌, ◌≤◌, suc, Bool, true, false, cond, nat_eq, List, [], ◌∷◌, ◌++◌, length, take, drop, map, get_or, Option, Some, None, refl, ap, sym, ◌∙◌, arith, add-one, drop-cons, append_assoc, append-nil, lit<, if◌then◌else◌, eq-eqb, Bor}
+use Rattle.std.proofs.Common.{◌≡◌, ◌==◌, ℕ, zero, ◌+◌, ◌-◌, ◌*◌, ◌/◌, ◌%◌, ◌^◌, ◌<◌, ◌≤◌, suc, Bool, true, false, List, [], ◌∷◌, ◌++◌, length, drop, map, get_or, Option, Some, None, refl, ap, sym, ◌∙◌, arith, add-one, drop-cons, append_assoc, append-nil, lit<, if◌then◌else◌, eq-eqb, Bor}
 use Rattle.std.specs.Prelude.{decimal, MatchOption, OnOk, is_ok, Result, Ok, Err}
 use Rattle.std.specs.declared.alloc.AllocError.{AllocError}
 use Rattle.std.specs.Str.{bytes_eq}

@@ -1,5 +1,5 @@
 -- Lemmas on rows that are read and shown field by field.
-use Rattle.std.proofs.Common.{◌≡◌, ℕ, ◌+◌, ◌<◌, ◌≤◌, Bool, true, false, ◌&&◌, List, [], ◌∷◌, ◌++◌, length, take, drop, Option, Some, None, refl, ap, sym, ◌∙◌, arith, append_assoc, append-nil, Bor, nat_le, length-append, length-take, length-drop, take_all, subst}
+use Rattle.std.proofs.Common.{◌≡◌, ℕ, ◌+◌, ◌≤◌, Bool, true, false, ◌&&◌, List, [], ◌∷◌, ◌++◌, length, take, drop, Option, Some, None, refl, ap, sym, ◌∙◌, arith, append_assoc, append-nil, Bor, nat_le, length-append, length-take, length-drop, take_all, subst}
 use Rattle.std.specs.Prelude.{Result, Ok, Err, OnOk, replicate, ◌==◌}
 use Rattle.std.specs.List.{IsFirstAndRest, list_all}
 use Rattle.std.specs.declared.alloc.AllocError.{AllocError}

@@ -1,5 +1,5 @@
 -- Lemmas on the numbers of rows.
-use Rattle.std.proofs.Common.{◌≡◌, ℕ, ◌+◌, List, [], ◌∷◌, ◌++◌, length, drop, Option, Some, None, refl, ap, sym, ◌∙◌, arith, Bor}
+use Rattle.std.proofs.Common.{◌≡◌, ℕ, ◌+◌, List, [], ◌∷◌, ◌++◌, length, drop, Option, Some, None, refl, ap, sym, ◌∙◌, arith}
 use Rattle.std.specs.Prelude.{Result, Ok, Err, replicate, option_and_then}
 use Rattle.std.proofs.lemmas.List.{length-replicate}
 use Rattle.std.proofs.Math.Seq.{drop-append_seam}
@@ -15,9 +15,9 @@ use Rattle.row_forms.specs.declared.field.Width.TheVariants.{U8, U16, U32}
 use Rattle.row_forms.specs.declared.fault.Reason.{Reason}
 use Rattle.row_forms.specs.declared.fault.RowFault.{RowFault}
 use Rattle.row_forms.specs.Numbers.{bytes_of, number_at, number_said}
-use Rattle.row_forms.specs.Values.{value_said, width, reason_of, fixed_size, IsSaidNumber}
-use Rattle.row_forms.specs.Rows.{with_front, with_check, behind_key, value_or, keyed_said, field_said, then_said, end_said, row_said}
-use Rattle.row_forms.specs.RowNumbers.{number_before, word_numbers, numbers_said, value_numbers, numbers_in}
+use Rattle.row_forms.specs.Values.{value_said, width, reason_of}
+use Rattle.row_forms.specs.Rows.{with_front, with_check, behind_key, value_or, keyed_said, field_said, then_said, row_said}
+use Rattle.row_forms.specs.RowNumbers.{word_numbers, numbers_said, value_numbers, numbers_in}
 use Rattle.row_forms.proofs.SizeLemmas.{said_number, field_size}
 
 first_number : (w : Width) (value rest : List ℕ) → length value ≡ bytes_of w → number_at w (value ++ rest) ≡ number_at w value

@@ -1,7 +1,7 @@
 -- Lemmas on what values and rows say: numbers within their widths, and as many bytes as the fields have.
-use Rattle.std.proofs.Common.{◌≡◌, ℕ, zero, suc, ◌+◌, ◌*◌, ◌-◌, ◌<◌, ◌≤◌, ◌/◌, ◌%◌, ◌^◌, Bool, true, false, List, [], ◌∷◌, ◌++◌, length, refl, sym, ◌∙◌, ap, arith, Option, Some, None, length-append, Bor, lit<}
-use Rattle.std.specs.Prelude.{◌==◌, ◌&&◌, if◌then◌else◌, nat_lt, nat_le, replicate, option_map, option_and_then, Result, Ok, Err, codes}
-use Rattle.std.specs.List.{flat_map, slice_split}
+use Rattle.std.proofs.Common.{◌≡◌, ℕ, suc, ◌+◌, ◌*◌, ◌-◌, ◌<◌, ◌≤◌, ◌^◌, Bool, true, false, List, [], ◌∷◌, ◌++◌, length, refl, sym, ◌∙◌, ap, arith, Option, Some, None, length-append, lit<}
+use Rattle.std.specs.Prelude.{◌==◌, if◌then◌else◌, nat_lt, nat_le, replicate, option_map, option_and_then, Result, Ok, Err, codes}
+use Rattle.std.specs.List.{flat_map}
 use Rattle.std.specs.Str.{bytes_eq}
 use Rattle.std.proofs.Math.Nat.{pow-suc, pow-le-pow_right}
 use Rattle.std.proofs.lemmas.Bool.Decides.{nat_tests}
@@ -21,11 +21,11 @@ use Rattle.row_forms.specs.declared.field.Width.{Width}
 use Rattle.row_forms.specs.declared.field.Width.TheVariants.{U8, U16, U32}
 use Rattle.row_forms.specs.declared.fault.Reason.{Reason}
 use Rattle.row_forms.specs.declared.fault.RowFault.{RowFault}
-use Rattle.row_forms.specs.Words.{number, any_number, at_most, hex_said, name_said}
+use Rattle.row_forms.specs.Words.{number, any_number, at_most, name_said}
 use Rattle.row_forms.specs.Lists.{parts}
 use Rattle.row_forms.specs.Numbers.{bytes_of, most_of, number_bytes, number_at, choice_said, bit_said, bits_said, mask_said, span_said, behind_epoch, time_said, number_said}
 use Rattle.row_forms.specs.Values.{value_said, fixed_size, steps_said, expression_of, expression_said, reason_of, IsSaidNumber}
-use Rattle.row_forms.specs.Rows.{with_front, with_check, behind_key, value_or, keyed_said, field_said, then_said, end_said, row_said, row_size, plus_size}
+use Rattle.row_forms.specs.Rows.{with_front, with_check, behind_key, value_or, keyed_said, field_said, then_said, row_said, row_size, plus_size}
 
 at_most_is : (most m n : ℕ) → at_most most m ≡ Some n → n ≤ most
 at_most_is most m n e = by (nat_le m most) refl e where

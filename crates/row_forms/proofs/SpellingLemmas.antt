@@ -1,10 +1,10 @@
 -- Lemmas on numbers that are shown and read back.
-use Rattle.std.proofs.Common.{◌≡◌, ℕ, zero, suc, ◌+◌, ◌*◌, ◌-◌, ◌<◌, ◌≤◌, ◌/◌, ◌%◌, ◌^◌, Bool, true, false, List, [], ◌∷◌, ◌++◌, length, map, get_or, refl, sym, ◌∙◌, ap, arith, Option, Some, None, subst, eq-eqb}
-use Rattle.std.specs.Prelude.{◌==◌, ◌&&◌, not, if◌then◌else◌, nat_lt, nat_le, nat_eq, decimal, codes, option_map, option_and_then}
+use Rattle.std.proofs.Common.{◌≡◌, ℕ, zero, suc, ◌+◌, ◌*◌, ◌-◌, ◌<◌, ◌≤◌, ◌/◌, ◌%◌, ◌^◌, Bool, true, false, List, [], ◌∷◌, ◌++◌, length, map, get_or, refl, sym, ◌∙◌, ap, arith, Option, Some, eq-eqb}
+use Rattle.std.specs.Prelude.{◌==◌, ◌&&◌, not, nat_lt, nat_le, nat_eq, decimal, codes}
 use Rattle.std.specs.List.{AllByRecursion, list_all}
 use Rattle.std.specs.Char.{is_digit}
 use Rattle.std.specs.Str.{bytes_eq}
-use Rattle.std.proofs.Math.Nat.{pow-suc, pow-le-pow_right}
+use Rattle.std.proofs.Math.Nat.{pow-suc}
 use Rattle.std.proofs.lemmas.Bool.Decides.{nat_tests}
 use Rattle.packet_forms.specs.Hex.{hex}
 use Rattle.packet_forms.specs.Numbers.{be16_at, be32_at, be16_bytes, be32_bytes}
@@ -14,10 +14,10 @@ use Rattle.row_forms.specs.declared.field.Spelling.TheVariants as spellings
 use Rattle.row_forms.specs.declared.field.Width.{Width}
 use Rattle.row_forms.specs.declared.field.Width.TheVariants.{U8, U16, U32}
 use Rattle.row_forms.specs.Words.{number, at_most}
-use Rattle.row_forms.specs.Lists.{parts, listed, behind_comma}
+use Rattle.row_forms.specs.Lists.{parts, listed}
 use Rattle.row_forms.specs.Numbers.{bytes_of, most_of, number_bytes, number_at, choice_said, choice_shown, is_mark, is_choice_text, are_choices, bit_said, bits_said, mask_said, bits_of, mask_shown, time_said, number_said, number_shown}
 use Rattle.row_forms.specs.Values.{is_spelling}
-use Rattle.row_forms.proofs.TextLemmas.{IsPlain, IsMark, and_both, all_append, all_map, marks_are_plain, parts_listed, listed_plain, begins_plain, decimal_marks, decimal_is_number, decimal_differs, decimal_no_plus, decimal_led}
+use Rattle.row_forms.proofs.TextLemmas.{IsPlain, IsMark, and_both, all_append, marks_are_plain, parts_listed, listed_plain, begins_plain, decimal_marks, decimal_is_number, decimal_differs, decimal_no_plus, decimal_led}
 use Rattle.row_forms.proofs.HexLemmas.{bytes_value, hex_is_number, hex_is_plain}
 
 -- ---- bytes of numbers

@@ -1,11 +1,9 @@
 -- Lemmas on words, numbers and digits.
-use Rattle.std.proofs.Common.{◌%◌, ◌≡◌, ℕ, ◌+◌, ◌*◌, ◌^◌, lit<, add-one, nat_lt, bit_or, if◌then◌else◌, get_or, ◌&&◌, append_assoc, append-nil, drop-cons, take_all, length-drop, ◌<◌, ◌≤◌, suc, Bool, true, false, cond, not, eqb, List, [], ◌∷◌, ◌++◌, length, take, drop, Option, Some, None, refl, ap, sym, ◌∙◌, arith, length-take}
+use Rattle.std.proofs.Common.{◌≡◌, ℕ, ◌+◌, ◌*◌, ◌^◌, lit<, add-one, if◌then◌else◌, ◌<◌, ◌≤◌, suc, Bool, true, false, cond, not, eqb, List, [], ◌∷◌, length, take, drop, Option, Some, None, refl, ap, sym, ◌∙◌, arith, length-take}
 use Rattle.std.specs.List.{position, position_or_len, slice_split, filter}
 use Rattle.std.proofs.lemmas.Bool.Decides.{nat_tests}
-use Rattle.std.proofs.lemmas.Nat.{or_lt, le_or_l, le_or_r}
 use Rattle.std.proofs.Math.Nat.{pow-suc, pow-le-pow_right, mul-le-mul_left}
 use Rattle.std.proofs.lemmas.List.{drop_all}
-use Rattle.std.specs.Char.{is_digit, digit_value}
 use Rattle.std.specs.Str.{IsUtf8}
 use Rattle.packet_forms.specs.Names.{is_name_text, name_of}
 use Rattle.packet_forms.proofs.NameForms.{text_utf8}

@@ -1,5 +1,5 @@
 -- What a value's text says in bytes, and the text that bytes have.
-use Rattle.std.specs.Prelude.{◌≡◌, ◌≤◌, ℕ, zero, suc, ◌+◌, ◌-◌, ◌*◌, ◌==◌, Bool, true, false, ◌&&◌, if◌then◌else◌, nat_lt, nat_le, List, [], ◌∷◌, ◌++◌, length, take, drop, map, replicate, codes, Option, Some, None, option_map, option_and_then}
+use Rattle.std.specs.Prelude.{◌≡◌, ◌≤◌, ℕ, zero, suc, ◌+◌, ◌-◌, ◌*◌, ◌==◌, Bool, true, false, ◌&&◌, if◌then◌else◌, nat_lt, nat_le, List, [], ◌∷◌, ◌++◌, length, drop, map, replicate, Option, Some, None, option_map, option_and_then}
 use Rattle.std.specs.List.{list_all, flat_map}
 use Rattle.packet_forms.specs.Hex.{hex}
 use Rattle.packet_forms.specs.Names.{is_name, name_text}

@@ -10,10 +10,11 @@ const FIELDS: &[Field] = &[
 
 #[test]
 fn a_row_is_read_and_shown(rt: HostRuntime) -> Result<(), Fail> {
+    let fields = FIELDS;
     let mut bytes = Vec::new(rt.alloc());
     read_row(
         None,
-        FIELDS,
+        fields,
         1,
         b"address=0x1020 bytes=313233343536373839",
         &mut bytes,
@@ -22,9 +23,10 @@ fn a_row_is_read_and_shown(rt: HostRuntime) -> Result<(), Fail> {
         bytes.as_slice(),
         b"\0\0\x10\x20\xBB\x3D123456789".as_slice()
     );
-    assert!(rt; is_row(FIELDS, &bytes));
+    let bytes = bytes.as_slice();
+    assert!(rt; is_row(fields, bytes));
     let mut line = Vec::new(rt.alloc());
-    show_row(FIELDS, &bytes, &mut line)?;
+    show_row(fields, bytes, &mut line)?;
     assert_eq!(rt;
         line.as_slice(),
         b" address=0x00001020 bytes=313233343536373839".as_slice()

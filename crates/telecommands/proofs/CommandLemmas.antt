@@ -1,7 +1,7 @@
 -- Lemmas on telecommands that are read and shown.
-use Rattle.std.proofs.Common.{◌≡◌, ℕ, zero, suc, ◌+◌, ◌-◌, ◌<◌, ◌≤◌, ◌^◌, Bool, true, false, ◌&&◌, List, [], ◌∷◌, ◌++◌, length, drop, get_or, Option, Some, None, refl, ap, sym, ◌∙◌, arith, subst, add-one, drop-cons, append_assoc, length-drop, not}
+use Rattle.std.proofs.Common.{◌≡◌, ℕ, zero, suc, ◌+◌, ◌<◌, ◌≤◌, Bool, true, false, ◌&&◌, List, [], ◌∷◌, ◌++◌, length, drop, get_or, Option, Some, None, refl, ap, sym, ◌∙◌, arith, subst, add-one, drop-cons, append_assoc, length-drop, not}
 use Rattle.std.proofs.lemmas.Bool.{false≢true}
-use Rattle.std.specs.Prelude.{nat_eq, ◌==◌, nat_lt, nat_le, if◌then◌else◌, is_none, codes, Result, Ok, Err, OnOk}
+use Rattle.std.specs.Prelude.{nat_eq, ◌==◌, nat_lt, nat_le, if◌then◌else◌, codes, Result, Ok, Err, OnOk}
 use Rattle.std.specs.List.{list_all}
 use Rattle.std.specs.Str.{bytes_eq}
 use Rattle.std.specs.declared.alloc.AllocError.{AllocError}
@@ -11,7 +11,7 @@ use Rattle.packet_forms.specs.Built.{command_of}
 use Rattle.packet_forms.specs.Hex.{hex}
 use Rattle.packet_forms.specs.Packets.{message_id, is_command, is_command_id, function_code, payload_of}
 use Rattle.row_forms.specs.Words.{hex_said}
-use Rattle.row_forms.specs.Rows.{behind_key, fault_at, row_said, row_shown, is_row, are_fields}
+use Rattle.row_forms.specs.Rows.{behind_key, fault_at, row_shown, is_row, are_fields}
 use Rattle.row_forms.specs.declared.fault.Reason.TheVariants as reasons
 use Rattle.telecommands.specs.declared.command.Command.{Command}
 use Rattle.telecommands.specs.declared.fault.CommandFault.{CommandFault}

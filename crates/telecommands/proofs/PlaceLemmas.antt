@@ -1,15 +1,13 @@
 -- Lemmas on commands whose texts lie elsewhere.
-use Rattle.std.proofs.Common.{◌≡◌, ℕ, ◌+◌, Bool, true, false, List, [], ◌∷◌, length, map, Option, Some, None, refl, ap, sym, ◌∙◌}
-use Rattle.std.specs.Prelude.{codes, if◌then◌else◌, Result}
+use Rattle.std.proofs.Common.{◌≡◌, ℕ, ◌+◌, Bool, true, false, List, [], ◌∷◌, map, Option, Some, None, refl, ap, sym, ◌∙◌}
+use Rattle.std.specs.Prelude.{codes, if◌then◌else◌}
 use Rattle.std.specs.Str.{bytes_eq}
 use Rattle.row_forms.specs.declared.field.Field.{Field}
 use Rattle.row_forms.specs.declared.field.Field.TheVariants.{Value, Zeros, Check}
-use Rattle.row_forms.specs.declared.fault.RowFault.{RowFault}
 use Rattle.row_forms.specs.Rows.{behind_key, field_said, then_said, with_front, with_check, row_said}
-use Rattle.row_forms.specs.Words.{hex_said}
 use Rattle.std.specs.Prelude.{replicate}
 use Rattle.telecommands.specs.declared.command.Command.{Command}
-use Rattle.telecommands.specs.Commands.{named, sent, named_said, packet_said, word_said, command_said}
+use Rattle.telecommands.specs.Commands.{named, sent, named_said, word_said, command_said}
 use Rattle.telecommands.specs.Dictionary.{placed, placed_field}
 
 placed_row : (epoch : Option ℕ) (n : ℕ) (fs : List Field) (ws : List (List ℕ)) → row_said epoch n (map placed_field fs) ws ≡ row_said epoch n fs ws

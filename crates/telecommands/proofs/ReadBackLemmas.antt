@@ -1,24 +1,21 @@
 -- Lemmas on telecommands that are read back.
-use Rattle.std.proofs.Common.{◌≡◌, ℕ, ◌+◌, ◌<◌, ◌≤◌, Bool, true, false, ◌&&◌, List, [], ◌∷◌, ◌++◌, length, map, Option, Some, None, refl, ap, sym, ◌∙◌, arith}
-use Rattle.std.specs.Prelude.{nat_lt, nat_le, if◌then◌else◌, is_none, codes, Result, Ok, Err}
+use Rattle.std.proofs.Common.{◌≡◌, ℕ, ◌+◌, ◌<◌, ◌≤◌, true, false, ◌&&◌, List, [], ◌∷◌, ◌++◌, length, Option, Some, None, refl, ap, ◌∙◌, arith}
+use Rattle.std.specs.Prelude.{nat_lt, nat_le, if◌then◌else◌, is_none, codes, Ok}
 use Rattle.std.specs.List.{list_all, AllByRecursion}
 use Rattle.std.proofs.lemmas.Bool.Decides.{nat_tests}
 use Rattle.packet_forms.specs.Built.{command_of}
 use Rattle.packet_forms.specs.Faults.{fault_of}
 use Rattle.packet_forms.specs.Hex.{hex}
-use Rattle.packet_forms.specs.Packets.{IsPacket, is_command, payload_of}
-use Rattle.packet_forms.specs.declared.packet.PacketFault.{PacketFault}
+use Rattle.packet_forms.specs.Packets.{is_command, payload_of}
 use Rattle.packet_forms.proofs.Forms.{packet_of_none}
-use Rattle.row_forms.specs.Words.{words, hex_said}
-use Rattle.row_forms.specs.Rows.{behind_key, row_said, row_words, row_shown}
-use Rattle.row_forms.specs.declared.fault.RowFault.{RowFault}
+use Rattle.row_forms.specs.Words.{words}
+use Rattle.row_forms.specs.Rows.{behind_key, row_words, row_shown}
 use Rattle.row_forms.proofs.TextLemmas.{IsPlain, IsWord, all_append, word_alone, words_led}
 use Rattle.row_forms.proofs.HexLemmas.{hex_is_bytes, hex_is_plain}
 use Rattle.row_forms.proofs.BackLemmas.{all_drop, key_back, key_plain, row_back, row_words_are}
 use Rattle.telecommands.specs.declared.command.Command.{Command}
-use Rattle.telecommands.specs.declared.fault.CommandFault.{CommandFault}
-use Rattle.telecommands.specs.Commands.{is_command_name, named, sent, named_said, whole_packet, packet_said, word_said, command_said, showing, shown_by, command_shown, are_good, are_distinct}
-use Rattle.telecommands.proofs.CommandLemmas.{and_both, IsGood, good_is, IsShown, shown_is, IsFound, found_is, same_bytes, payload_room}
+use Rattle.telecommands.specs.Commands.{sent, named_said, whole_packet, packet_said, word_said, command_said, showing, shown_by, command_shown, are_good, are_distinct}
+use Rattle.telecommands.proofs.CommandLemmas.{and_both, good_is, shown_is, IsFound, found_is, same_bytes, payload_room}
 
 abbrev AreBytes : List ℕ → Type 0
 AreBytes bytes = AllByRecursion (λ b. b < 256) bytes

@@ -1,4 +1,4 @@
-use Rattle.std.proofs.Common.{◌≡◌, ◌+◌, ◌-◌, ◌^◌, ◌∙◌, sym, ap, refl, arith, Some, ℕ}
+use Rattle.std.proofs.Common.{◌+◌, ◌∙◌, sym, ap, arith, Some, ℕ}
 use Rattle.row_forms.proofs.NumberLemmas.{bits_bad, bits_one, bits_more, bits_end, bit_power}
 use Rattle.row_forms.specs.Numbers.{bits_said}
 use Rattle.row_forms.proofs.numbers.+bits_number.Goals as goal

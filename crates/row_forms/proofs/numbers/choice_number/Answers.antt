@@ -1,4 +1,4 @@
-use Rattle.std.proofs.Common.{◌∙◌, sym, ap, arith}
+use Rattle.std.proofs.Common.{◌∙◌, sym, ap}
 use Rattle.row_forms.specs.Words.{at_most}
 use Rattle.row_forms.proofs.NumberLemmas.{choice_found, choice_passed, choices_passed}
 use Rattle.row_forms.proofs.numbers.choice_number.Goals as goal

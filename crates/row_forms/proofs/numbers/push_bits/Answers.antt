@@ -1,4 +1,4 @@
-use Rattle.std.proofs.Common.{◌++◌, ◌∙◌, sym, ap, arith, rules}
+use Rattle.std.proofs.Common.{◌∙◌, sym, rules}
 use Rattle.row_forms.proofs.NumberLemmas.{bit_listed, bit_unlisted, bits_listed}
 use Rattle.row_forms.proofs.numbers.push_bits.Goals as goal
 use Rattle.row_forms.proofs.numbers.push_bits.Goals.{then-rest-eq1+in_ok-push_bit, else-rest-eq1}

@@ -1,4 +1,4 @@
-use Rattle.std.proofs.Common.{◌≡◌, ◌==◌, ◌++◌, ◌∙◌, false, get_or, sym, ap, arith, rules}
+use Rattle.std.proofs.Common.{◌∙◌, sym}
 use Rattle.row_forms.proofs.NumberLemmas.{pushed, shown_found, shown_passed, choices_unshown}
 use Rattle.row_forms.proofs.numbers.push_choice.Goals as goal
 

@@ -1,4 +1,4 @@
-use Rattle.std.proofs.Common.{◌++◌, ap, sym, ◌∙◌, append_assoc, append-nil}
+use Rattle.std.proofs.Common.{sym, append_assoc, append-nil}
 use Rattle.packet_forms.specs.Hex.{hex}
 use Rattle.row_forms.proofs.PartsLemmas.{hex_more}
 use Rattle.row_forms.proofs.parts.push_hex.Goals as goal

@@ -1,4 +1,4 @@
-use Rattle.std.proofs.Common.{sym, ap, ◌∙◌}
+use Rattle.std.proofs.Common.{sym}
 use Rattle.row_forms.proofs.PartsLemmas.{whole_part, part_at}
 use Rattle.row_forms.proofs.parts.split_part.Goals as goal
 

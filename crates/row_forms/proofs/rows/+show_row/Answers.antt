@@ -1,5 +1,4 @@
-use Rattle.std.proofs.Common.{◌≡◌, ◌∙◌, ap, sym, arith, drop, take, ℕ}
-use Rattle.row_forms.specs.Values.{can_show}
+use Rattle.std.proofs.Common.{◌∙◌, ap, arith, drop, take, ℕ}
 use Rattle.row_forms.proofs.RowLemmas.{value_of_row, zeros_of_row, check_of_row, end_shown, value_put, zeros_put, check_put}
 use Rattle.row_forms.proofs.rows.+show_row.Goals as goal
 

@@ -1,4 +1,4 @@
-use Rattle.std.proofs.Common.{◌≡◌, ◌+◌, ◌++◌, ℕ, List, take, drop, length, refl, ap, sym, ◌∙◌, arith}
+use Rattle.std.proofs.Common.{◌≡◌, ◌+◌, ◌++◌, ℕ, List, take, drop, length, refl, ap, ◌∙◌, arith}
 use Rattle.packet_forms.specs.Crc.{crc_of}
 use Rattle.packet_forms.specs.Numbers.{be16_bytes}
 use Rattle.row_forms.proofs.RowLemmas.{sealed}

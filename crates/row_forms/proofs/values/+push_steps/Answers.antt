@@ -1,4 +1,4 @@
-use Rattle.std.proofs.Common.{◌≡◌, arith, refl, rules}
+use Rattle.std.proofs.Common.{refl}
 use Rattle.row_forms.proofs.StepLemmas.{no_steps_listed, step_listed}
 use Rattle.row_forms.proofs.values.+push_steps.Goals as goal
 

@@ -1,4 +1,3 @@
-use Rattle.std.proofs.Common.{sym}
 use Rattle.row_forms.proofs.StepLemmas.{steps_bad, steps_last, steps_after}
 use Rattle.row_forms.proofs.values.+read_steps.Goals as goal
 

@@ -1,6 +1,5 @@
-use Rattle.std.proofs.Common.{◌≡◌, ◌*◌, ◌++◌, ◌∙◌, sym, ap, arith, refl, drop, length}
-use Rattle.row_forms.specs.Words.{hex_said}
-use Rattle.row_forms.proofs.BlockLemmas.{onto, hex_more, hex_bad, hex_ends, odd_none, gives_onto, gives_none, onto_none}
+use Rattle.std.proofs.Common.{◌∙◌, arith}
+use Rattle.row_forms.proofs.BlockLemmas.{hex_more, hex_bad, hex_ends, odd_none, gives_onto, gives_none, onto_none}
 use Rattle.row_forms.proofs.values.read_block.Goals as goal
 
 pub returns-then-text-ne0 : goal.returns-then-text-ne0

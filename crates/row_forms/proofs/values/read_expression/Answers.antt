@@ -1,4 +1,3 @@
-use Rattle.std.proofs.Common.{sym, arith}
 use Rattle.row_forms.proofs.StepLemmas.{too_many, expression_bad, expression_good}
 use Rattle.row_forms.proofs.values.read_expression.Goals as goal
 
