@@ -63,11 +63,11 @@ front_parts : (front bytes : List ℕ) (said : Result (List ℕ) RowFault) → w
 front_parts front bytes (Ok rest) e = (rest, refl, cc)
 front_parts front bytes (Err fault) e = absurd (cc)
 
-then_parts : (n : ℕ) (bytes : List ℕ) (first : Result (List ℕ) Reason) (said : Result (List ℕ) RowFault) → then_said n first said ≡ Ok bytes → (value : List ℕ) × (rest : List ℕ) × (first ≡ Ok value) × (said ≡ Ok rest) × (value ++ rest ≡ bytes)
+pub then_parts : (n : ℕ) (bytes : List ℕ) (first : Result (List ℕ) Reason) (said : Result (List ℕ) RowFault) → then_said n first said ≡ Ok bytes → (value : List ℕ) × (rest : List ℕ) × (first ≡ Ok value) × (said ≡ Ok rest) × (value ++ rest ≡ bytes)
 then_parts n bytes (Ok value) said e = let parts = front_parts value bytes said e in (value, parts.0, refl, parts.1, parts.2)
 then_parts n bytes (Err reason) said e = absurd (cc)
 
-check_parts : (bytes : List ℕ) (said : Result (List ℕ) RowFault) → with_check said ≡ Ok bytes → (rest : List ℕ) × (said ≡ Ok rest) × (be16_bytes (crc_of 0 rest) ++ rest ≡ bytes)
+pub check_parts : (bytes : List ℕ) (said : Result (List ℕ) RowFault) → with_check said ≡ Ok bytes → (rest : List ℕ) × (said ≡ Ok rest) × (be16_bytes (crc_of 0 rest) ++ rest ≡ bytes)
 check_parts bytes (Ok rest) e = (rest, refl, cc)
 check_parts bytes (Err fault) e = absurd (cc)
 

@@ -40,14 +40,19 @@ said_cons : (epoch : Option ℕ) (n : ℕ) (w : List ℕ) (ws : List (List ℕ))
 unfolding command_said
 said_cons epoch n w ws = refl
 
--- a packet that is sent is built of a payload of at most 248 bytes
-record IsSent (c : Command) (said : Result (List ℕ) RowFault) (packet : List ℕ) : Type 0 where
-  payload : List ℕ
-  is : said ≡ Ok payload
-  few : length payload ≤ 248
-  built : command_of c.id c.code payload ≡ packet
+-- a name that the dictionary has
+pub said_by_name : (epoch : Option ℕ) (n : ℕ) (name : List ℕ) (ws : List (List ℕ)) (c : Command) → behind_key (codes "packet") name ≡ None → named dictionary name ≡ Some c → command_said epoch n dictionary (name ∷ ws) ≡ sent c (row_said epoch (n + 1) c.fields.now ws)
+said_by_name epoch n name ws c plain found =
+    said_cons epoch n name ws ∙ ap (λ (o : Option (List ℕ)). word_said epoch n dictionary o name ws) plain ∙ ap (λ (o : Option Command). named_said epoch n o ws) found
 
-sent_is : (c : Command) (said : Result (List ℕ) RowFault) (packet : List ℕ) → sent c said ≡ Ok packet → IsSent c said packet
+-- a packet that is sent is built of a payload of at most 248 bytes
+pub record IsSent (c : Command) (said : Result (List ℕ) RowFault) (packet : List ℕ) : Type 0 where
+  pub payload : List ℕ
+  pub is : said ≡ Ok payload
+  pub few : length payload ≤ 248
+  pub built : command_of c.id c.code payload ≡ packet
+
+pub sent_is : (c : Command) (said : Result (List ℕ) RowFault) (packet : List ℕ) → sent c said ≡ Ok packet → IsSent c said packet
 sent_is c (Ok payload) packet e = by (nat_le (length payload) 248) refl e where
   by : (b : Bool) → nat_le (length payload) 248 ≡ b → (if b then Ok (command_of c.id c.code payload) else Err faults.Long) ≡ Ok packet → IsSent c (Ok payload) packet
   by true t f = record { payload = payload; is = refl; few = grind (arith, nat_tests); built = cc }
@@ -62,17 +67,17 @@ allowed_is code size payload e =
     let high : nat_le (length payload) size ≡ true = grind (arith, nat_tests) in
     rw (low, high) refl
 
-found_fields : (name : List ℕ) (c : Command) → named dictionary name ≡ Some c → fields_of name ≡ c.fields.now
+pub found_fields : (name : List ℕ) (c : Command) → named dictionary name ≡ Some c → fields_of name ≡ c.fields.now
 unfolding fields_of
 found_fields name c e = ap fields_in e
 
-some_same : (xs ys : List ℕ) → (let x : Option (List ℕ) = Some xs in x) ≡ Some ys → xs ≡ ys
+pub some_same : (xs ys : List ℕ) → (let x : Option (List ℕ) = Some xs in x) ≡ Some ys → xs ≡ ys
 some_same xs ys e = cc
 
 -- so its words are decoded as the instruction of their numbers
 pub decodes : {I : Type 0} (language : Language I) (name : List ℕ) (code : ℕ) (instruction : List ℕ → I) (c : Command) (size : ℕ) → IsRow language name code instruction c size → Decodes language name code instruction
 decodes language name code instruction c size is epoch n ws packet e =
-    let same : command_said epoch n dictionary (name ∷ ws) ≡ sent c (row_said epoch (n + 1) c.fields.now ws) = said_cons epoch n name ws ∙ ap (λ (o : Option (List ℕ)). word_said epoch n dictionary o name ws) is.plain ∙ ap (λ (o : Option Command). named_said epoch n o ws) is.found in
+    let same = said_by_name epoch n name ws c is.plain is.found in
     let whole = sent_is c (row_said epoch (n + 1) c.fields.now ws) packet (sym same ∙ e) in
     let back = command_reads_back c.id c.code whole.payload is.version is.kind is.low whole.few in
     let long = row_sizes epoch (n + 1) size c.fields.now ws whole.payload is.sized whole.is in

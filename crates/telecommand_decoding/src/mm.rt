@@ -7,7 +7,9 @@ ghost use Rattle.mm_core.specs.Instructions.{mm_language};
 ghost use Rattle.mm_core.specs.Decoded.{to_dump, to_fill, to_load_file, to_nothing, to_peek, to_poke, to_protect};
 ghost use Rattle.telecommands.specs.Commands.{command_said};
 ghost use Rattle.telecommands.specs.Dictionary.{dictionary};
-ghost use Rattle.telecommand_decoding.specs.Decoding.{Decodes, codes_of};
+ghost use Rattle.telecommand_decoding.specs.Decoding.{Decodes, codes_of, fields_of};
+ghost use Rattle.telecommand_decoding.specs.Loads.{IsLoadDecoded};
+ghost use Rattle.row_forms.specs.RowNumbers.{numbers_said};
 
 /// The dictionary has exactly the codes that Memory Manager takes, and the request for its housekeeping. Whatever words stand behind a
 /// command's name, the packet that they say is decoded as this instruction with the numbers that they say, in their order.
@@ -19,6 +21,7 @@ pub fn mm_words_are_decoded()
     ensures reset_counts { Decodes mm_language (codes "mm.reset_counts") 1 (λ ns. to_nothing) }
     ensures peek { Decodes mm_language (codes "mm.peek") 2 (λ ns. to_peek (slice_index ns 0) (slice_index ns 1)) }
     ensures poke { Decodes mm_language (codes "mm.poke") 3 (λ ns. to_poke (slice_index ns 0) (slice_index ns 1) (slice_index ns 2)) }
+    ensures load { (epoch : Option ℕ) (n : ℕ) (ws : List (List ℕ)) (packet : List ℕ) → command_said epoch n dictionary (codes "mm.load" ∷ ws) ≡ Ok packet → IsLoadDecoded (numbers_said epoch (fields_of (codes "mm.load")) ws) packet }
     ensures load_file { Decodes mm_language (codes "mm.load_file") 5 (λ ns. to_load_file (slice_index ns 0)) }
     ensures fill { Decodes mm_language (codes "mm.fill") 8 (λ ns. to_fill (slice_index ns 0) (slice_index ns 1) (slice_index ns 2)) }
     ensures eeprom_enable { Decodes mm_language (codes "mm.eeprom_enable") 11 (λ ns. to_protect (slice_index ns 0) false) }

@@ -11,6 +11,7 @@ use Rattle.mm_core.specs.Decoded.{to_dump, to_fill, to_load_file, to_nothing, to
 use Rattle.telecommands.specs.Commands.{named, command_said}
 use Rattle.telecommands.specs.Dictionary.{dictionary, hs_rows, mm_rows, md_rows, cs_rows, sc_rows, lc_rows, row, byte, count, length_of, filled, address}
 use Rattle.telecommand_decoding.proofs.DecodingLemmas.{decodes, be32_behind}
+use Rattle.telecommand_decoding.proofs.LoadLemmas.{load_decoded}
 use Rattle.telecommand_decoding.proofs.mm.mm_words_are_decoded.Goals as goal
 
 pub returns-clause-codes : goal.returns-clause-codes
@@ -159,3 +160,6 @@ returns-clause-dump c = decodes mm_language (codes "mm.dump") 13 (λ ns. to_dump
   allowed = refl;
   decoded = λ p. simp be32_behind;
 }
+
+pub returns-clause-load : goal.returns-clause-load
+returns-clause-load c = load_decoded
