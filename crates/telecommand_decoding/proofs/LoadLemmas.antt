@@ -1,10 +1,9 @@
 -- Lemmas on the load of Memory Manager, whose payload has a check and as many bytes as its words say.
-use Rattle.std.proofs.Common.{◌≡◌, ℕ, ◌+◌, ◌*◌, ◌/◌, ◌%◌, ◌<◌, ◌≤◌, Bool, true, false, ◌&&◌, List, [], ◌∷◌, ◌++◌, length, drop, Option, Some, None, refl, ap, sym, ◌∙◌, arith, subst}
-use Rattle.std.specs.Prelude.{◌==◌, nat_le, if◌then◌else◌, codes, slice_index, bit_xor, Result, Ok, Err, flat_map}
+use Rattle.std.proofs.Common.{◌≡◌, ℕ, ◌+◌, ◌*◌, ◌/◌, ◌%◌, ◌<◌, Bool, true, false, ◌&&◌, List, [], ◌∷◌, ◌++◌, length, Option, Some, None, refl, ap, sym, ◌∙◌, arith, subst}
+use Rattle.std.specs.Prelude.{◌==◌, nat_le, if◌then◌else◌, codes, slice_index, bit_xor, Ok, flat_map}
 use Rattle.std.specs.List.{fold}
 use Rattle.std.proofs.lemmas.Nat.{xor_lt}
 use Rattle.std.proofs.lemmas.Bool.Decides.{nat_tests}
-use Rattle.packet_forms.specs.Built.{command_of}
 use Rattle.packet_forms.specs.Crc.{crc_of, crc_bit, low_bits}
 use Rattle.packet_forms.specs.MessageIds.{mm_command}
 use Rattle.packet_forms.specs.Numbers.{be16_at, be32_at, be16_bytes}
@@ -13,7 +12,6 @@ use Rattle.packet_forms.proofs.Forms.{command_reads_back}
 use Rattle.row_forms.specs.declared.field.Field.{Field}
 use Rattle.row_forms.specs.declared.field.Field.TheVariants.{Check}
 use Rattle.row_forms.specs.declared.field.Kind.TheVariants.{Block}
-use Rattle.row_forms.specs.declared.fault.RowFault.{RowFault}
 use Rattle.row_forms.specs.Rows.{behind_key, field_said, then_said, with_check, row_said}
 use Rattle.row_forms.specs.RowNumbers.{numbers_said, numbers_in}
 use Rattle.row_forms.specs.Worked.{field}
@@ -21,14 +19,14 @@ use Rattle.row_forms.proofs.SizeLemmas.{field_size}
 use Rattle.row_forms.proofs.RowNumberLemmas.{row_numbers, then_parts, check_parts}
 use Rattle.commands.specs.Rows.{row_of, is_allowed}
 use Rattle.mm_core.specs.Messages.{mm_codes}
-use Rattle.mm_core.specs.Instructions.{instruction_of, mm_language}
+use Rattle.mm_core.specs.Instructions.{instruction_of}
 use Rattle.mm_core.specs.Decoded.{to_load}
 use Rattle.telecommands.specs.declared.command.Command.{Command}
 use Rattle.telecommands.specs.Commands.{named, command_said}
 use Rattle.telecommands.specs.Dictionary.{dictionary, hs_rows, mm_rows, md_rows, cs_rows, sc_rows, lc_rows, row, address}
 use Rattle.telecommand_decoding.specs.Decoding.{fields_of}
 use Rattle.telecommand_decoding.specs.Loads.{IsLoadDecoded}
-use Rattle.telecommand_decoding.proofs.DecodingLemmas.{said_by_name, found_fields, some_same, IsSent, sent_is}
+use Rattle.telecommand_decoding.proofs.DecodingLemmas.{said_by_name, found_fields, some_same, sent_is}
 
 -- ---- a check has 16 bits
 

@@ -7,3 +7,4 @@ pub mod lc;
 pub mod md;
 pub mod mm;
 pub mod sc;
+pub mod scenario_words;
