@@ -105,7 +105,7 @@ Gives said new (Ok done) = said ≡ Ok new
 Gives said new (Err (errors.Memory e)) = Unit {0}
 Gives said new (Err (errors.Row fault)) = said ≡ Err fault
 
--- the same of one field
+-- of one field: what is said are the new bytes, and a reason is told only where the word says nothing
 abbrev pub GivesField : Result (List ℕ) Reason → List ℕ → Result (Unit {0}) Refusal → Type 0
 GivesField said new (Ok done) = said ≡ Ok new
 GivesField said new (Err (refusals.Memory e)) = Unit {0}

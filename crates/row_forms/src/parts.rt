@@ -16,7 +16,9 @@ fn first_comma(text: &[u8]) -> Option<usize>
 
 /// The part before the first comma, and what comes behind the comma, where there is one.
 pub(crate) fn split_part(text: &[u8]) -> (&[u8], Option<&[u8]>)
-    ensures parts { MatchOption result.1 (parts text.now ≡ result.0.now ∷ []) (λ rest. parts text.now ≡ result.0.now ∷ parts rest.now) }
+    ensures parts { MatchOption result.1
+        (parts text.now ≡ result.0.now ∷ [])
+        (λ rest. parts text.now ≡ result.0.now ∷ parts rest.now) }
     ensures shorter { IfSome result.1 (λ rest. length rest.now < length text.now) }
 {
     match first_comma(text) {

@@ -90,7 +90,9 @@ fn end_of_row(word: usize, line: &[u8]) -> Result<(), ReadError>
 /// What comes behind `KEY=`.
 #[tactic(auto, unfolding(crate::specs::Rows::behind_key))]
 pub fn behind_key<'a>(key: &str, word: &'a [u8]) -> Option<&'a [u8]>
-    ensures { MatchOption result (behind_key key.now word.now ≡ None) (λ text. behind_key key.now word.now ≡ Some text.now) }
+    ensures { MatchOption result
+        (behind_key key.now word.now ≡ None)
+        (λ text. behind_key key.now word.now ≡ Some text.now) }
 {
     let key = key.as_bytes();
     if key.len() < word.len() && word.starts_with(key) && word[key.len()] == b'=' {
@@ -122,7 +124,8 @@ fn read_field(
 /// Writes the check of the bytes behind a place of two bytes into it.
 fn seal(at: usize, out: &mut Vec<u8>)
     requires { at + 2 ≤ vec_len out.old }
-    ensures { out.new.items ≡ take at out.old.items ++ (be16_bytes (crc_of 0 (drop (at + 2) out.old.items)) ++ drop (at + 2) out.old.items) }
+    ensures { let behind = drop (at + 2) out.old.items in
+        out.new.items ≡ take at out.old.items ++ (be16_bytes (crc_of 0 behind) ++ behind) }
 {
     let check = crc16(0, behind(out, at + 2)).to_be_bytes();
     place(out, at, &check);

@@ -62,7 +62,10 @@ pub fn read_block(text: &[u8], out: &mut Vec<u8>) -> Result<bool, AllocError>
 
 /// The byte that two hexadecimal digits write.
 fn pair_value(first: u8, second: u8) -> Option<u8>
-    ensures { MatchOption result ((is_digit first 16 && is_digit second 16) ≡ false) (λ b. ((is_digit first 16 && is_digit second 16) ≡ true) × (b ≡ 16 * digit_value first + digit_value second)) }
+    ensures { MatchOption result
+        ((is_digit first 16 && is_digit second 16) ≡ false)
+        (λ b. ((is_digit first 16 && is_digit second 16) ≡ true)
+        × (b ≡ 16 * digit_value first + digit_value second)) }
 {
     let high = digit(first);
     let low = digit(second);
