@@ -11,10 +11,12 @@ PIECE = re.compile(r"((?:[0-9A-Fa-f]{2})+)(?:\*([0-9]{1,6}))?")
 
 
 def packet_of(words):
-    """The packet of a function of `send` and its words, such as mm_peek 8 0x1010; behind `damaged` its check is wrong by one bit.
-    Behind the words of `command` a payload may stand as HEX."""
+    """The packet of a function of `send` and its words, such as mm_peek 8 0x1010, also behind the word `send`; behind `damaged` its
+    check is wrong by one bit. Behind the words of `command` a payload may stand as HEX."""
     if words[:1] == ["damaged"]:
         return damaged(packet_of(words[1:]))
+    if words[:1] == ["send"]:
+        words = words[1:]
     if not words:
         raise Wrong("a packet is missing")
     if len(words) == 1 and DIGITS.fullmatch(words[0]):
@@ -41,6 +43,15 @@ def bytes_of(words):
             raise Wrong(f"{word!r} isn't an even number of hexadecimal digits, or such with * and a number behind them")
         data += bytes.fromhex(piece[1]) * int(piece[2] or 1)
     return data
+
+
+def is_packet(data):
+    """Whether these bytes are a space packet as docs/SCENARIO.md asks."""
+    return 8 <= len(data) <= 256 and data[0] < 0x20 and data[2] >= 0xC0 and data[4] * 256 + data[5] + 7 == len(data)
+
+
+def is_command(data):
+    return is_packet(data) and data[0] & 0x18 == 0x18
 
 
 def sent_line(line):
