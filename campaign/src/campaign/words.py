@@ -8,7 +8,7 @@ from collections import Counter
 from pathlib import Path
 from typing import TYPE_CHECKING, NoReturn
 
-from campaign import Wrong, drill
+from campaign import Wrong, __version__, drill
 from campaign.cases import Drawn
 from campaign.compare import Difference, Verdict, differences, failed_rows, log_of, missing_runs, other_run, split_of, unlike_cases, verdict_of
 from campaign.faults import USUAL, perturbed
@@ -40,6 +40,7 @@ class Parser(argparse.ArgumentParser):
 def parser() -> Parser:
     """The grammar of the words."""
     words = Parser(prog="campaign", description="Runs many rehearsals at once and tells what differs between sets of tables.", epilog=STATUSES, formatter_class=argparse.RawDescriptionHelpFormatter)
+    words.add_argument("--version", action="version", version=f"campaign {__version__}")
     commands = words.add_subparsers(dest="command", metavar="COMMAND", required=True)
 
     def command(name: str, about: str) -> Parser:
