@@ -7,14 +7,14 @@ use Rattle.packet_log.specs.Blocks.{Waiting, Notes, Puts, empty_block, late_in, 
 use Rattle.packet_log.proofs.Cuts.{ends_none, ends_more}
 use Rattle.scenario.specs.FrameLists.{Frame}
 use Rattle.frame_exec.specs.declared.bench.TheConstants.{DROPS}
-use Rattle.frame_exec.specs.declared.slot.TheConstants.{LIST_ROOM}
+use Rattle.app_suite.specs.declared.slot.TheConstants.{LIST_ROOM}
 use Rattle.frame_exec.specs.declared.bench.Bench.{Bench}
 use Rattle.fsw_outside.specs.TellingLaws.{told_then}
-use Rattle.frame_exec.specs.Runs.{Setup, State, run_of, frame_lines, log_of}
-use Rattle.frame_exec.specs.Jobs.{jobs_of}
+use Rattle.frame_runs.specs.Runs.{Setup, State, run_of, frame_lines, log_of}
+use Rattle.app_suite.specs.Jobs.{jobs_of}
 use Rattle.frame_exec.specs.Standing.{Has, IsReady, Stands, has_failed}
 use Rattle.frame_exec.specs.Following.{lines_behind, Follows, IsCutAt, Adds}
-use Rattle.frame_exec.proofs.Handing.{notes_begin}
+use Rattle.frame_wires.proofs.Handing.{notes_begin}
 use Rattle.frame_exec.proofs.Cutting.{behind_more, behind_none, late_later, late_some, cut_adding, cut_waiting}
 
 -- nothing waits where no later frames are

@@ -10,9 +10,9 @@ use Rattle.packet_log.specs.Blocks.{Waiting, Notes, late_in, ends_from, joined}
 use Rattle.packet_log.proofs.Blocks.{late_none, late_one, late_both}
 use Rattle.packet_log.proofs.Cuts.{cut_in_texts, ends_more}
 use Rattle.scenario.specs.FrameLists.{Frame}
-use Rattle.frame_exec.specs.Runs.{Setup, frame_lines, log_of}
+use Rattle.frame_runs.specs.Runs.{Setup, frame_lines, log_of}
 use Rattle.frame_exec.specs.Following.{lines_behind, IsCutAt}
-use Rattle.frame_exec.proofs.Handing.{cut}
+use Rattle.frame_wires.proofs.Handing.{cut}
 
 -- the lines of one later frame more
 pub behind_more : (setup : Setup) (earlier later : List Frame) (frame : Frame) → lines_behind setup earlier (later ++ frame ∷ []) ≡ lines_behind setup earlier later ++ frame_lines setup (earlier ++ later) frame ∷ []

@@ -27,21 +27,21 @@ use Rattle.hs_monitors.specs.State.{Stands as HsStands}
 use Rattle.lc_watch.specs.Histories.{Setup as LcSetup}
 use Rattle.lc_watch.specs.declared.state.Lc.{Lc}
 use Rattle.frame_exec.specs.declared.bench.TheConstants.{DROPS}
-use Rattle.frame_exec.specs.declared.slot.TheConstants.{LIST_ROOM}
+use Rattle.app_suite.specs.declared.slot.TheConstants.{LIST_ROOM}
 use Rattle.frame_exec.specs.declared.bench.Bench.{Bench}
-use Rattle.frame_exec.specs.declared.activations.Naming.{Naming}
-use Rattle.frame_exec.specs.declared.activations.Naming.TheVariants.{Accepted, Refused, Running}
-use Rattle.frame_exec.specs.Tables.{TableSet, Loaded, AreGiven, with_table, with_file}
-use Rattle.frame_exec.specs.Activations.{can_activate, naming_of, TakesTable, hs_activated, cs_activated, sc_activated, md_activated, table_event}
-use Rattle.frame_exec.specs.Applications.{cs_tables, sc_begun, hs_setup, lc_setup, mm_stands, lc_stands}
-use Rattle.frame_exec.specs.Runs.{Setup, State, time_at, active_in, runs_at, naming_at, with_active, after_line, after_naming, after_activation, activated_at, table_events}
-use Rattle.frame_exec.specs.Jobs.{jobs_of}
+use Rattle.app_suite.specs.declared.activations.Naming.{Naming}
+use Rattle.app_suite.specs.declared.activations.Naming.TheVariants.{Accepted, Refused, Running}
+use Rattle.active_tables.specs.Tables.{TableSet, Loaded, AreGiven, with_table, with_file}
+use Rattle.app_suite.specs.Activations.{can_activate, naming_of, TakesTable, hs_activated, cs_activated, sc_activated, md_activated, table_event}
+use Rattle.app_suite.specs.Applications.{cs_tables, sc_begun, hs_setup, lc_setup, mm_stands, lc_stands}
+use Rattle.frame_runs.specs.Runs.{Setup, State, time_at, active_in, runs_at, naming_at, with_active, after_line, after_naming, after_activation, activated_at, table_events}
+use Rattle.app_suite.specs.Jobs.{jobs_of}
 use Rattle.frame_exec.specs.Standing.{Has, IsReady}
 use Rattle.frame_exec.specs.Stages.{GoesOn, NamesFile, Activates, time_of}
 use Rattle.scenario.specs.FrameLists.{Frame}
-use Rattle.frame_exec.proofs.Frames.{activations_keep, folded_number}
-use Rattle.frame_exec.proofs.GivenTables.{file_given}
-use Rattle.frame_exec.proofs.Activating.{hs_follow, hs_goes, cs_follow, sc_follow, sc_goes, limits_stay, runs_kept, event_of_table, with_kind, given_file}
+use Rattle.frame_runs.proofs.Frames.{activations_keep, folded_number}
+use Rattle.active_tables.proofs.GivenTables.{file_given}
+use Rattle.app_suite.proofs.Activating.{hs_follow, hs_goes, cs_follow, sc_follow, sc_goes, limits_stay, runs_kept, event_of_table, with_kind, given_file}
 
 -- what a bench keeps where a table becomes active
 pub record KeepsRest (old new : Bench) : Type 0 where

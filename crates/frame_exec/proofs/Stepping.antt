@@ -6,7 +6,7 @@ use Rattle.bus_pipes.specs.declared.names.Out.{Out}
 use Rattle.packet_forms.specs.declared.name.Counter.{Counter}
 use Rattle.packet_log.specs.Sent.{makes}
 use Rattle.packet_log.specs.Standing.{Stands as LogStands}
-use Rattle.frame_exec.specs.Sending.{is_reset, offered, sent_of}
+use Rattle.frame_wires.specs.Sending.{is_reset, offered, sent_of}
 use Rattle.bus_pipes.specs.Pipes.{Pipes}
 use Rattle.table_files.specs.Files.{loads_of}
 use Rattle.memory_window.specs.Memory.{Memory}
@@ -14,10 +14,10 @@ use Rattle.mm_core.specs.Step.{mm_operations}
 use Rattle.scenario.specs.declared.frame.App.TheVariants as names
 use Rattle.scenario.specs.FrameLists.{Frame}
 use Rattle.frame_exec.specs.declared.bench.Bench.{Bench}
-use Rattle.frame_exec.specs.Tables.{TableSet, Loaded}
-use Rattle.frame_exec.specs.Applications.{cs_tables, lc_setup, hs_stands, cs_stands, sc_stands, mm_stands, md_stands, lc_stands, hs_gives, cs_gives, sc_gives, mm_gives, md_gives, lc_gives, hs_reads, cs_reads, sc_reads, mm_reads, md_reads, lc_reads}
-use Rattle.frame_exec.specs.Wakes.{HasTaken, IsWoken, unless, joined}
-use Rattle.frame_exec.specs.Runs.{Setup, State, table_events, is_held, is_away, active_in, time_at, image_at, hs_input_at, cs_input_at, sc_input_at, mm_input_at, md_input_at, lc_input_at, items_at, operations_at, left_by, sent_at, resets_at, offers_at, after_wakeups}
+use Rattle.active_tables.specs.Tables.{TableSet, Loaded}
+use Rattle.app_suite.specs.Applications.{cs_tables, lc_setup, hs_stands, cs_stands, sc_stands, mm_stands, md_stands, lc_stands, hs_gives, cs_gives, sc_gives, mm_gives, md_gives, lc_gives, hs_reads, cs_reads, sc_reads, mm_reads, md_reads, lc_reads}
+use Rattle.app_suite.specs.Wakes.{HasTaken, IsWoken, unless, joined}
+use Rattle.frame_runs.specs.Runs.{Setup, State, table_events, is_held, is_away, active_in, time_at, image_at, hs_input_at, cs_input_at, sc_input_at, mm_input_at, md_input_at, lc_input_at, items_at, operations_at, left_by, sent_at, resets_at, offers_at, after_wakeups}
 use Rattle.frame_exec.specs.Standing.{AppsStand}
 use Rattle.frame_exec.specs.Stages.{Takes, Arrives, Steps, TellsFirst, Sends, RunsIn, loads_in, time_of, items_in}
 use Rattle.frame_exec.proofs.Frames.{apps_kept}

@@ -9,10 +9,10 @@ use Rattle.scenario.specs.declared.frame.App.TheVariants as apps
 use Rattle.scenario.specs.declared.frame.Upset.{Upset}
 use Rattle.scenario.specs.FrameLists.{Frame}
 use Rattle.memory_window.specs.Memory.{Memory}
-use Rattle.frame_exec.specs.Tables.{TableSet}
-use Rattle.frame_exec.specs.Sending.{is_same, taken, without_limits, upset_by}
-use Rattle.frame_exec.specs.Wakes.{history_after, unless, HasTaken, IsWoken}
-use Rattle.frame_exec.specs.Runs.{State, image_at, left_by}
+use Rattle.active_tables.specs.Tables.{TableSet}
+use Rattle.frame_wires.specs.Sending.{is_same, taken, without_limits, upset_by}
+use Rattle.app_suite.specs.Wakes.{history_after, unless, HasTaken, IsWoken}
+use Rattle.frame_runs.specs.Runs.{State, image_at, left_by}
 
 -- the frame's image, by the upsets that were written
 pub image_is : (s : State) (frame : Frame) (before after : Memory) (upsets : List Upset) → before ≡ s.memory → upsets ≡ frame.upsets → after ≡ fold upset_by before upsets → after ≡ image_at s frame

@@ -11,19 +11,19 @@ use Rattle.md_dwell.specs.declared.state.Md.{Md}
 use Rattle.hs_monitors.specs.declared.step.TheConstants.{MOST_ITEMS as hs_most}
 use Rattle.lc_watch.specs.declared.step.TheConstants.{MOST_ITEMS as lc_most}
 use Rattle.frame_exec.specs.declared.bench.TheConstants.{DROPS}
-use Rattle.frame_exec.specs.declared.slot.TheConstants.{LIST_ROOM}
+use Rattle.app_suite.specs.declared.slot.TheConstants.{LIST_ROOM}
 use Rattle.frame_exec.specs.declared.bench.Bench.{Bench}
 use Rattle.crew_board.specs.Seen.{Seen as Crew}
-use Rattle.frame_exec.specs.declared.left.Left.{Left}
-use Rattle.frame_exec.specs.declared.lc_slot.LcSlot.{LcSlot}
-use Rattle.frame_exec.specs.Applications.{lc_setup, lc_stands, lc_gives, lc_reads}
-use Rattle.frame_exec.specs.Jobs.{jobs_of}
-use Rattle.frame_exec.specs.Landable.{CanLand}
+use Rattle.app_suite.specs.declared.left.Left.{Left}
+use Rattle.app_suite.specs.declared.lc_slot.LcSlot.{LcSlot}
+use Rattle.app_suite.specs.Applications.{lc_setup, lc_stands, lc_gives, lc_reads}
+use Rattle.app_suite.specs.Jobs.{jobs_of}
+use Rattle.app_suite.specs.Landable.{CanLand}
 use Rattle.frame_exec.specs.Standing.{IsReady}
-use Rattle.frame_exec.specs.Tables.{Loaded, AreGiven}
-use Rattle.frame_exec.specs.Wakes.{AreSendable, IsWoken}
+use Rattle.active_tables.specs.Tables.{Loaded, AreGiven}
+use Rattle.app_suite.specs.Wakes.{AreSendable, IsWoken}
 use Rattle.frame_exec.specs.Stages.{AreWoken, CanSend, Steps, TakesOver, loads_in, time_of}
-use Rattle.frame_exec.proofs.Taking.{state_is, taken_woken, taken_sendable}
+use Rattle.app_suite.proofs.Taking.{state_is, taken_woken, taken_sendable}
 
 -- what the jobs left but LC's was taken over, and then LC's: the rest stays as it was
 pub over_beside : (old new : Bench) (lc : LcSlot) (crew : Crew Left) (room : new.drops.room ≡ DROPS) (manned : crew.jobs ≡ jobs_of new.bus.watched) (there : lc.there ≡ new.bus.watched) (told : new.activations.room ≡ LIST_ROOM)

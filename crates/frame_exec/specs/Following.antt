@@ -6,7 +6,7 @@ use Rattle.histories.specs.Words.{along}
 use Rattle.packet_log.specs.Blocks.{Waiting, Notes, ends_from, joined, tells}
 use Rattle.scenario.specs.FrameLists.{Frame}
 use Rattle.frame_exec.specs.declared.bench.Bench.{Bench}
-use Rattle.frame_exec.specs.Runs.{Setup, run_of, frame_lines, log_of}
+use Rattle.frame_runs.specs.Runs.{Setup, run_of, frame_lines, log_of}
 use Rattle.frame_exec.specs.Standing.{Has, has_failed, waiting_in, IsReady}
 
 -- the lines of each of the later frames, which come behind the earlier ones

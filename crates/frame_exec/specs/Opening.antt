@@ -5,9 +5,9 @@ use Rattle.memory_window.specs.Memory.{start_memory}
 use Rattle.memory_window.specs.declared.regions.Region.{Region}
 use Rattle.packet_log.specs.Blocks.{empty_block}
 use Rattle.frame_exec.specs.declared.bench.TheConstants.{DROPS}
-use Rattle.frame_exec.specs.declared.slot.TheConstants.{LIST_ROOM}
+use Rattle.app_suite.specs.declared.slot.TheConstants.{LIST_ROOM}
 use Rattle.frame_exec.specs.declared.opening.Room.{Room}
-use Rattle.frame_exec.specs.Jobs.{jobs_of}
+use Rattle.app_suite.specs.Jobs.{jobs_of}
 
 -- the room of a bench before the first frame, by the regions of its memory and whether LC is there
 pub record IsEmpty (regions : List Region) (there : Bool) (room : Room) : Type 0 where

@@ -25,16 +25,15 @@ use Rattle.mm_core.specs.declared.step.TheConstants.{MOST_ITEMS as mm_most}
 use Rattle.hs_monitors.specs.declared.step.TheConstants.{MOST_ITEMS as hs_most}
 use Rattle.lc_watch.specs.declared.step.TheConstants.{MOST_ITEMS as lc_most}
 use Rattle.frame_exec.specs.declared.bench.Bench.{Bench}
-use Rattle.frame_exec.specs.declared.holds.Holds.{Holds}
-use Rattle.frame_exec.specs.Tables.{TableSet}
-use Rattle.frame_exec.specs.Sending.{is_same, upset_by, sent_of, is_reset, offered}
+use Rattle.active_tables.specs.Tables.{TableSet}
+use Rattle.frame_wires.specs.Sending.{is_same, upset_by, sent_of, is_reset, offered}
 use Rattle.packet_log.specs.Sent.{makes}
-use Rattle.frame_exec.specs.Wakes.{joined, unless, AreSendable, HasTaken, IsWoken, next_of}
-use Rattle.frame_exec.specs.Applications.{Active, cs_tables, lc_setup, hs_stands, cs_stands, sc_stands, mm_stands, md_stands, lc_stands, hs_gives, cs_gives, sc_gives, mm_gives, md_gives, lc_gives, hs_reads, cs_reads, sc_reads, mm_reads, md_reads, lc_reads}
-use Rattle.frame_exec.specs.Runs.{Setup, State, after_activation, activated_at, run_of, table_events, image_at, items_at, operations_at, left_by, sent_at, resets_at, offers_at, after_wakeups, behind}
-use Rattle.frame_exec.specs.Landable.{CanLand}
-use Rattle.frame_exec.specs.declared.left.Left.{Left}
-use Rattle.frame_exec.specs.Jobs.{Gives, Operates, LeftAs, jobs_of}
+use Rattle.app_suite.specs.Wakes.{joined, unless, AreSendable, HasTaken, IsWoken, next_of}
+use Rattle.app_suite.specs.Applications.{Active, cs_tables, lc_setup, hs_stands, cs_stands, sc_stands, mm_stands, md_stands, lc_stands, hs_gives, cs_gives, sc_gives, mm_gives, md_gives, lc_gives, hs_reads, cs_reads, sc_reads, mm_reads, md_reads, lc_reads}
+use Rattle.frame_runs.specs.Runs.{Setup, State, after_activation, activated_at, run_of, table_events, image_at, items_at, operations_at, left_by, sent_at, resets_at, offers_at, after_wakeups, behind}
+use Rattle.app_suite.specs.Landable.{CanLand}
+use Rattle.app_suite.specs.declared.left.Left.{Left}
+use Rattle.app_suite.specs.Jobs.{Gives, Operates, LeftAs, jobs_of}
 use Rattle.frame_exec.specs.Standing.{AppsStand, Has}
 
 -- the time of the frame that comes
@@ -94,14 +93,6 @@ pub record IsUpset (upsets : List Upset) (old new : Bench) : Type 0 where
   pub pipes : new.bus ≡ old.bus
   pub log : new.log ≡ old.log
   pub memory : new.ram ≡ fold upset_by old.ram upsets
-
--- the applications of a list are held, and no others
-pub record AreHeld (held : List App) (holds : Holds) : Type 0 where
-  pub hs : holds.hs ≡ list_any (is_same names.Hs) held
-  pub cs : holds.cs ≡ list_any (is_same names.Cs) held
-  pub sc : holds.sc ≡ list_any (is_same names.Sc) held
-  pub mm : holds.mm ≡ list_any (is_same names.Mm) held
-  pub md : holds.md ≡ list_any (is_same names.Md) held
 
 -- each application took what its pipes held, unless it was held, and LC where its pipes are there; and gave nothing yet
 pub record Takes (held : List App) (old new : Bench) : Type 0 where

@@ -10,9 +10,9 @@ use Rattle.scenario.specs.declared.progress.Header.{Header}
 use Rattle.scenario.specs.declared.frame.Upset.{Upset}
 use Rattle.scenario.specs.FrameLists.{Frame}
 use Rattle.frame_exec.specs.declared.bench.Bench.{Bench}
-use Rattle.frame_exec.specs.Applications.{lc_setup, hs_stands, cs_stands, sc_stands, mm_stands, md_stands, lc_stands}
-use Rattle.frame_exec.specs.Tables.{AreGiven}
-use Rattle.frame_exec.specs.Runs.{Setup, State, active_in, image_at, run_of}
+use Rattle.app_suite.specs.Applications.{lc_setup, hs_stands, cs_stands, sc_stands, mm_stands, md_stands, lc_stands}
+use Rattle.active_tables.specs.Tables.{AreGiven}
+use Rattle.frame_runs.specs.Runs.{Setup, State, active_in, image_at, run_of}
 
 -- the state of each application stands for its history
 pub record AppsStand (b : Bench) (s : State) : Type 0 where

@@ -2,28 +2,21 @@
 
 ghost use Rattle.std.specs.Prelude.{◌≡◌};
 ghost use Rattle.frame_exec.specs.declared.bench.TheConstants.{DROPS};
-ghost use Rattle.frame_exec.specs.declared.slot.TheConstants.{LIST_ROOM};
+ghost use Rattle.app_suite.specs.declared.slot.TheConstants.{LIST_ROOM};
 ghost use Rattle.hs_monitors.specs.declared.step.TheConstants.{MOST_ITEMS};
-ghost use Rattle.frame_exec.specs.Jobs.{jobs_of};
+ghost use Rattle.app_suite.specs.Jobs.{jobs_of};
 
-use crate::activations::{Naming, hand_over, naming_of, tell};
-use crate::crowds::obey_frame;
-use crate::cs_slot::CsSlot;
 use crate::cut::Cut;
-use crate::holds::Holds;
-use crate::hs_slot::HsSlot;
-use crate::lc_slot::LcSlot;
-use crate::left::Left;
-use crate::md_slot::MdSlot;
-use crate::mm_slot::MmSlot;
-use crate::sc_slot::ScSlot;
-use crate::stages::{
-    deliver_all, has_reset, in_order, put_behind, put_frame, stamp_all, take_unless, upset_all,
+use active_tables::Tables;
+use app_suite::{
+    CsSlot, Holds, HsSlot, LcSlot, Left, MdSlot, MmSlot, Naming, ScSlot, deliver_all, hand_over,
+    in_order, naming_of, tell,
 };
-use crate::tables::Tables;
 use bus_pipes::{Batch, Bus, Drops, Outbox, PipeName};
 use crew_board::Crew;
 use cs_slices::Cs;
+use frame_runs::obey_frame;
+use frame_wires::{has_reset, put_behind, put_frame, stamp_all, take_unless, upset_all};
 use fsw_outside::{Failed, Gate, Sink};
 use hs_monitors::Hs;
 use lc_watch::Lc;
@@ -33,7 +26,7 @@ use mm_core::Mm;
 use packet_forms::Counter;
 use packet_log::{Block, LineBuffer, Log};
 use sc_sequences::Sc;
-use scenario::{App, FrameInput, Upset};
+use scenario::{FrameInput, Upset};
 use std::mem;
 use std::thread::Threads;
 use subjects::{Crowd, Subject};
@@ -91,19 +84,20 @@ impl<'f> Bench<'f> {
     ghost use Rattle.scenario.specs.declared.frame.Upset.{Upset};
     ghost use Rattle.scenario.specs.declared.frame.App.{App};
     ghost use Rattle.scenario.specs.FrameLists.{Frame};
-    ghost use Rattle.frame_exec.specs.Runs.{Setup, State, activated_at, naming_at, frame_lines, log_of, run_of};
-    ghost use Rattle.frame_exec.specs.Crowds.{with_counters, beside, behind_items, crowd_after};
+    ghost use Rattle.frame_runs.specs.Runs.{Setup, State, activated_at, naming_at, frame_lines, log_of, run_of};
+    ghost use Rattle.frame_runs.specs.Crowds.{with_counters, beside, behind_items, crowd_after};
     ghost use Rattle.subjects.specs.Crowds.{counter_of, all_cycled};
     ghost use Rattle.frame_exec.specs.Standing.{Has, has_failed, waiting_in, IsReady, Stands, IsInterrupted, CanRun};
     ghost use Rattle.frame_exec.specs.Following.{Follows, IsCutAt, Adds};
-    ghost use Rattle.frame_exec.specs.Landable.{CanLand};
+    ghost use Rattle.app_suite.specs.Landable.{CanLand};
     ghost use Rattle.std.specs.List.{AllPass, list_any};
     ghost use Rattle.bus_pipes.specs.Counted.{is_item_counted};
     ghost use Rattle.table_files.specs.Files.{kind_at};
-    ghost use Rattle.frame_exec.specs.Stages.{IsSameRun, GoesOn, NamesFile, Activates, TellsFirst, IsUpset, Takes, AreHeld, Arrives, CanSend, Sends, RunsIn, IsSameFrame, Lands, StartsAnew, IsStamped, HasGiven, items_in, loads_in, lines_in};
-    ghost use Rattle.frame_exec.specs.Sending.{is_reset};
-    ghost use Rattle.frame_exec.specs.Wakes.{joined};
-    ghost use Rattle.frame_exec.specs.declared.left.Left.{Left};
+    ghost use Rattle.frame_exec.specs.Stages.{IsSameRun, GoesOn, NamesFile, Activates, TellsFirst, IsUpset, Takes, Arrives, CanSend, Sends, RunsIn, IsSameFrame, Lands, StartsAnew, IsStamped, HasGiven, items_in, loads_in, lines_in};
+    ghost use Rattle.frame_wires.specs.Sending.{is_reset};
+    ghost use Rattle.app_suite.specs.Holding.{AreHeld};
+    ghost use Rattle.app_suite.specs.Wakes.{joined};
+    ghost use Rattle.app_suite.specs.declared.left.Left.{Left};
 
     /// Whether a frame of this bench failed.
     pub fn failed(&self) -> bool

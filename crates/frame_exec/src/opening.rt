@@ -4,24 +4,13 @@ ghost use Rattle.std.specs.Prelude.{IfOk};
 ghost use Rattle.frame_exec.specs.Opening.{IsEmpty};
 
 use crate::bench::{Bench, DROPS};
-use crate::giving::{OpenFault, refused_place};
-use crate::jobs::jobs_of;
-use crate::lc_slot::LcSlot;
-use crate::left::Left;
-use crate::slot::{LIST_ROOM, Slot};
-use crate::tables::Tables;
-use crate::watching::names_limit_checker;
+use active_tables::{OpenFault, Tables, names_limit_checker, refused_place};
+use app_suite::{LIST_ROOM, Left, Slots, jobs_of};
 use bus_pipes::{Batch, Bus, Drops, Outbox};
 use crew_board::Crew;
-use cs_slices::Cs;
 use fsw_outside::NoMemory;
-use hs_monitors::Hs;
-use lc_watch::Lc;
-use md_dwell::Md;
 use memory_window::{Ops, Ram};
-use mm_core::Mm;
 use packet_log::{Block, LineBuffer, Log};
-use sc_sequences::Sc;
 use scenario::Header;
 use std::alloc::Global;
 use table_files::Files;
@@ -62,7 +51,7 @@ impl<'f> Bench<'f> {
     ghost use Rattle.std.specs.Prelude.{ℕ, ◌≡◌, ◌≤◌, List, []};
     ghost use Rattle.frame_exec.specs.Standing.{Stands, setup_in};
     ghost use Rattle.frame_exec.specs.Following.{Follows};
-    ghost use Rattle.frame_exec.specs.Tables.{AreGiven, AreLoaded, Opens, region_fault};
+    ghost use Rattle.active_tables.specs.Tables.{AreGiven, AreLoaded, Opens, region_fault};
 
     /// A bench with the tables that were loaded from these files and the memory of the header's map, which stands for no frames; the number of
     /// workers is from 1 to 16. `Region` comes exactly where that memory refuses the read of a dwell entry of another length than 0, or the bytes
@@ -104,6 +93,7 @@ impl<'f> Bench<'f> {
         ensures { (files : List (List ℕ)) → AreLoaded files tables.entry → IfOk result (λ bench. Stands bench (setup_in header.now files) []) }
     {
         let lc = names_limit_checker(tables.files());
+        let slots = Slots::open(alloc, &tables, header.epoch, lc)?;
         let room = Room::open(alloc, header, workers, lc)?;
         Ok(Bench {
             epoch: header.epoch,
@@ -111,13 +101,13 @@ impl<'f> Bench<'f> {
             failed: false,
             resets: false,
             workers,
-            hs: Slot::open(alloc, Hs::start(tables.hs(), 0, 3), false)?,
+            hs: slots.hs,
             events: Batch::new(),
-            cs: Slot::open(alloc, Cs::start(tables.eeprom(), tables.memory()), false)?,
-            sc: Slot::open(alloc, Sc::start(tables.sc(), header.epoch), false)?,
-            mm: Slot::open(alloc, Mm::start(), false)?,
-            md: Slot::open(alloc, Md::start(tables.dwells()), false)?,
-            lc: LcSlot::open(alloc, Lc::start(tables.adt()), lc)?,
+            cs: slots.cs,
+            sc: slots.sc,
+            mm: slots.mm,
+            md: slots.md,
+            lc: slots.lc,
             tables,
             activations: room.activations,
             crew: room.crew,

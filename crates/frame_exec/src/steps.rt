@@ -4,9 +4,7 @@ ghost use Rattle.std.specs.Prelude.{◌≡◌};
 ghost use Rattle.hs_monitors.specs.declared.step.TheConstants.{MOST_ITEMS};
 
 use crate::bench::Bench;
-use crate::jobs::wake_all;
-use crate::reads::Reads;
-use crate::wakeups::Scene;
+use app_suite::{Reads, Scene, wake_all};
 use fsw_outside::Gate;
 use packet_forms::Counter;
 use std::thread::Threads;
@@ -15,8 +13,8 @@ impl<'f> Bench<'f> {
     ghost use Rattle.std.specs.Prelude.{◌+◌, ◌<◌, ◌≤◌, [], length, slice_index_or, true, false};
     ghost use Rattle.frame_exec.specs.Standing.{IsReady};
     ghost use Rattle.frame_exec.specs.Stages.{IsClear, Steps, CanSend, AreWoken, TakesOver, items_in};
-    ghost use Rattle.frame_exec.specs.Wakes.{joined};
-    ghost use Rattle.frame_exec.specs.declared.left.Left.{Left};
+    ghost use Rattle.app_suite.specs.Wakes.{joined};
+    ghost use Rattle.app_suite.specs.declared.left.Left.{Left};
 
     /// Wakes the applications that are there on what they took, on execution counters and on the frame's image, and tells whether no item
     /// was given. Where all rest none is woken, but in the first frame: its jobs go over all workers, whatever there is to do.

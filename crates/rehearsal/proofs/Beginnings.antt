@@ -18,9 +18,9 @@ use Rattle.rehearsal.specs.Outcome.{frames_of, setup_of, refused_read, fault_rep
 use Rattle.rehearsal.proofs.Outcomes.{log_in_none, whole_of, is_closed, parts_whole, refused_append}
 use Rattle.frame_exec.specs.Runs.{Setup}
 use Rattle.frame_exec.specs.Tables.{tables_fault, first_said, region_fault, Opens}
-use Rattle.frame_exec.specs.declared.giving.OpenFault.{OpenFault}
-use Rattle.frame_exec.specs.declared.giving.OpenFault.TheVariants as faults
-use Rattle.frame_exec.specs.declared.loading.TablesFault.{TablesFault}
+use Rattle.active_tables.specs.declared.giving.OpenFault.{OpenFault}
+use Rattle.active_tables.specs.declared.giving.OpenFault.TheVariants as faults
+use Rattle.active_tables.specs.declared.loading.TablesFault.{TablesFault}
 use Rattle.packet_log.specs.Blocks.{empty_block}
 use Rattle.frame_exec.specs.Following.{Follows}
 use Rattle.frame_exec.specs.Standing.{waiting_in}

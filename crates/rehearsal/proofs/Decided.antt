@@ -7,7 +7,7 @@ use Rattle.scenario.specs.declared.item.Item.TheVariants as answers
 use Rattle.scenario.specs.Texts.{Text, Reading, Ended, Open}
 use Rattle.subjects.specs.Plans.{Simulated}
 use Rattle.frame_exec.specs.Tables.{tables_fault}
-use Rattle.frame_exec.specs.declared.loading.TablesFault.{TablesFault}
+use Rattle.active_tables.specs.declared.loading.TablesFault.{TablesFault}
 use Rattle.rehearsal.specs.declared.report.Report.{Report}
 use Rattle.rehearsal.specs.declared.report.Status.{Status}
 use Rattle.rehearsal.specs.declared.report.Status.TheVariants as statuses

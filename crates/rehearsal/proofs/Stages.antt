@@ -9,7 +9,7 @@ use Rattle.rehearsal.specs.declared.report.Report.{Report}
 use Rattle.rehearsal.specs.declared.report.Status.{Status}
 use Rattle.rehearsal.specs.declared.report.Status.TheVariants as statuses
 use Rattle.frame_exec.specs.Tables.{tables_fault}
-use Rattle.frame_exec.specs.declared.loading.TablesFault.{TablesFault}
+use Rattle.active_tables.specs.declared.loading.TablesFault.{TablesFault}
 use Rattle.rehearsal.specs.Words.{Asked, drill_in, file_unless, words_to_open}
 use Rattle.rehearsal.specs.Beside.{crowd_for}
 use Rattle.rehearsal.specs.Files.{AsksFor, OpensOnce, AreTaken, EndsAtFile}

@@ -17,9 +17,9 @@ use Rattle.scenario.specs.Answers.{answer_at_end}
 use Rattle.frame_exec.specs.Runs.{Setup, frame_lines, log_of}
 use Rattle.frame_exec.specs.Crowds.{frames_run}
 use Rattle.frame_exec.specs.Tables.{tables_fault, region_fault}
-use Rattle.frame_exec.specs.declared.loading.TablesFault.{TablesFault}
-use Rattle.frame_exec.specs.declared.giving.OpenFault.{OpenFault}
-use Rattle.frame_exec.specs.declared.giving.OpenFault.TheVariants as faults
+use Rattle.active_tables.specs.declared.loading.TablesFault.{TablesFault}
+use Rattle.active_tables.specs.declared.giving.OpenFault.{OpenFault}
+use Rattle.active_tables.specs.declared.giving.OpenFault.TheVariants as faults
 use Rattle.rehearsal.specs.declared.report.Status.{Status}
 use Rattle.rehearsal.specs.declared.report.Status.TheVariants as statuses
 use Rattle.rehearsal.specs.declared.report.Report.{Report}

@@ -5,7 +5,7 @@ ghost use Rattle.fsw_outside.specs.Files.{Content};
 ghost use Rattle.scenario.specs.Texts.{Text, Ended, Open, reading};
 ghost use Rattle.subjects.specs.Plans.{Simulated};
 ghost use Rattle.frame_exec.specs.Tables.{tables_fault};
-ghost use Rattle.frame_exec.specs.declared.loading.TablesFault.{TablesFault};
+ghost use Rattle.active_tables.specs.declared.loading.TablesFault.{TablesFault};
 ghost use Rattle.rehearsal.specs.Words.{Asked, drill_in, accepted_words};
 ghost use Rattle.rehearsal.specs.Files.{Refusal, AreTaken};
 ghost use Rattle.rehearsal.specs.Lines.{Rehearsed, FailsOn, Refuses, ReadsText, IsDrill};

@@ -2,8 +2,8 @@ use Rattle.std.proofs.Common.{◌≡◌, ℕ, ◌-◌, ◌≤◌, List, [], ◌�
 use Rattle.fsw_outside.specs.Told.{WhereTold}
 use Rattle.packet_forms.specs.declared.name.Counter.{Counter}
 use Rattle.packet_log.specs.Blocks.{tells}
-use Rattle.frame_exec.specs.Runs.{frame_lines, log_of}
-use Rattle.frame_exec.specs.Crowds.{with_counters, beside}
+use Rattle.frame_runs.specs.Runs.{frame_lines, log_of}
+use Rattle.frame_runs.specs.Crowds.{with_counters, beside}
 use Rattle.frame_exec.specs.Following.{Follows, IsCutAt}
 use Rattle.frame_exec.specs.Stages.{HasGiven}
 use Rattle.frame_exec.proofs.Obeying.{obeyed_frame}

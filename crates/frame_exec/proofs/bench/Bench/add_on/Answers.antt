@@ -2,12 +2,13 @@ use Rattle.std.proofs.Common.{ℕ, ◌+◌, ◌++◌, length, sym, ap, ◌∙◌
 use Rattle.std.specs.Prelude.{Err}
 use Rattle.fsw_outside.specs.declared.traits.Failed.{Failed}
 use Rattle.frame_exec.specs.Stages.{lines_in}
-use Rattle.frame_exec.specs.Tables.{Loaded}
-use Rattle.frame_exec.specs.Runs.{run_of}
-use Rattle.frame_exec.specs.Crowds.{with_counters}
+use Rattle.active_tables.specs.Tables.{Loaded}
+use Rattle.frame_runs.specs.Runs.{run_of}
+use Rattle.frame_runs.specs.Crowds.{with_counters}
 use Rattle.packet_log.specs.Blocks.{Waiting, Notes, ends_from, joined}
 use Rattle.frame_exec.specs.Following.{lines_behind, Adds}
-use Rattle.frame_exec.proofs.Frames.{lines_are, has_next, ready_next, can_land_still, upsets_mapped, time_fits, has_given}
+use Rattle.frame_exec.proofs.Frames.{has_next, ready_next, can_land_still, upsets_mapped, time_fits, has_given}
+use Rattle.frame_runs.proofs.Frames.{lines_are}
 use Rattle.frame_exec.proofs.Behind.{follows_next, cut_added, told_added}
 use Rattle.frame_exec.proofs.bench.Bench.add_on.Goals as goal
 

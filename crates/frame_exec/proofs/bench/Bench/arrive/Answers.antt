@@ -3,7 +3,8 @@ use Rattle.memory_window.specs.Memory.{Memory, regions_of}
 use Rattle.scenario.specs.declared.frame.App.{App}
 use Rattle.frame_exec.specs.Stages.{Arrives, Takes}
 use Rattle.frame_exec.specs.declared.bench.Bench.{Bench}
-use Rattle.frame_exec.proofs.Frames.{ready_by, regions_same}
+use Rattle.frame_exec.proofs.Frames.{ready_by}
+use Rattle.frame_runs.proofs.Frames.{regions_same}
 use Rattle.frame_exec.proofs.bench.Bench.arrive.Goals as goal
 
 -- the frame isn't plain, and nothing changed yet

@@ -1,4 +1,4 @@
-use Rattle.frame_exec.proofs.Offers.{reset_in_six}
+use Rattle.frame_wires.proofs.Offers.{reset_in_six}
 use Rattle.frame_exec.proofs.bench.Bench.asks_for_reset.Goals as goal
 
 pub returns : goal.returns

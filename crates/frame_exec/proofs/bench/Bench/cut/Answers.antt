@@ -2,9 +2,9 @@ use Rattle.std.proofs.Common.{◌≡◌, true}
 use Rattle.std.proofs.Math.Bool.{Bool-set}
 use Rattle.std.proofs.Math.Nat.{ℕ_set}
 use Rattle.frame_exec.specs.declared.bench.TheConstants.{DROPS}
-use Rattle.frame_exec.specs.declared.slot.TheConstants.{LIST_ROOM}
+use Rattle.app_suite.specs.declared.slot.TheConstants.{LIST_ROOM}
 use Rattle.frame_exec.specs.declared.bench.Bench.{Bench}
-use Rattle.frame_exec.specs.Jobs.{jobs_of}
+use Rattle.app_suite.specs.Jobs.{jobs_of}
 use Rattle.frame_exec.proofs.bench.Bench.cut.Goals as goal
 
 -- each room is known in one way, and so are the number of jobs and whether LC is there

@@ -3,8 +3,8 @@ use Rattle.std.specs.Prelude.{OnOk, OnErr}
 use Rattle.fsw_outside.specs.Told.{WhereTold}
 use Rattle.fsw_outside.specs.Written.{WritesAll}
 use Rattle.packet_forms.specs.declared.name.Counter.{Counter}
-use Rattle.frame_exec.specs.Runs.{frame_lines}
-use Rattle.frame_exec.specs.Crowds.{with_counters}
+use Rattle.frame_runs.specs.Runs.{frame_lines}
+use Rattle.frame_runs.specs.Crowds.{with_counters}
 use Rattle.frame_exec.specs.Standing.{Stands, IsInterrupted}
 use Rattle.frame_exec.proofs.bench.Bench.frame.Goals as goal
 

@@ -1,10 +1,11 @@
 use Rattle.std.proofs.Common.{ℕ, ◌+◌, List, ◌++◌, ◌∙◌, ap, subst, arith}
-use Rattle.frame_exec.specs.Tables.{Loaded}
-use Rattle.frame_exec.specs.Runs.{run_of}
-use Rattle.frame_exec.specs.Crowds.{with_counters}
+use Rattle.active_tables.specs.Tables.{Loaded}
+use Rattle.frame_runs.specs.Runs.{run_of}
+use Rattle.frame_runs.specs.Crowds.{with_counters}
 use Rattle.fsw_outside.specs.Written.{AppendsPart}
 use Rattle.fsw_outside.specs.TellingLaws.{told_map}
-use Rattle.frame_exec.proofs.Frames.{activated_image, lines_are, has_next, ready_next, can_land_still, upsets_mapped, time_fits, has_given}
+use Rattle.frame_exec.proofs.Frames.{has_next, ready_next, can_land_still, upsets_mapped, time_fits, has_given}
+use Rattle.frame_runs.proofs.Frames.{activated_image, lines_are}
 use Rattle.frame_exec.proofs.bench.Bench.frame_on.Goals as goal
 
 pub run-silent-requires-clause-time : goal.run-silent-requires-clause-time

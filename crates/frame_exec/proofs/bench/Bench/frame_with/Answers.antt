@@ -2,8 +2,8 @@ use Rattle.std.proofs.Common.{◌≡◌, List, [], ◌∷◌, ◌++◌, map, ◌
 use Rattle.fsw_outside.specs.Told.{WhereTold}
 use Rattle.fsw_outside.specs.Written.{AppendsPart}
 use Rattle.packet_forms.specs.declared.name.Counter.{Counter}
-use Rattle.frame_exec.specs.Runs.{frame_lines}
-use Rattle.frame_exec.specs.Crowds.{with_counters, beside}
+use Rattle.frame_runs.specs.Runs.{frame_lines}
+use Rattle.frame_runs.specs.Crowds.{with_counters, beside}
 use Rattle.frame_exec.specs.Standing.{Stands, IsInterrupted}
 use Rattle.frame_exec.specs.Stages.{HasGiven}
 use Rattle.frame_exec.proofs.Obeying.{obeyed_frame}

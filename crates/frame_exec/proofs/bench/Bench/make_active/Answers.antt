@@ -5,9 +5,9 @@ use Rattle.table_files.specs.Headers.{payload_of_file}
 use Rattle.table_files.proofs.Accepted.{kind_known}
 use Rattle.table_files.proofs.Lists.{numbers_of_tables}
 use Rattle.sc_sequences.specs.State.{Stands as ScStands}
-use Rattle.frame_exec.specs.Tables.{Loaded}
-use Rattle.frame_exec.specs.Activations.{can_activate}
-use Rattle.frame_exec.proofs.Activating.{with_kind}
+use Rattle.active_tables.specs.Tables.{Loaded}
+use Rattle.app_suite.specs.Activations.{can_activate}
+use Rattle.app_suite.proofs.Activating.{with_kind}
 use Rattle.frame_exec.proofs.Naming.{accepted_parts, naming_is, named_active, ready_active, given_next}
 use Rattle.frame_exec.proofs.bench.Bench.make_active.Goals as goal
 

@@ -1,7 +1,7 @@
 use Rattle.std.proofs.Common.{[], option_map, sym, ◌∙◌, ap}
-use Rattle.frame_exec.specs.declared.giving.EntryPlace.{EntryPlace}
+use Rattle.active_tables.specs.declared.giving.EntryPlace.{EntryPlace}
 use Rattle.frame_exec.proofs.Behind.{standing_follows}
-use Rattle.frame_exec.proofs.GivenTables.{given_loaded}
+use Rattle.active_tables.proofs.GivenTables.{given_loaded}
 use Rattle.frame_exec.proofs.bench.Bench.open.Goals as goal
 
 pub begin-requires : goal.begin-requires

@@ -2,8 +2,8 @@ use Rattle.std.proofs.Common.{ℕ, List, sym, subst}
 use Rattle.std.specs.Prelude.{Ok}
 use Rattle.fsw_outside.specs.declared.traits.Failed.{Failed}
 use Rattle.packet_log.specs.Blocks.{Puts}
-use Rattle.frame_exec.proofs.Lines.{nothing_put}
-use Rattle.frame_exec.proofs.Handing.{lines_by}
+use Rattle.frame_wires.proofs.Lines.{nothing_put}
+use Rattle.frame_wires.proofs.Handing.{lines_by}
 use Rattle.frame_exec.proofs.bench.Bench.put_lines.Goals as goal
 
 pub returns-then-silent-clause-puts : goal.returns-then-silent-clause-puts

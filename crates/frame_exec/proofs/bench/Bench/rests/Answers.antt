@@ -3,9 +3,9 @@ use Rattle.bus_pipes.specs.declared.names.Out.{Out}
 use Rattle.memory_window.specs.Memory.{Memory}
 use Rattle.memory_window.specs.Window.{seen}
 use Rattle.mm_core.specs.Step.{mm_operations}
-use Rattle.frame_exec.specs.Applications.{lc_setup, hs_stands, cs_stands, sc_stands, mm_stands, md_stands, lc_stands, hs_gives, cs_gives, sc_gives, mm_gives, md_gives, lc_gives, hs_reads, cs_reads, sc_reads, mm_reads, md_reads, lc_reads}
+use Rattle.app_suite.specs.Applications.{lc_setup, hs_stands, cs_stands, sc_stands, mm_stands, md_stands, lc_stands, hs_gives, cs_gives, sc_gives, mm_gives, md_gives, lc_gives, hs_reads, cs_reads, sc_reads, mm_reads, md_reads, lc_reads}
 use Rattle.frame_exec.specs.Stages.{loads_in}
-use Rattle.frame_exec.specs.Wakes.{IsWoken}
+use Rattle.app_suite.specs.Wakes.{IsWoken}
 use Rattle.frame_exec.proofs.Waking.{left_unless, of_both}
 use Rattle.frame_exec.proofs.bench.Bench.rests.Goals as goal
 

@@ -1,8 +1,8 @@
 use Rattle.std.proofs.Common.{[], refl, sym, ◌∙◌, ap, subst, arith}
 use Rattle.packet_log.specs.Standing.{Stands as LogStands}
-use Rattle.frame_exec.specs.Tables.{Loaded}
-use Rattle.frame_exec.specs.Runs.{activated_at}
-use Rattle.frame_exec.specs.Crowds.{with_counters}
+use Rattle.active_tables.specs.Tables.{Loaded}
+use Rattle.frame_runs.specs.Runs.{activated_at}
+use Rattle.frame_runs.specs.Crowds.{with_counters}
 use Rattle.frame_exec.proofs.Frames.{apps_kept}
 use Rattle.frame_exec.proofs.Naming.{activated_has}
 use Rattle.frame_exec.proofs.Waking.{image_is}

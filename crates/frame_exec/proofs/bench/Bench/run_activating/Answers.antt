@@ -9,9 +9,9 @@ use Rattle.memory_window.specs.Memory.{Memory, regions_of}
 use Rattle.memory_window.specs.declared.regions.Region.{Region}
 use Rattle.packet_log.specs.Standing.{Stands as LogStands}
 use Rattle.scenario.specs.declared.frame.Upset.{Upset}
-use Rattle.frame_exec.specs.Tables.{Loaded}
-use Rattle.frame_exec.specs.Runs.{activated_at}
-use Rattle.frame_exec.specs.Crowds.{with_counters}
+use Rattle.active_tables.specs.Tables.{Loaded}
+use Rattle.frame_runs.specs.Runs.{activated_at}
+use Rattle.frame_runs.specs.Crowds.{with_counters}
 use Rattle.frame_exec.proofs.Frames.{apps_kept}
 use Rattle.frame_exec.proofs.Naming.{activated_has, events_at}
 use Rattle.frame_exec.proofs.Waking.{image_is}

@@ -5,11 +5,11 @@ use Rattle.bus_pipes.specs.declared.names.Out.{Out}
 use Rattle.bus_pipes.proofs.Deliveries.{after_offers_none, drops_none}
 use Rattle.packet_log.specs.Sent.{makes}
 use Rattle.packet_log.specs.Standing.{Stands as LogStands}
-use Rattle.frame_exec.specs.Sending.{packet_in, is_reset, sent_of}
+use Rattle.frame_wires.specs.Sending.{packet_in, is_reset, sent_of}
 use Rattle.frame_exec.specs.Stages.{items_in}
-use Rattle.frame_exec.specs.Wakes.{joined}
-use Rattle.frame_exec.proofs.Offers.{offers_nothing}
-use Rattle.frame_exec.proofs.Stamping.{sent_none}
+use Rattle.app_suite.specs.Wakes.{joined}
+use Rattle.frame_wires.proofs.Offers.{offers_nothing}
+use Rattle.frame_wires.proofs.Stamping.{sent_none}
 use Rattle.frame_exec.proofs.bench.Bench.send.Goals as goal
 
 -- neither the frame nor an application gave anything

@@ -5,11 +5,11 @@ use Rattle.bus_pipes.specs.Delivery.{after_offers, drops_from}
 use Rattle.bus_pipes.specs.declared.names.Dropped.{Dropped}
 use Rattle.bus_pipes.specs.Pipes.{Pipes}
 use Rattle.bus_pipes.proofs.Deliveries.{after_offers_none, drops_none, watched_after}
-use Rattle.frame_exec.specs.Sending.{packet_in, offered}
-use Rattle.frame_exec.specs.Jobs.{jobs_of}
+use Rattle.frame_wires.specs.Sending.{packet_in, offered}
+use Rattle.app_suite.specs.Jobs.{jobs_of}
 use Rattle.frame_exec.specs.Stages.{items_in}
-use Rattle.frame_exec.specs.Wakes.{joined}
-use Rattle.frame_exec.proofs.Offers.{offers_two, drops_two}
+use Rattle.app_suite.specs.Wakes.{joined}
+use Rattle.frame_wires.proofs.Offers.{offers_two, drops_two}
 use Rattle.frame_exec.proofs.bench.Bench.send_all.Goals as goal
 
 -- a processor reset is asked for

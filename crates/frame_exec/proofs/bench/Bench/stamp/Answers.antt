@@ -2,8 +2,8 @@ use Rattle.std.proofs.Common.{ℕ, List, [], ◌++◌, refl, sym, subst, append-
 use Rattle.std.specs.List.{flat_map}
 use Rattle.packet_log.specs.Sent.{makes}
 use Rattle.packet_log.specs.Standing.{Stands as LogStands}
-use Rattle.frame_exec.proofs.Offers.{six_as_long}
-use Rattle.frame_exec.proofs.Stamping.{sent_none, sent_then, made_two}
+use Rattle.frame_wires.proofs.Offers.{six_as_long}
+use Rattle.frame_wires.proofs.Stamping.{sent_none, sent_then, made_two}
 use Rattle.frame_exec.proofs.bench.Bench.stamp.Goals as goal
 
 pub returns : goal.returns

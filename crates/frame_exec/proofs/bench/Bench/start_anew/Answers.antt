@@ -16,11 +16,11 @@ use Rattle.mm_core.specs.State.{Stands as MmStands}
 use Rattle.hs_tables.specs.declared.tables.HsTables.{HsTables}
 use Rattle.hs_monitors.specs.Histories.{setup_of}
 use Rattle.hs_monitors.specs.State.{Stands as HsStands}
-use Rattle.frame_exec.specs.Applications.{cs_tables, hs_setup}
-use Rattle.frame_exec.specs.Tables.{Loaded, tables_of}
-use Rattle.frame_exec.specs.Runs.{active_in}
+use Rattle.app_suite.specs.Applications.{cs_tables, hs_setup}
+use Rattle.active_tables.specs.Tables.{Loaded, tables_of}
+use Rattle.frame_runs.specs.Runs.{active_in}
 use Rattle.frame_exec.proofs.Frames.{has_begun, has_anew, has_behind, ready_begun}
-use Rattle.frame_exec.proofs.GivenTables.{given_again}
+use Rattle.active_tables.proofs.GivenTables.{given_again}
 use Rattle.frame_exec.proofs.bench.Bench.start_anew.Goals as goal
 
 pub returns-clause-anew : goal.returns-clause-anew

@@ -1,6 +1,6 @@
 use Rattle.std.proofs.Common.{◌∙◌, ap, sym, arith}
-use Rattle.frame_exec.specs.declared.lc_slot.LcSlot.{LcSlot}
-use Rattle.frame_exec.proofs.Taking.{away_woken, none_sendable, five_or_six}
+use Rattle.app_suite.specs.declared.lc_slot.LcSlot.{LcSlot}
+use Rattle.app_suite.proofs.Taking.{away_woken, none_sendable, five_or_six}
 use Rattle.frame_exec.proofs.Woken.{all_step, all_can_send, all_few, all_ready}
 use Rattle.frame_exec.proofs.bench.Bench.step.Goals as goal
 

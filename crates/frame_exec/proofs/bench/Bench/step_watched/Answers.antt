@@ -1,6 +1,6 @@
 use Rattle.std.proofs.Common.{◌∙◌, ap, refl, sym, arith}
-use Rattle.frame_exec.specs.declared.lc_slot.LcSlot.{LcSlot}
-use Rattle.frame_exec.proofs.Taking.{taken_woken, taken_sendable, five_or_six}
+use Rattle.app_suite.specs.declared.lc_slot.LcSlot.{LcSlot}
+use Rattle.app_suite.proofs.Taking.{taken_woken, taken_sendable, five_or_six}
 use Rattle.frame_exec.proofs.Woken.{all_step, all_can_send, all_few, all_ready, over_beside}
 use Rattle.frame_exec.proofs.bench.Bench.step_watched.Goals as goal
 

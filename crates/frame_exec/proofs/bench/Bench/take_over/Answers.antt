@@ -3,9 +3,9 @@ use Rattle.std.proofs.lemmas.List.{get_or-set_other, get_or-set_same}
 use Rattle.bus_pipes.specs.Held.{Held}
 use Rattle.bus_pipes.specs.declared.names.Out.{Out}
 use Rattle.mm_core.specs.declared.state.Mm.{Mm}
-use Rattle.frame_exec.specs.declared.left.Left.{Left}
-use Rattle.frame_exec.specs.Wakes.{next_of}
-use Rattle.frame_exec.proofs.Taking.{none_given}
+use Rattle.app_suite.specs.declared.left.Left.{Left}
+use Rattle.app_suite.specs.Wakes.{next_of}
+use Rattle.app_suite.proofs.Taking.{none_given}
 use Rattle.frame_exec.proofs.bench.Bench.take_over.Goals as goal
 
 pub returns-clause-over : goal.returns-clause-over

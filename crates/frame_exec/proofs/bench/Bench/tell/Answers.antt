@@ -1,7 +1,7 @@
 use Rattle.std.proofs.Common.{map}
-use Rattle.frame_exec.proofs.Obeying.{obeyed_nothing}
+use Rattle.frame_runs.proofs.Obeying.{obeyed_nothing}
 use Rattle.frame_exec.specs.Stages.{items_in}
-use Rattle.frame_exec.specs.Wakes.{joined}
+use Rattle.app_suite.specs.Wakes.{joined}
 use Rattle.frame_exec.proofs.bench.Bench.tell.Goals as goal
 
 pub returns-then-gave_nothing-clause-subjects : goal.returns-then-gave_nothing-clause-subjects

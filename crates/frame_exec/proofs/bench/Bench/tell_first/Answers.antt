@@ -5,7 +5,7 @@ use Rattle.std.specs.List.{AllPass}
 use Rattle.bus_pipes.specs.Counted.{is_item_counted}
 use Rattle.bus_pipes.specs.Held.{Held}
 use Rattle.bus_pipes.specs.declared.names.Out.{Out}
-use Rattle.frame_exec.specs.Wakes.{joined}
+use Rattle.app_suite.specs.Wakes.{joined}
 use Rattle.frame_exec.proofs.bench.Bench.tell_first.Goals as goal
 
 -- HS's list has what was told before what HS gave

@@ -2,8 +2,10 @@ use Rattle.std.proofs.Common.{List, ap, subst}
 use Rattle.memory_window.specs.Memory.{Memory, regions_of}
 use Rattle.scenario.specs.declared.frame.App.{App}
 use Rattle.scenario.specs.declared.frame.Upset.{Upset}
-use Rattle.frame_exec.specs.Stages.{IsUpset, AreHeld}
-use Rattle.frame_exec.proofs.Frames.{ready_by, regions_same}
+use Rattle.frame_exec.specs.Stages.{IsUpset}
+use Rattle.app_suite.specs.Holding.{AreHeld}
+use Rattle.frame_exec.proofs.Frames.{ready_by}
+use Rattle.frame_runs.proofs.Frames.{regions_same}
 use Rattle.frame_exec.proofs.bench.Bench.upset_and_take.Goals as goal
 
 pub returns-clause-arrives : goal.returns-clause-arrives

@@ -4,11 +4,11 @@ use Rattle.md_dwell.specs.State.{AllGiven}
 use Rattle.md_dwell.specs.declared.step.TheConstants.{MOST_ITEMS as md_most}
 use Rattle.cs_slices.specs.declared.step.TheConstants.{MOST_ITEMS as cs_most}
 use Rattle.mm_core.specs.declared.step.TheConstants.{MOST_ITEMS as mm_most}
-use Rattle.frame_exec.specs.Applications.{Active, cs_tables, cs_stands, mm_stands, md_stands, cs_gives, mm_gives, md_gives, cs_reads, mm_reads, md_reads}
+use Rattle.app_suite.specs.Applications.{Active, cs_tables, cs_stands, mm_stands, md_stands, cs_gives, mm_gives, md_gives, cs_reads, mm_reads, md_reads}
 use Rattle.cs_slices.specs.Given.{SegmentsGiven}
-use Rattle.frame_exec.specs.Tables.{TableSet}
-use Rattle.frame_exec.specs.Wakes.{next_of}
-use Rattle.frame_exec.specs.Jobs.{Gives, Operates, jobs_of}
+use Rattle.active_tables.specs.Tables.{TableSet}
+use Rattle.app_suite.specs.Wakes.{next_of}
+use Rattle.app_suite.specs.Jobs.{Gives, Operates, jobs_of}
 use Rattle.frame_exec.specs.Stages.{loads_in}
 use Rattle.frame_exec.proofs.bench.Bench.wake.Goals as goal
 

@@ -3,7 +3,7 @@ use Rattle.std.specs.Prelude.{Ok, Err}
 use Rattle.fsw_outside.specs.declared.traits.Failed.{Failed}
 use Rattle.packet_log.specs.Blocks.{Waiting, Puts}
 use Rattle.frame_exec.specs.Stages.{lines_in}
-use Rattle.frame_exec.proofs.Handing.{handed_part, handed_on, by_result}
+use Rattle.frame_wires.proofs.Handing.{handed_part, handed_on, by_result}
 use Rattle.frame_exec.proofs.bench.Bench.write.Goals as goal
 
 pub returns-in_default-clause-content : goal.returns-in_default-clause-content

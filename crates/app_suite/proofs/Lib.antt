@@ -1,0 +1,3 @@
+pub mod Health
+pub mod Taking
+pub mod Activating

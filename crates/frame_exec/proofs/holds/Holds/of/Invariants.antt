@@ -1,7 +1,0 @@
-use Rattle.std.proofs.Common.{take}
-use Rattle.frame_exec.specs.Stages.{AreHeld}
-use Rattle.frame_exec.proofs.holds.Holds.of.Given as goal
-
--- the applications so far are held
-abbrev pub invariant-held : goal.invariant-held
-invariant-held l = AreHeld (take l.app-index l.held) l.holds

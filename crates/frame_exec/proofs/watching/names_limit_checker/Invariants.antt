@@ -1,8 +1,0 @@
-use Rattle.std.proofs.Common.{◌≡◌, drop}
-use Rattle.std.specs.List.{list_any}
-use Rattle.frame_exec.specs.Tables.{names_limits}
-use Rattle.frame_exec.proofs.watching.names_limit_checker.Given as goal
-
--- none of the files so far is a table of LC
-abbrev pub invariant-files : goal.invariant-files
-invariant-files l = list_any names_limits l.files ≡ list_any names_limits (drop l.i l.files)

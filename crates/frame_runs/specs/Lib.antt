@@ -1,0 +1,4 @@
+pub mod Runs
+pub mod Crowds
+pub mod Rows
+pub mod RunLaws

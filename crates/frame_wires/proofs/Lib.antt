@@ -1,0 +1,5 @@
+pub mod Offers
+pub mod Stamping
+pub mod Lines
+pub mod Upsets
+pub mod Handing
