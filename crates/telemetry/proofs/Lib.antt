@@ -1,0 +1,3 @@
+pub mod TelemetryLemmas
+pub mod PlaceLemmas
+pub mod ReadBackLemmas

@@ -1,0 +1,3 @@
+pub mod Telemetry
+pub mod Dictionary
+pub mod Examples
