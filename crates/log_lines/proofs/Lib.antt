@@ -1,0 +1,5 @@
+pub mod PartsLemmas
+pub mod WordsLemmas
+pub mod BackLemmas
+pub mod LineLemmas
+pub mod LogLemmas
