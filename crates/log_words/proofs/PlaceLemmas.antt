@@ -1,7 +1,7 @@
 -- Lemmas on vocabularies whose texts lie elsewhere.
 use Rattle.std.proofs.Common.{◌≡◌, ℕ, Bool, true, false, List, [], ◌∷◌, ◌++◌, drop, map, Option, Some, None, refl, ap, sym, ◌∙◌}
 use Rattle.std.specs.Prelude.{if◌then◌else◌, codes}
-use Rattle.packet_forms.specs.Packets.{is_command, payload_of}
+use Rattle.packet_forms.specs.Packets.{payload_of}
 use Rattle.row_forms.specs.declared.field.Field.{Field}
 use Rattle.row_forms.specs.declared.field.Field.TheVariants.{Value, Zeros, Check}
 use Rattle.row_forms.specs.Values.{width}
@@ -17,13 +17,12 @@ use Rattle.events.specs.declared.event.Event.{Event}
 use Rattle.events.specs.Events.{event_said}
 use Rattle.events.specs.Tables.{placed_event, event_table}
 use Rattle.events.proofs.PlaceLemmas.{placed_sentence}
-use Rattle.bus_pipes.specs.declared.names.Dropped.{Dropped}
 use Rattle.packet_log.specs.Lines.{pipe_text}
 use Rattle.log_lines.specs.declared.line.LineItem.{LineItem}
 use Rattle.log_lines.specs.declared.line.LineItem.TheVariants as items
 use Rattle.log_lines.specs.declared.line.LogLine.{LogLine}
 use Rattle.log_words.specs.declared.vocabulary.Vocabulary.{Vocabulary}
-use Rattle.log_words.specs.Sentences.{event_words, packet_words, sent_words, drop_words, cause_words, item_words, sentence_of}
+use Rattle.log_words.specs.Sentences.{event_words, packet_words, cause_words, item_words, sentence_of}
 use Rattle.log_words.specs.Worked.{own_words}
 
 -- ---- commands

@@ -51,7 +51,7 @@ abbrev pub sent_words : Vocabulary → List ℕ → List ℕ
 sent_words v p = if is_command p then codes "sent: " ++ packet_words v p else packet_words v p
 
 abbrev pub cause_words : Bool → List ℕ
-cause_words full = if full then codes " is full, dropped: " else codes " has its limit of this id, dropped: "
+cause_words full = if full then codes " is full, dropped: " else codes " holds as many packets of this id as it may, dropped: "
 
 -- which pipe dropped a packet, why, and what it is
 abbrev pub drop_words : Vocabulary → Dropped → List ℕ

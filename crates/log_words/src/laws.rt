@@ -22,6 +22,6 @@ pub fn worked_sentences()
     ensures full { sentence (Some 4294000000) (codes "4294967295 drop MM full 1888C000000100AE")
         ≡ Ok (codes "time 8588967295: pipe MM is full, dropped: mm.no_op") }
     ensures limit { sentence None (codes "0 drop LC.TLM limit 088AC000000E000003EA00000800001010000000AB")
-        ≡ Ok (codes "frame 0: pipe LC.TLM has its limit of this id, dropped: mm.peek time=1002 count=0 width=8 address=0x00001010 value=0x000000AB") }
+        ≡ Ok (codes "frame 0: pipe LC.TLM holds as many packets of this id as it may, dropped: mm.peek time=1002 count=0 width=8 address=0x00001010 value=0x000000AB") }
     ensures strange { sentence None (codes "3 pkt 07FFC000000100AE") ≡ Ok (codes "frame 3: packet=07FFC000000100AE") }
 {}

@@ -120,6 +120,6 @@ fn cause_words(full: bool) -> &'static str
     if full {
         " is full, dropped: "
     } else {
-        " has its limit of this id, dropped: "
+        " holds as many packets of this id as it may, dropped: "
     }
 }
