@@ -132,8 +132,12 @@ item_said (word ∷ words) =
     else if bytes_eq word (codes "delete") then as_item items.Delete (name_in (last_word words))
     else Err faults.Word
 
+-- the line of an item in a frame
+abbrev pub at_frame : ℕ → LineItem → LogLine
+at_frame frame item = record { frame = frame; item = item }
+
 abbrev pub in_frame : ℕ → Result LineItem LineFault → Result LogLine LineFault
-in_frame frame (Ok item) = Ok (record { frame = frame; item = item })
+in_frame frame (Ok item) = Ok (at_frame frame item)
 in_frame frame (Err fault) = Err fault
 
 abbrev pub line_at : Option ℕ → List (List ℕ) → Result LogLine LineFault

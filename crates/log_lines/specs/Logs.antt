@@ -10,6 +10,10 @@ use Rattle.log_lines.specs.declared.log_reader.LogReader.{LogReader}
 use Rattle.log_lines.specs.Lines.{line_said}
 use Rattle.log_lines.specs.Texts.{lf_parts}
 
+-- what a line says, or its fault
+abbrev pub Said : Type 0
+Said = Result LogLine LineFault
+
 -- the lines that ended, of the parts between LFs
 abbrev pub ended : List (List ℕ) → List (List ℕ)
 ended [] = []
@@ -23,7 +27,7 @@ begun (last ∷ []) = last
 begun (part ∷ next ∷ more) = begun (next ∷ more)
 
 -- what the lines of a text say that end with an LF, in their order
-unfoldable pub log_said : List ℕ → List (Result LogLine LineFault)
+unfoldable pub log_said : List ℕ → List Said
 log_said text = map line_said (ended (lf_parts text))
 
 -- the number of the line behind so many lines, which isn't told beyond 2^64 - 1
@@ -41,7 +45,7 @@ cut_in text = fault_in (length (ended (lf_parts text))) (begun (lf_parts text))
 
 -- A reader stands for the text that it was fed, of which these lines were given: it holds as much of the line that has begun
 -- as tells whether it is too long.
-pub record Stands (r : LogReader) (text : List ℕ) (gave : List (Result LogLine LineFault)) : Type 0 where
+pub record Stands (r : LogReader) (text : List ℕ) (gave : List Said) : Type 0 where
   pub lines : List (List ℕ)
   pub last : List ℕ
   pub parts : lf_parts text ≡ lines ++ last ∷ []
@@ -50,7 +54,7 @@ pub record Stands (r : LogReader) (text : List ℕ) (gave : List (Result LogLine
   pub kept : r.kept ≡ take 641 last
 
 -- what an answer gives of a line
-abbrev pub given : Answer → LogLine → List (Result LogLine LineFault)
+abbrev pub given : Answer → LogLine → List Said
 given answers.More said = []
 given answers.Line said = Ok said ∷ []
 given (answers.Fault f) said = Err f.fault ∷ []
@@ -62,6 +66,6 @@ IsNumbered lines answers.Line = Unit {0}
 IsNumbered lines (answers.Fault f) = f.line ≡ number_behind lines
 
 -- what a line says, behind so many lines, is told
-abbrev pub Tells : ℕ → Result LogLine LineFault → LogLine → Answer → Type 0
+abbrev pub Tells : ℕ → Said → LogLine → Answer → Type 0
 Tells lines (Ok line) said answer = (answer ≡ answers.Line) × (said ≡ line)
 Tells lines (Err fault) said answer = answer ≡ answers.Fault (record { line = number_behind lines; fault = fault })

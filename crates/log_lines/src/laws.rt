@@ -10,7 +10,7 @@ ghost use Rattle.bus_pipes.specs.declared.names.Out.TheVariants as outs;
 ghost use Rattle.packet_log.specs.Lines.{packet_line, drop_line};
 ghost use Rattle.packet_log.specs.Items.{request_line, item_line};
 ghost use Rattle.log_lines.specs.declared.line.LogLine.{LogLine};
-ghost use Rattle.log_lines.specs.Lines.{line_said, dropped};
+ghost use Rattle.log_lines.specs.Lines.{line_said, at_frame, dropped};
 ghost use Rattle.log_lines.specs.Texts.{line_text, IsPacketOfBytes, IsLine, IsReadAs};
 ghost use Rattle.log_lines.specs.Logs.{log_said, cut_in};
 
@@ -25,31 +25,31 @@ pub fn lines_read_back()
 /// The line of a packet is read as its frame and packet.
 pub fn packet_lines_read_back()
     ensures { (frame : ℕ) (packet : List ℕ) → frame < 4294967296 → IsPacketOfBytes packet
-        → IsReadAs (packet_line frame packet) (record { frame = frame; item = LineItem.Packet packet }) }
+        → IsReadAs (packet_line frame packet) (at_frame frame (LineItem.Packet packet)) }
 {}
 
 /// The line of a packet that was dropped is read as its frame, pipe, cause and packet.
 pub fn drop_lines_read_back()
     ensures { (frame : ℕ) (lost : Dropped) → frame < 4294967296 → IsPacketOfBytes lost.packet
-        → IsReadAs (drop_line frame lost) (record { frame = frame; item = LineItem.Drop lost }) }
+        → IsReadAs (drop_line frame lost) (at_frame frame (LineItem.Drop lost)) }
 {}
 
 /// The line of a request is read as its frame and request.
 pub fn request_lines_read_back()
     ensures reset { (frame : ℕ) → frame < 4294967296
-        → IsReadAs (request_line frame outs.Reset) (record { frame = frame; item = LineItem.Reset }) }
+        → IsReadAs (request_line frame outs.Reset) (at_frame frame LineItem.Reset) }
     ensures restart { (frame : ℕ) (name : List ℕ) → frame < 4294967296 → is_name name ≡ true
-        → IsReadAs (request_line frame (outs.Restart name)) (record { frame = frame; item = LineItem.Restart name }) }
+        → IsReadAs (request_line frame (outs.Restart name)) (at_frame frame (LineItem.Restart name)) }
     ensures delete { (frame : ℕ) (name : List ℕ) → frame < 4294967296 → is_name name ≡ true
-        → IsReadAs (request_line frame (outs.Delete name)) (record { frame = frame; item = LineItem.Delete name }) }
+        → IsReadAs (request_line frame (outs.Delete name)) (at_frame frame (LineItem.Delete name)) }
 {}
 
 /// The line of an item that is a packet is read as this packet, whether it was made or stored. Those of requests are `request_line`.
 pub fn item_lines_read_back()
     ensures made { (frame : ℕ) (packet : List ℕ) → frame < 4294967296 → IsPacketOfBytes packet
-        → IsReadAs (item_line frame (outs.Made packet)) (record { frame = frame; item = LineItem.Packet packet }) }
+        → IsReadAs (item_line frame (outs.Made packet)) (at_frame frame (LineItem.Packet packet)) }
     ensures stored { (frame : ℕ) (packet : List ℕ) → frame < 4294967296 → IsPacketOfBytes packet
-        → IsReadAs (item_line frame (outs.Stored packet)) (record { frame = frame; item = LineItem.Packet packet }) }
+        → IsReadAs (item_line frame (outs.Stored packet)) (at_frame frame (LineItem.Packet packet)) }
 {}
 
 /// A line that says something is the text of what it says, without its LF: no other line says it.
@@ -74,19 +74,16 @@ pub fn logs_are_exact()
 /// Lines as logs have them, and what they say.
 pub fn worked_lines()
     ensures packet { line_said (codes "0 pkt 0891C000000A000003E800000001000100")
-        ≡ Ok (record {
-          frame = 0;
-          item = LineItem.Packet (0x08 ∷ 0x91 ∷ 0xC0 ∷ 0x00 ∷ 0x00 ∷ 0x0A ∷ 0x00 ∷ 0x00 ∷ 0x03 ∷ 0xE8
-              ∷ 0x00 ∷ 0x00 ∷ 0x00 ∷ 0x01 ∷ 0x00 ∷ 0x01 ∷ 0x00 ∷ []);
-        }) }
+        ≡ Ok (at_frame 0 (LineItem.Packet (0x08 ∷ 0x91 ∷ 0xC0 ∷ 0x00 ∷ 0x00 ∷ 0x0A ∷ 0x00 ∷ 0x00
+        ∷ 0x03 ∷ 0xE8 ∷ 0x00 ∷ 0x00 ∷ 0x00 ∷ 0x01 ∷ 0x00 ∷ 0x01 ∷ 0x00 ∷ []))) }
     ensures limit { line_said (codes "99999 drop HS.EV limit 18AEC00000010088")
-        ≡ Ok (record { frame = 99999; item = dropped pipes.HsEv false (0x18 ∷ 0xAE ∷ 0xC0 ∷ 0 ∷ 0 ∷ 1 ∷ 0 ∷ 0x88 ∷ []) }) }
+        ≡ Ok (at_frame 99999 (dropped pipes.HsEv false (0x18 ∷ 0xAE ∷ 0xC0 ∷ 0 ∷ 0 ∷ 1 ∷ 0 ∷ 0x88 ∷ []))) }
     ensures full { line_said (codes "4294967295 drop LC.TLM full 088AC000000100AF")
-        ≡ Ok (record { frame = 4294967295; item = dropped pipes.LcTlm true (0x08 ∷ 0x8A ∷ 0xC0 ∷ 0 ∷ 0 ∷ 1 ∷ 0 ∷ 0xAF ∷ []) }) }
-    ensures reset { line_said (codes "7 reset") ≡ Ok (record { frame = 7; item = LineItem.Reset }) }
-    ensures restart { line_said (codes "10 restart LOAD") ≡ Ok (record { frame = 10; item = LineItem.Restart (name_of (codes "LOAD")) }) }
+        ≡ Ok (at_frame 4294967295 (dropped pipes.LcTlm true (0x08 ∷ 0x8A ∷ 0xC0 ∷ 0 ∷ 0 ∷ 1 ∷ 0 ∷ 0xAF ∷ []))) }
+    ensures reset { line_said (codes "7 reset") ≡ Ok (at_frame 7 LineItem.Reset) }
+    ensures restart { line_said (codes "10 restart LOAD") ≡ Ok (at_frame 10 (LineItem.Restart (name_of (codes "LOAD")))) }
     ensures delete { line_said (codes "256 delete Abcdefghijklmnopq_9")
-        ≡ Ok (record { frame = 256; item = LineItem.Delete (name_of (codes "Abcdefghijklmnopq_9")) }) }
+        ≡ Ok (at_frame 256 (LineItem.Delete (name_of (codes "Abcdefghijklmnopq_9")))) }
 {}
 
 /// Lines that are none of the log's, and why.
@@ -113,7 +110,7 @@ pub fn worked_faults()
 /// A log of a whole line, of one that is none, and of one that is cut off.
 pub fn worked_log()
     ensures said { log_said (codes "7 reset\nno line\n7 res")
-        ≡ Ok (record { frame = 7; item = LineItem.Reset }) ∷ Err LineFault.Frame ∷ [] }
+        ≡ Ok (at_frame 7 LineItem.Reset) ∷ Err LineFault.Frame ∷ [] }
     ensures cut { cut_in (codes "7 reset\nno line\n7 res") ≡ Some (record { line = 3; fault = LineFault.Cut }) }
     ensures whole { cut_in (codes "7 reset\nno line\n") ≡ None }
     ensures nothing { log_said [] ≡ [] }

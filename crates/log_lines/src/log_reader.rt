@@ -1,6 +1,6 @@
 //! A log that comes in pieces.
 
-ghost use Rattle.std.specs.Prelude.{◌≡◌, ◌≤◌, ◌<◌, ◌==◌, ◌++◌, [], ℕ, List, Result, take, length};
+ghost use Rattle.std.specs.Prelude.{◌≡◌, ◌≤◌, ◌<◌, ◌==◌, ◌++◌, [], ℕ, List, take, length};
 ghost use Rattle.std.specs.List.{position};
 
 use crate::fault::{LineFault, LogFault};
@@ -45,10 +45,9 @@ fn find_lf(bytes: &[u8]) -> Option<usize>
 }
 
 impl LogReader {
-    ghost use Rattle.log_lines.specs.declared.fault.LineFault.{LineFault};
     ghost use Rattle.log_lines.specs.declared.log_reader.Answer.TheVariants.{More};
     ghost use Rattle.log_lines.specs.Lines.{line_said};
-    ghost use Rattle.log_lines.specs.Logs.{Stands, log_said, cut_in, given, number_behind, IsNumbered, Tells};
+    ghost use Rattle.log_lines.specs.Logs.{Said, Stands, log_said, cut_in, given, number_behind, IsNumbered, Tells};
 
     /// A reader of a log of which nothing was fed yet.
     pub fn new() -> LogReader
@@ -63,9 +62,10 @@ impl LogReader {
     /// Takes a first part of the piece: as far as the first LF, or all of it where there is none. A line of the log that ended there
     /// is written to `said`.
     pub fn feed(&mut self, piece: &[u8], said: &mut LogLine) -> Fed
-        ensures stands { (text : List ℕ) (gave : List (Result LogLine LineFault)) → Stands self.old text gave
-            → Stands self.new (text ++ take result.taken piece.now) (gave ++ given result.answer said.new) }
-        ensures numbered { (text : List ℕ) (gave : List (Result LogLine LineFault)) → Stands self.old text gave
+        ensures stands { (text : List ℕ) (gave : List Said) → Stands self.old text gave
+            → Stands self.new (text ++ take result.taken piece.now)
+            (gave ++ given result.answer said.new) }
+        ensures numbered { (text : List ℕ) (gave : List Said) → Stands self.old text gave
             → IsNumbered (length gave) result.answer }
         ensures taken { result.taken ≤ length piece.now }
         ensures some { 0 < length piece.now → 0 < result.taken }
@@ -91,7 +91,7 @@ impl LogReader {
 
     /// Says that no more bytes come: what was given are the lines of the whole text, and the fault is that of a last line without LF.
     pub fn finish(&self) -> Option<LogFault>
-        ensures { (text : List ℕ) (gave : List (Result LogLine LineFault)) → Stands self.now text gave
+        ensures { (text : List ℕ) (gave : List Said) → Stands self.now text gave
             → (gave ≡ log_said text) × (result ≡ cut_in text) }
     {
         if self.kept.len() == 0 {
@@ -102,7 +102,8 @@ impl LogReader {
 
     /// Keeps the bytes behind those of the line so far, as far as there is room.
     fn keep(&mut self, bytes: &[u8])
-        ensures kept { (last : List ℕ) → self.old.kept ≡ take 641 last → self.new.kept ≡ take 641 (last ++ bytes.now) }
+        ensures kept { (last : List ℕ) → self.old.kept ≡ take 641 last
+            → self.new.kept ≡ take 641 (last ++ bytes.now) }
         ensures lines { self.new.lines ≡ self.old.lines }
     {
         let room = LINE_ROOM - self.kept.len();

@@ -9,7 +9,9 @@ use packet_log::head_of;
 
 /// The value of a decimal digit; none for any other byte.
 fn decimal_digit(byte: u8) -> Option<u8>
-    ensures value { MatchOption result (is_digit byte 10 ≡ false) (λ digit. digit_value byte ≡ digit) }
+    ensures value { MatchOption result
+        (is_digit byte 10 ≡ false)
+        (λ digit. digit_value byte ≡ digit) }
     ensures bound { IfSome result (λ digit. digit < 10) }
 {
     if b'0' <= byte && byte <= b'9' {

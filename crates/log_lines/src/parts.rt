@@ -31,7 +31,8 @@ pub(crate) fn last_word(words: Option<&[u8]>) -> Result<&[u8], LineFault>
     ensures word { MatchResult result
         (λ word. last_word (words_behind words.entry) ≡ Ok word.now)
         (λ fault. last_word (words_behind words.entry) ≡ Err fault) }
-    ensures size { (most : ℕ) → IfSome words.entry (λ text. length text.now ≤ most) → IfOk result (λ word. length word.now ≤ most) }
+    ensures size { (most : ℕ) → IfSome words.entry (λ text. length text.now ≤ most)
+        → IfOk result (λ word. length word.now ≤ most) }
 {
     let Some(words) = words else {
         return Err(LineFault::Missing);
