@@ -15,7 +15,7 @@ use Rattle.log_lines.specs.declared.log_reader.Answer.TheVariants as answers
 use Rattle.log_lines.specs.declared.log_reader.LogReader.{LogReader}
 use Rattle.log_lines.specs.Lines.{line_words, words_said, line_said}
 use Rattle.log_lines.specs.Texts.{lf_parts, line_text, IsLine}
-use Rattle.log_lines.specs.Logs.{ended, begun, log_said, number_behind, fault_in, cut_in, Stands, given, IsNumbered, Tells}
+use Rattle.log_lines.specs.Logs.{ended, begun, log_said, number_behind, fault_in, cut_in, Stands, given, Tells}
 use Rattle.row_forms.proofs.WordsLemmas.{position_is}
 use Rattle.log_lines.proofs.PartsLemmas.{whole_part}
 use Rattle.log_lines.proofs.LineLemmas.{line_body, body_back, body_first, line_exact}
@@ -174,10 +174,6 @@ given_of : (lines : ℕ) (r : Result LogLine LineFault) (said : LogLine) (answer
 given_of lines (Ok line) said answer h = rw (h.0, h.1) refl
 given_of lines (Err fault) said answer h = rw h refl
 
-numbered_of : (lines : ℕ) (r : Result LogLine LineFault) (said : LogLine) (answer : Answer) → Tells lines r said answer → IsNumbered lines answer
-numbered_of lines (Ok line) said answer h = rw h.0 tt
-numbered_of lines (Err fault) said answer h = rw h refl
-
 -- a piece was fed as far as its first LF
 pub stands_line : (old middle new : LogReader) (text piece : List ℕ) (gave : List (Result LogLine LineFault)) (said : LogLine) (answer : Answer) (at : ℕ) → Stands old text gave → position (λ b. b == 10) piece ≡ Some at
     → ((last : List ℕ) → old.kept ≡ take 641 last → middle.kept ≡ take 641 (last ++ take at piece)) → middle.lines ≡ old.lines
@@ -197,19 +193,6 @@ stands_line old middle new text piece gave said answer at s found keeps same tel
           rw (lines, same, had) (omega (arith, size));
       kept = empty;
     }
-
-map_size : (lines : List (List ℕ)) → length (map line_said lines) ≡ length lines
-map_size [] = refl
-map_size (line ∷ lines) = let more = map_size lines in omega (arith, more)
-
--- what is told of it bears its number
-pub numbered_line : (old : LogReader) (text : List ℕ) (gave : List (Result LogLine LineFault)) (r : Result LogLine LineFault) (said : LogLine) (answer : Answer) (lines : ℕ) → Stands old text gave → lines ≡ old.lines
-    → Tells lines r said answer → IsNumbered (length gave) answer
-numbered_line old text gave (Ok line) said answer lines s same h = rw h.0 tt
-numbered_line old text gave (Err fault) said answer lines s same h =
-    let size : length gave ≡ length s.lines = ap length s.says ∙ map_size s.lines in
-    let had = s.count in
-    rw (h, same, had, size) (omega arith)
 
 -- no more bytes come
 gave_all : (r : LogReader) (text : List ℕ) (gave : List (Result LogLine LineFault)) → Stands r text gave → gave ≡ log_said text

@@ -1,6 +1,6 @@
 -- Lemmas on the loops that read a frame's number and bytes, and on the names and packets that words write.
-use Rattle.std.proofs.Common.{◌≡◌, ◌&&◌, ℕ, ◌+◌, ◌*◌, ◌%◌, ◌<◌, ◌≤◌, suc, Bool, true, false, List, [], ◌∷◌, ◌++◌, length, take, drop, get_or, set, Option, Some, None, refl, ap, sym, ◌∙◌, arith, drop-cons, length-drop, append-nil, append_assoc, if◌then◌else◌, ◌^◌, lit<, add-one}
-use Rattle.std.proofs.Math.Nat.{pow-suc, pow-le-pow_right}
+use Rattle.std.proofs.Common.{◌≡◌, ◌&&◌, ℕ, ◌+◌, ◌*◌, ◌%◌, ◌<◌, ◌≤◌, suc, Bool, true, false, List, [], ◌∷◌, ◌++◌, length, take, drop, get_or, set, Option, Some, None, refl, ap, sym, ◌∙◌, arith, drop-cons, length-drop, append-nil, append_assoc, if◌then◌else◌, ◌^◌, add-one}
+use Rattle.std.proofs.Math.Nat.{pow-suc}
 use Rattle.std.specs.Prelude.{nat_lt}
 use Rattle.std.proofs.lemmas.List.{take_more_set}
 use Rattle.row_forms.specs.Words.{before}
@@ -52,11 +52,6 @@ ends_at (x ∷ rest) front h = absurd (omega (arith, h))
 pub bytes_end : (w front : List ℕ) (i : ℕ) → length w ≤ 2 * i → onto front (bytes_said (drop (2 * i) w)) ≡ Some front
 bytes_end w front i h = ends_at _ front (length-drop (2 * i) w ∙ omega arith)
 
--- the beginning
-pub bytes_begin : (o : Option (List ℕ)) → o ≡ onto [] o
-bytes_begin None = refl
-bytes_begin (Some bytes) = refl
-
 odd_one : (b : Bool) (n : ℕ) → (if b then before n None else None) ≡ None
 odd_one true n = refl
 odd_one false n = refl
@@ -75,6 +70,3 @@ pub digit_small : (v d i : ℕ) → v < 10 ^ i → d < 10 → v * 10 + d < 10 ^ 
 digit_small v d i small digit =
     let e : 10 ^ (i + 1) ≡ 10 ^ i * 10 = rw add-one (pow-suc 10 i) in
     rw e (omega arith)
-
-pub ten_digits : (i : ℕ) → i ≤ 10 → 10 ^ i ≤ 10000000000
-ten_digits i few = pow-le-pow_right {n = 10} (lit< tt) {i = i} {j = 10} few
