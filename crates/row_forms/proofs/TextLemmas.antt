@@ -18,7 +18,7 @@ and_both true b e = (refl, e)
 and_both false b e = absurd (cc)
 
 -- the first part ends at the first byte that ends one
-split_first : (p : ℕ → Bool) (xs : List ℕ) (y : ℕ) (ys : List ℕ) → AllByRecursion (λ x. p x ≡ false) xs → p y ≡ true → slice_split p (xs ++ y ∷ ys) ≡ xs ∷ slice_split p ys
+pub split_first : (p : ℕ → Bool) (xs : List ℕ) (y : ℕ) (ys : List ℕ) → AllByRecursion (λ x. p x ≡ false) xs → p y ≡ true → slice_split p (xs ++ y ∷ ys) ≡ xs ∷ slice_split p ys
 split_first p [] y ys all ends = slice_split-cons_yes p y ys ends
 split_first p (x ∷ xs) y ys all ends = slice_split-cons_no p x (xs ++ y ∷ ys) all.0 ∙ ap (onto_first x) (split_first p xs y ys all.1 ends)
 
@@ -47,7 +47,7 @@ plain_no_space b plain = grind (arith, nat_tests)
 abbrev pub IsWord : List ℕ → Type 0
 IsWord w = (0 < length w) × AllByRecursion IsPlain w
 
-no_words : words [] ≡ []
+pub no_words : words [] ≡ []
 unfolding words
 no_words = refl
 
@@ -66,11 +66,11 @@ word_first : (w rest : List ℕ) → IsWord w → words (w ++ 32 ∷ rest) ≡ w
 unfolding words
 word_first w rest is = ap (filter is_word) (split_first (λ b. b == 32) w 32 rest (all_map IsPlain _ plain_no_space w is.1) refl) ∙ word_cons w (slice_split (λ b. b == 32) rest) is.0
 
-spaced_nil : spaced [] ≡ []
+pub spaced_nil : spaced [] ≡ []
 unfolding spaced
 spaced_nil = refl
 
-spaced_cons : (w : List ℕ) (ws : List (List ℕ)) → spaced (w ∷ ws) ≡ 32 ∷ (w ++ spaced ws)
+pub spaced_cons : (w : List ℕ) (ws : List (List ℕ)) → spaced (w ∷ ws) ≡ 32 ∷ (w ++ spaced ws)
 unfolding spaced
 spaced_cons w ws = refl
 
@@ -141,7 +141,7 @@ no_prefix (c ∷ d ∷ cs) all =
     let other : nat_eq 120 d ≡ false = let range = second.0 in grind (arith, nat_tests, range) in
     rw other (elim (nat_eq 48 c) as (λ b. (b && false) ≡ false) [ true ↦ refl | false ↦ refl ])
 
-digit_first : (c : ℕ) (cs : List ℕ) → AllDigits 10 (c ∷ cs) → is_digit c 10 ≡ true
+pub digit_first : (c : ℕ) (cs : List ℕ) → AllDigits 10 (c ∷ cs) → is_digit c 10 ≡ true
 digit_first c cs all =
     let parts = tells_digits.parts c cs all in
     let range = parts.0 in
@@ -155,10 +155,10 @@ all_digits : (ds : List ℕ) → AllDigits 10 ds → list_all (λ c. is_digit c 
 all_digits [] all = refl
 all_digits (c ∷ cs) all = rw (digit_first c cs all) (all_digits cs (tells_digits.parts c cs all).1)
 
-own : (n : ℕ) → n < 4294967296 → AllDigits 10 (decimal n)
+pub own : (n : ℕ) → n < 4294967296 → AllDigits 10 (decimal n)
 own n small = digits_decimal (numerals_by_value (AllDigits 10) tells_digits) n (omega (arith, small))
 
-some_digits : (n : ℕ) → n < 4294967296 → 0 < length (decimal n)
+pub some_digits : (n : ℕ) → n < 4294967296 → 0 < length (decimal n)
 some_digits n small = decimal_nonempty n (omega (arith, small))
 
 pub decimal_marks : (n : ℕ) → n < 4294967296 → AllByRecursion IsMark (decimal n)

@@ -12,10 +12,10 @@ mod words;
 
 pub use fault::{ReadError, Reason, RowFault};
 pub use field::{Choice, Field, Kind, Spelling, Width};
-pub use parts::push_hex;
+pub use parts::{push_decimal, push_hex, push_zeros};
 pub use rows::{behind_key, is_row, read_row, show_row};
 pub use values::read_block;
-pub use words::split_word;
+pub use words::{number, split_word};
 
 #[cfg(test)]
 mod tests;

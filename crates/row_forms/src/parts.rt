@@ -28,7 +28,7 @@ pub(crate) fn split_part(text: &[u8]) -> (&[u8], Option<&[u8]>)
 }
 
 /// Appends so many zero bytes.
-pub(crate) fn push_zeros(count: usize, out: &mut Vec<u8>) -> Result<(), AllocError>
+pub fn push_zeros(count: usize, out: &mut Vec<u8>) -> Result<(), AllocError>
     ensures { OnOk result (out.new.items ≡ out.old.items ++ replicate count 0) }
 {
     for _done in 0..count {
@@ -38,7 +38,7 @@ pub(crate) fn push_zeros(count: usize, out: &mut Vec<u8>) -> Result<(), AllocErr
 }
 
 /// Appends the decimal digits of a number.
-pub(crate) fn push_decimal(number: u32, out: &mut Vec<u8>) -> Result<(), AllocError>
+pub fn push_decimal(number: u32, out: &mut Vec<u8>) -> Result<(), AllocError>
     ensures { OnOk result (out.new.items ≡ out.old.items ++ decimal number) }
 {
     let mut buffer = Buffer::new();

@@ -121,9 +121,9 @@ fn any_number(word: &[u8]) -> Option<u64>
     digits(10, 10, word)
 }
 
-/// The number that a word writes, where it is at most `most`.
+/// The number that a word writes, where it is at most `most`: 1 to 10 decimal digits, or `0x` and 1 to 8 hexadecimal digits.
 #[tactic(auto, unfolding(crate::specs::Words::number))]
-pub(crate) fn number(most: u32, word: &[u8]) -> Option<u32>
+pub fn number(most: u32, word: &[u8]) -> Option<u32>
     ensures value { result ≡ number most word.now }
     ensures bound { IfSome result (λ n. n ≤ most) }
 {

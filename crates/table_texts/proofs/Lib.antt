@@ -1,0 +1,6 @@
+pub mod LineLemmas
+pub mod LayoutLemmas
+pub mod EntryLemmas
+pub mod ShownLemmas
+pub mod BackLemmas
+pub mod SizeLemmas

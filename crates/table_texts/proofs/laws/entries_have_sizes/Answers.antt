@@ -1,0 +1,5 @@
+use Rattle.table_texts.proofs.SizeLemmas.{entries_size}
+use Rattle.table_texts.proofs.laws.entries_have_sizes.Goals as goal
+
+pub returns : goal.returns
+returns c = λ epoch l n lines bytes good said. entries_size epoch l n lines bytes good said

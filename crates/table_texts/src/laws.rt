@@ -1,0 +1,17 @@
+//! Laws of the definitions, as contracts of functions that do nothing.
+ghost use Rattle.std.specs.Prelude.{◌≡◌, ◌<◌, ◌+◌, ◌*◌, ◌++◌, [], ℕ, List, Option, true, length, Ok};
+ghost use Rattle.std.specs.List.{AllByRecursion};
+ghost use Rattle.table_texts.specs.declared.layout.Layout.{Layout};
+ghost use Rattle.table_texts.specs.Lines.{Numbered, kept_of};
+ghost use Rattle.table_texts.specs.Entries.{is_layout, entries_said};
+ghost use Rattle.table_texts.specs.Shown.{entries_shown};
+
+/// The text of a table's entries says them, whatever their bytes, the epoch and the number of the text's first line are.
+pub fn entries_read_back()
+    ensures { (epoch : Option ℕ) (l : Layout) (n : ℕ) (bytes : List ℕ) → is_layout l ≡ true → AllByRecursion (λ b. b < 256) bytes → length bytes ≡ l.count * l.size → entries_said epoch l 0 n (kept_of n (entries_shown l l.count 1 bytes)) ≡ Ok bytes }
+{}
+
+/// What a text says of a table's entries has as many bytes as these have together.
+pub fn entries_have_sizes()
+    ensures { (epoch : Option ℕ) (l : Layout) (n : ℕ) (lines : List Numbered) (bytes : List ℕ) → is_layout l ≡ true → entries_said epoch l 0 n lines ≡ Ok bytes → length bytes ≡ l.count * l.size }
+{}

@@ -1,0 +1,15 @@
+//! Tables as text: lines, entries by their numbers, and the bytes that they are.
+#![tactic(auto)]
+
+mod entries;
+mod fault;
+pub mod laws;
+mod layout;
+mod lines;
+mod showing;
+
+pub use entries::read_entries;
+pub use fault::{LineFault, TextError, TextFault};
+pub use layout::Layout;
+pub use lines::{Line, next_line};
+pub use showing::show_entries;
