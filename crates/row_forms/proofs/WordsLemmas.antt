@@ -1,6 +1,7 @@
 -- Lemmas on words, numbers and digits.
 use Rattle.std.proofs.Common.{◌≡◌, ℕ, ◌+◌, ◌*◌, ◌^◌, lit<, add-one, if◌then◌else◌, ◌<◌, ◌≤◌, suc, Bool, true, false, cond, not, eqb, List, [], ◌∷◌, length, take, drop, Option, Some, None, refl, ap, sym, ◌∙◌, arith, length-take}
-use Rattle.std.specs.List.{position, position_or_len, slice_split, filter}
+use Rattle.std.specs.List.{position, position_or_len, slice_split, onto_first, filter, AllByRecursion}
+use Rattle.std.proofs.lemmas.List.Splits.{slice_split-cons_no}
 use Rattle.std.proofs.lemmas.Bool.Decides.{nat_tests}
 use Rattle.std.proofs.Math.Nat.{pow-suc, pow-le-pow_right, mul-le-mul_left}
 use Rattle.std.proofs.lemmas.List.{drop_all}
@@ -125,3 +126,23 @@ no_name_text false word e h = refl
 pub no_name : (word : List ℕ) → (IsUtf8 word → ⊥) → None ≡ name_said word
 unfolding name_said
 no_name word h = no_name_text (is_name_text word) word refl h
+
+no_space_one : (x : ℕ) (xs : List ℕ) (b : Bool) → is_space x ≡ b → AllByRecursion (λ y. is_space y ≡ false) (take (position_or_len is_space xs) xs) → AllByRecursion (λ y. is_space y ≡ false) (take (position_or_len is_space (x ∷ xs)) (x ∷ xs))
+no_space_one x xs true e all = rw e tt
+no_space_one x xs false e all = rw e (rw take_more (e, all))
+
+-- before the first space there is none
+no_space : (xs : List ℕ) → AllByRecursion (λ y. is_space y ≡ false) (take (position_or_len is_space xs) xs)
+no_space [] = tt
+no_space (x ∷ xs) = no_space_one x xs (is_space x) refl (no_space xs)
+
+one_part : (xs : List ℕ) → AllByRecursion (λ y. is_space y ≡ false) xs → slice_split is_space xs ≡ xs ∷ []
+one_part [] all = refl
+one_part (x ∷ xs) all = slice_split-cons_no is_space x xs all.0 ∙ ap (onto_first x) (one_part xs all.1)
+
+-- a word that is cut off is one word
+pub word_cut : (xs w : List ℕ) (n : ℕ) → n ≡ position_or_len is_space xs → w ≡ take n xs → 0 < length w → words w ≡ w ∷ []
+unfolding words
+word_cut xs w n k e some =
+    let all : AllByRecursion (λ y. is_space y ≡ false) w = rw (e, k) (no_space xs) in
+    ap (filter is_word) (one_part w all) ∙ filter_word w [] some
