@@ -13,7 +13,7 @@ use Rattle.table_texts.specs.declared.fault.TextError.{TextError}
 use Rattle.table_texts.specs.declared.fault.TextError.TheVariants as errors
 use Rattle.table_texts.specs.declared.layout.Layout.{Layout}
 use Rattle.table_texts.specs.Lines.{Numbered, kept_of}
-use Rattle.table_texts.specs.Entries.{Placed, number_said, at_row, raw_said, entry_said, ended, entries_said, is_end, behind_first, then_entries, fault_on, error_on, placed_behind, GivesEntry, GivesText}
+use Rattle.table_texts.specs.Entries.{Placed, number_said, at_row, raw_said, entry_said, ended, left_out, entries_said, is_end, behind_first, then_entries, fault_on, error_on, placed_behind, GivesEntry, GivesText}
 
 pub entry_none : (epoch : Option ℕ) (l : Layout) (place : ℕ) (ws : List (List ℕ)) → ws ≡ [] → entry_said epoch l place ws ≡ Err faults.Entry
 unfolding entry_said
@@ -31,7 +31,7 @@ pub entries_nil : (epoch : Option ℕ) (l : Layout) (place n : ℕ) (lines : Lis
 unfolding entries_said
 entries_nil epoch l place n lines e = rw e refl
 
-pub entries_end : (epoch : Option ℕ) (l : Layout) (place n m : ℕ) (ws : List (List ℕ)) (lines more : List Numbered) → lines ≡ record { number = m; words = ws } ∷ more → is_end ws ≡ true → entries_said epoch l place n lines ≡ ended l place m (behind_first ws) more
+pub entries_end : (epoch : Option ℕ) (l : Layout) (place n m : ℕ) (ws : List (List ℕ)) (lines more : List Numbered) → lines ≡ record { number = m; words = ws } ∷ more → is_end ws ≡ true → entries_said epoch l place n lines ≡ ended (left_out l place) m (behind_first ws) more
 unfolding entries_said
 entries_end epoch l place n m ws lines more e end = rw e (rw end refl)
 
@@ -70,7 +70,7 @@ pub missing_gives : (epoch : Option ℕ) (l : Layout) (place n : ℕ) (lines : L
 missing_gives epoch l place n lines old new e none is = gives_fault _ new e (fault_on n faults.End) is (ap (with_front old) (entries_nil epoch l place n lines none))
 
 -- the line `end`
-pub end_gives : (epoch : Option ℕ) (l : Layout) (place n m : ℕ) (ws behind : List (List ℕ)) (lines more : List Numbered) (old new : List ℕ) (r : Result (Unit {0}) TextError) → lines ≡ record { number = m; words = ws } ∷ more → is_end ws ≡ true → behind ≡ behind_first ws → GivesText (with_front old (ended l place m behind more)) new r → GivesText (with_front old (entries_said epoch l place n lines)) new r
+pub end_gives : (epoch : Option ℕ) (l : Layout) (place n m : ℕ) (ws behind : List (List ℕ)) (lines more : List Numbered) (old new : List ℕ) (r : Result (Unit {0}) TextError) → lines ≡ record { number = m; words = ws } ∷ more → is_end ws ≡ true → behind ≡ behind_first ws → GivesText (with_front old (ended (left_out l place) m behind more)) new r → GivesText (with_front old (entries_said epoch l place n lines)) new r
 end_gives epoch l place n m ws behind lines more old new r e end same given = rw (entries_end epoch l place n m ws lines more e end, ← same) given
 
 -- an entry, and those behind it

@@ -13,7 +13,7 @@ use Rattle.table_texts.specs.declared.fault.LineFault.TheVariants as faults
 use Rattle.table_texts.specs.declared.fault.TextFault.{TextFault}
 use Rattle.table_texts.specs.declared.layout.Layout.{Layout}
 use Rattle.table_texts.specs.Lines.{Numbered}
-use Rattle.table_texts.specs.Entries.{Placed, is_layout, behind_gap, sized, block_placed, row_placed, number_said, at_row, at_block, raw_said, entry_said, ended, is_end, behind_first, fault_on, then_entries, entries_said}
+use Rattle.table_texts.specs.Entries.{Placed, is_layout, behind_gap, sized, block_placed, row_placed, number_said, at_row, at_block, raw_said, entry_said, ended, left_out, is_end, behind_first, fault_on, then_entries, entries_said}
 use Rattle.table_texts.proofs.EntryLemmas.{entry_none, entry_raw, entry_row, entries_nil, entries_end, entries_line}
 use Rattle.table_texts.proofs.LayoutLemmas.{IsLayout, layout_is}
 
@@ -106,7 +106,7 @@ entry_is epoch l place p (w ∷ ws) is e = entry_one epoch l place p w ws is (by
 
 -- ---- all entries
 
-ended_size : (l : Layout) (place n : ℕ) (ws : List (List ℕ)) (more : List Numbered) (bytes : List ℕ) → ended l place n ws more ≡ Ok bytes → length bytes ≡ (l.count - place) * l.size
+ended_size : (l : Layout) (place n : ℕ) (ws : List (List ℕ)) (more : List Numbered) (bytes : List ℕ) → ended (left_out l place) n ws more ≡ Ok bytes → length bytes ≡ (l.count - place) * l.size
 ended_size l place n (w ∷ ws) more bytes e = absurd (cc)
 ended_size l place n [] (line ∷ more) bytes e = absurd (cc)
 ended_size l place n [] [] bytes e = rw (← ap all_or e) (length-replicate ((l.count - place) * l.size) 0) where

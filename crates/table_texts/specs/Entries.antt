@@ -80,11 +80,15 @@ entry_said epoch l place (w ∷ ws) =
 abbrev pub fault_on : ℕ → LineFault → TextFault
 fault_on n fault = record { line = n; fault = fault }
 
--- `end`, behind which nothing stands: the entries that are left are zero bytes
-abbrev pub ended : Layout → ℕ → ℕ → List (List ℕ) → List Numbered → Result (List ℕ) TextFault
-ended l place n (w ∷ ws) more = Err (fault_on n (row_fault 2 reasons.Extra))
-ended l place n [] (line ∷ more) = Err (fault_on line.number faults.Behind)
-ended l place n [] [] = Ok (replicate ((l.count - place) * l.size) 0)
+-- `end`, behind which nothing stands: these bytes are what is left
+abbrev pub ended : List ℕ → ℕ → List (List ℕ) → List Numbered → Result (List ℕ) TextFault
+ended left n (w ∷ ws) more = Err (fault_on n (row_fault 2 reasons.Extra))
+ended left n [] (line ∷ more) = Err (fault_on line.number faults.Behind)
+ended left n [] [] = Ok left
+
+-- the entries behind entry `place` that no line says
+abbrev pub left_out : Layout → ℕ → List ℕ
+left_out l place = replicate ((l.count - place) * l.size) 0
 
 abbrev pub is_end : List (List ℕ) → Bool
 is_end [] = false
@@ -103,8 +107,13 @@ then_entries n (Err fault) next = Err (fault_on n fault)
 unfoldable pub entries_said : Option ℕ → Layout → ℕ → ℕ → List Numbered → Result (List ℕ) TextFault
 entries_said epoch l place n [] = Err (fault_on n faults.End)
 entries_said epoch l place n (line ∷ more) =
-    if is_end line.words then ended l place line.number (behind_first line.words) more
+    if is_end line.words then ended (left_out l place) line.number (behind_first line.words) more
     else then_entries line.number (entry_said epoch l place line.words) (λ k. entries_said epoch l k (line.number + 1) more)
+
+-- the end of a text, by what was left of it
+abbrev pub as_ended : List ℕ → Result (Unit {0}) TextFault → Result (List ℕ) TextFault
+as_ended left (Ok done) = Ok left
+as_ended left (Err fault) = Err fault
 
 -- what is said are the new bytes; a fault is told only where there is one; and memory may end
 abbrev pub GivesText : Result (List ℕ) TextFault → List ℕ → Result (Unit {0}) TextError → Type 0

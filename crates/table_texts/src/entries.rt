@@ -3,12 +3,13 @@ ghost use Rattle.std.specs.Prelude.{◌≡◌, ◌<◌, ◌≤◌, ◌+◌, ◌^
 ghost use Rattle.row_forms.specs.Words.{words, number};
 ghost use Rattle.row_forms.specs.Rows.{with_front, row_said};
 ghost use Rattle.table_texts.specs.Lines.{kept_of};
-ghost use Rattle.table_texts.specs.Entries.{is_layout, is_end, behind_first, number_said, row_placed, raw_said, block_placed, entry_said, ended, entries_said, placed_behind, error_on, GivesEntry, GivesText};
+ghost use Rattle.table_texts.specs.Entries.{is_layout, left_out, number_said, row_placed, raw_said, block_placed, entry_said, ended, entries_said, placed_behind, GivesEntry, GivesText};
 
-use crate::fault::{LineError, LineFault, TextError, TextFault};
+use crate::ending::{behind_end, end_of_text, error_on, row_fault, text_fault};
+use crate::fault::{LineError, LineFault, TextError};
 use crate::layout::Layout;
 use crate::lines::next_line;
-use row_forms::{Reason, RowFault, number, push_zeros, read_block, read_row, split_word};
+use row_forms::{Reason, number, push_zeros, read_block, read_row, split_word};
 
 /// Reads the entries behind entry `place` (0 for all) up to the line `end`, and appends their bytes, zero bytes for those that the text
 /// leaves out. A line is `NUMBER KEY=VALUE ..` or `raw NUMBER HEX`, with rising numbers; lines without words and those that begin with
@@ -39,36 +40,7 @@ pub fn read_entries(
     }
 }
 
-/// A fault of the line of this number.
-fn text_fault(line: u32, fault: LineFault) -> TextError
-    ensures { result ≡ TextError.Text (record { line = line; fault = fault }) }
-{
-    TextError::Text(TextFault { line, fault })
-}
-
-/// Why the line of this number wasn't read.
-fn error_on(line: u32, error: LineError) -> TextError
-    ensures { result ≡ error_on line error }
-{
-    match error {
-        LineError::Memory(error) => TextError::Memory(error),
-        LineError::Fault(fault) => text_fault(line, fault),
-    }
-}
-
-/// What stands behind the word `end`, where the line begins with it.
-fn behind_end(line: &[u8]) -> Option<&[u8]>
-    ensures { MatchOption result
-        (is_end (words line.now) ≡ false)
-        (λ behind. (is_end (words line.now) ≡ true) × (words behind.now ≡ behind_first (words line.now))) }
-{
-    match split_word(line) {
-        Some((word, behind)) if word == b"end".as_slice() => Some(behind),
-        _ => None,
-    }
-}
-
-/// Ends a table: no word stands behind `end`, and no line that says anything. What is left are zero bytes.
+/// Ends a table: what is left are zero bytes.
 fn end_entries(
     layout: &Layout,
     place: usize,
@@ -80,29 +52,15 @@ fn end_entries(
     requires layout { is_layout layout.now ≡ true }
     requires place { place ≤ layout.now.count }
     requires short { line + 1 + length rest.now < 2 ^ 32 }
-    ensures { GivesText (with_front out.old.items (ended layout.now place line (words behind.now) (kept_of (line + 1) rest.now))) out.new.items result }
+    ensures { GivesText (with_front out.old.items (ended (left_out layout.now place) line (words behind.now) (kept_of (line + 1) rest.now))) out.new.items result }
 {
-    if split_word(behind).is_some() {
-        let extra = RowFault {
-            word: 2,
-            reason: Reason::Extra,
-        };
-        return Err(text_fault(line, LineFault::Row(extra)));
-    }
-    if let Some(next) = next_line(rest, line + 1) {
-        return Err(text_fault(next.number, LineFault::Behind));
+    if let Err(fault) = end_of_text(line, behind, rest) {
+        return Err(TextError::Text(fault));
     }
     match push_zeros((layout.count - place) * layout.size, out) {
         Ok(()) => Ok(()),
         Err(error) => Err(TextError::Memory(error)),
     }
-}
-
-/// A fault of the word of this number.
-fn row_fault(word: usize, reason: Reason) -> LineError
-    ensures { result ≡ LineError.Fault (LineFault.Row (record { word = word; reason = reason })) }
-{
-    LineError::Fault(LineFault::Row(RowFault { word, reason }))
 }
 
 /// Reads a line: an entry behind entry `place`. Appends zero bytes for the entries between them, and its own bytes.

@@ -1,6 +1,7 @@
 //! Tables as text: lines, entries by their numbers, and the bytes that they are.
 #![tactic(auto)]
 
+mod ending;
 mod entries;
 mod fault;
 pub mod laws;
