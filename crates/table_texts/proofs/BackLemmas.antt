@@ -1,23 +1,23 @@
 -- Lemmas on entries that are shown and read back.
-use Rattle.std.proofs.Common.{◌≡◌, ℕ, zero, suc, ◌+◌, ◌-◌, ◌*◌, ◌<◌, ◌≤◌, Bool, true, false, List, [], ◌∷◌, ◌++◌, length, take, drop, get_or, Option, Some, None, refl, ap, sym, ◌∙◌, arith, append_assoc, append-nil, length-take, length-drop, add-one}
-use Rattle.std.specs.Prelude.{◌==◌, nat_lt, nat_le, ◌&&◌, if◌then◌else◌, decimal, replicate, codes, Result, Ok, Err}
+use Rattle.std.proofs.Common.{◌≡◌, ℕ, zero, suc, ◌+◌, ◌-◌, ◌*◌, ◌<◌, ◌≤◌, Bool, true, false, List, [], ◌∷◌, ◌++◌, length, take, drop, get_or, Option, refl, ap, sym, ◌∙◌, arith, append_assoc, append-nil, length-take, length-drop}
+use Rattle.std.specs.Prelude.{◌==◌, nat_lt, nat_le, if◌then◌else◌, decimal, replicate, codes, Result, Ok}
 use Rattle.std.specs.List.{AllByRecursion, list_all}
 use Rattle.std.specs.Str.{bytes_eq}
 use Rattle.std.specs.Str.Parse.{AllDigits}
 use Rattle.std.specs.Char.{is_digit}
 use Rattle.std.proofs.lemmas.Bool.Decides.{nat_tests}
 use Rattle.std.proofs.lemmas.List.{take-append-drop, replicate-append-replicate}
-use Rattle.packet_forms.specs.Hex.{hex, hex_pair}
-use Rattle.row_forms.specs.Words.{words, hex_said, number}
-use Rattle.row_forms.specs.Rows.{with_front, row_said, row_words, row_shown, spaced, is_row}
-use Rattle.row_forms.proofs.TextLemmas.{IsPlain, IsMark, IsWord, split_first, digit_first, own, some_digits, spaced_nil, spaced_cons, all_append, all_map, words_led, marks_are_plain, decimal_marks, decimal_is_number, decimal_led}
+use Rattle.packet_forms.specs.Hex.{hex}
+use Rattle.row_forms.specs.Words.{number}
+use Rattle.row_forms.specs.Rows.{with_front, row_words, spaced, is_row}
+use Rattle.row_forms.proofs.TextLemmas.{IsPlain, IsWord, split_first, digit_first, own, some_digits, spaced_nil, spaced_cons, all_append, all_map, words_led, marks_are_plain, decimal_marks, decimal_is_number, decimal_led}
 use Rattle.row_forms.proofs.HexLemmas.{hex_length, hex_is_bytes, hex_is_plain}
 use Rattle.row_forms.proofs.BackLemmas.{zeros_are, all_drop, row_back, row_words_are}
 use Rattle.table_texts.specs.declared.fault.LineFault.{LineFault}
 use Rattle.table_texts.specs.declared.fault.TextFault.{TextFault}
 use Rattle.table_texts.specs.declared.layout.Layout.{Layout}
-use Rattle.table_texts.specs.Lines.{Numbered, lines_of, kept, kept_of, is_skipped, unless_skipped}
-use Rattle.table_texts.specs.Entries.{Placed, is_layout, behind_gap, sized, block_placed, row_placed, number_said, at_row, at_block, raw_said, entry_said, ended, is_end, then_entries, entries_said}
+use Rattle.table_texts.specs.Lines.{Numbered, lines_of, kept, kept_of, unless_skipped}
+use Rattle.table_texts.specs.Entries.{Placed, is_layout, behind_gap, sized, row_placed, number_said, at_row, at_block, entry_said, is_end, then_entries, entries_said}
 use Rattle.table_texts.specs.Shown.{entry_line, entry_shown, entries_shown}
 use Rattle.table_texts.proofs.LineLemmas.{kept_cons, nothing_kept}
 use Rattle.table_texts.proofs.LayoutLemmas.{IsLayout, layout_is}

@@ -1,6 +1,6 @@
 -- Lemmas on the lines of entries.
-use Rattle.std.proofs.Common.{◌≡◌, ℕ, ◌+◌, ◌-◌, ◌*◌, ◌<◌, ◌≤◌, Bool, true, false, List, [], ◌∷◌, ◌++◌, length, refl, ap, sym, ◌∙◌, arith, Some, None, Option, append_assoc}
-use Rattle.std.specs.Prelude.{Result, Ok, Err, codes, replicate}
+use Rattle.std.proofs.Common.{◌≡◌, ℕ, ◌+◌, true, false, List, [], ◌∷◌, ◌++◌, refl, ap, sym, ◌∙◌, Option, append_assoc}
+use Rattle.std.specs.Prelude.{Result, Ok, Err, codes}
 use Rattle.std.specs.Str.{bytes_eq}
 use Rattle.row_forms.specs.Words.{number}
 use Rattle.row_forms.specs.Rows.{with_front}
@@ -12,7 +12,7 @@ use Rattle.table_texts.specs.declared.fault.TextFault.{TextFault}
 use Rattle.table_texts.specs.declared.fault.TextError.{TextError}
 use Rattle.table_texts.specs.declared.fault.TextError.TheVariants as errors
 use Rattle.table_texts.specs.declared.layout.Layout.{Layout}
-use Rattle.table_texts.specs.Lines.{Numbered, kept_of}
+use Rattle.table_texts.specs.Lines.{Numbered}
 use Rattle.table_texts.specs.Entries.{Placed, number_said, at_row, raw_said, entry_said, ended, left_out, entries_said, is_end, behind_first, then_entries, fault_on, error_on, placed_behind, GivesEntry, GivesText}
 
 pub entry_none : (epoch : Option ℕ) (l : Layout) (place : ℕ) (ws : List (List ℕ)) → ws ≡ [] → entry_said epoch l place ws ≡ Err faults.Entry

@@ -4,3 +4,5 @@ pub mod EntryLemmas
 pub mod ShownLemmas
 pub mod BackLemmas
 pub mod SizeLemmas
+pub mod SequenceLemmas
+pub mod PayloadLemmas

@@ -6,7 +6,7 @@ use Rattle.std.proofs.lemmas.Bool.Decides.{nat_tests}
 use Rattle.row_forms.specs.Words.{words}
 use Rattle.row_forms.proofs.TextLemmas.{no_words}
 use Rattle.row_forms.proofs.WordsLemmas.{position_is, position_none}
-use Rattle.table_texts.specs.Lines.{Numbered, lines_of, kept, kept_of, is_skipped, unless_skipped}
+use Rattle.table_texts.specs.Lines.{lines_of, kept, kept_of, unless_skipped}
 
 abbrev is_end : ℕ → Bool
 is_end b = b == 10

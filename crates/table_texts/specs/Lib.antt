@@ -1,3 +1,4 @@
 pub mod Lines
 pub mod Entries
 pub mod Shown
+pub mod Sequences

@@ -1,5 +1,5 @@
 -- The text of a table's entries.
-use Rattle.std.specs.Prelude.{ℕ, zero, suc, ◌+◌, ◌==◌, Bool, if◌then◌else◌, List, [], ◌∷◌, ◌++◌, take, drop, codes, decimal}
+use Rattle.std.specs.Prelude.{ℕ, zero, suc, ◌+◌, ◌==◌, if◌then◌else◌, List, [], ◌∷◌, ◌++◌, take, drop, codes, decimal}
 use Rattle.std.specs.List.{list_all}
 use Rattle.packet_forms.specs.Hex.{hex}
 use Rattle.row_forms.specs.Rows.{row_shown, is_row}

@@ -2,6 +2,7 @@
 
 use row_forms::RowFault;
 use std::alloc::AllocError;
+use telecommands::CommandFault;
 use thiserror::Error;
 
 /// What is wrong with a line of a table's text.
@@ -19,6 +20,12 @@ pub enum LineFault {
     /// The bytes behind `raw` are more or fewer than an entry has.
     #[error("an entry has another number of bytes")]
     Size,
+    /// The line begins with none of a sequence's words.
+    #[error("`command`, `raw` or `end` is wanted here")]
+    Word,
+    /// The words of a telecommand.
+    #[error("{0}")]
+    Command(CommandFault),
     /// The text has no `end`.
     #[error("`end` is missing")]
     End,

@@ -7,10 +7,14 @@ mod fault;
 pub mod laws;
 mod layout;
 mod lines;
+mod sequences;
+mod sequences_shown;
 mod showing;
 
 pub use entries::read_entries;
 pub use fault::{LineFault, TextError, TextFault};
 pub use layout::Layout;
 pub use lines::{Line, next_line};
+pub use sequences::read_sequence;
+pub use sequences_shown::show_sequence;
 pub use showing::show_entries;

@@ -1,5 +1,5 @@
-use Rattle.std.proofs.Common.{◌≡◌, ℕ, true, false, List, ap, sym, ◌∙◌}
-use Rattle.std.specs.Prelude.{Result, codes}
+use Rattle.std.proofs.Common.{ℕ, List, ap, sym, ◌∙◌}
+use Rattle.std.specs.Prelude.{Result}
 use Rattle.std.specs.Str.{bytes_eq}
 use Rattle.row_forms.specs.Words.{words}
 use Rattle.table_texts.specs.declared.fault.LineFault.{LineFault}
