@@ -29,7 +29,7 @@ use Rattle.row_forms.proofs.RowLemmas.{row_shows, row_has_zeros, row_has_check}
 abbrev AreBytes : List ℕ → Type 0
 AreBytes bytes = AllByRecursion (λ b. b < 256) bytes
 
-all_take : (P : ℕ → Type 0) (n : ℕ) (xs : List ℕ) → AllByRecursion P xs → AllByRecursion P (take n xs)
+pub all_take : (P : ℕ → Type 0) (n : ℕ) (xs : List ℕ) → AllByRecursion P xs → AllByRecursion P (take n xs)
 all_take P zero xs all = tt
 all_take P (suc n) [] all = tt
 all_take P (suc n) (x ∷ xs) all = (all.0, all_take P n xs all.1)
@@ -260,15 +260,15 @@ key_back key text =
     at_seam [] y ys = refl
     at_seam (x ∷ xs) y ys = at_seam xs y ys
 
-field_back : (epoch : Option ℕ) (key : List ℕ) (kind : Kind) (bytes : List ℕ) → is_kind kind ≡ true → AllByRecursion (λ b. b < 256) bytes → can_show kind bytes ≡ true → field_said epoch key kind (word_shown key (value_shown kind bytes)) ≡ Ok bytes
+pub field_back : (epoch : Option ℕ) (key : List ℕ) (kind : Kind) (bytes : List ℕ) → is_kind kind ≡ true → AllByRecursion (λ b. b < 256) bytes → can_show kind bytes ≡ true → field_said epoch key kind (word_shown key (value_shown kind bytes)) ≡ Ok bytes
 unfolding field_said
 field_back epoch key kind bytes good all e = rw (key_back key (value_shown kind bytes), value_back epoch kind bytes good all e) refl
 
-row_nil : (epoch : Option ℕ) (n : ℕ) → row_said epoch n [] [] ≡ Ok []
+pub row_nil : (epoch : Option ℕ) (n : ℕ) → row_said epoch n [] [] ≡ Ok []
 unfolding row_said
 row_nil epoch n = refl
 
-row_value : (epoch : Option ℕ) (n : ℕ) (key : Bor (List ℕ)) (kind : Kind) (fs : List Field) (w : List ℕ) (ws : List (List ℕ)) (value behind : List ℕ) → field_said epoch key.now kind w ≡ Ok value → row_said epoch (n + 1) fs ws ≡ Ok behind → row_said epoch n (Value key kind ∷ fs) (w ∷ ws) ≡ Ok (value ++ behind)
+pub row_value : (epoch : Option ℕ) (n : ℕ) (key : Bor (List ℕ)) (kind : Kind) (fs : List Field) (w : List ℕ) (ws : List (List ℕ)) (value behind : List ℕ) → field_said epoch key.now kind w ≡ Ok value → row_said epoch (n + 1) fs ws ≡ Ok behind → row_said epoch n (Value key kind ∷ fs) (w ∷ ws) ≡ Ok (value ++ behind)
 unfolding row_said
 row_value epoch n key kind fs w ws value behind e f = rw (e, f) refl
 
@@ -282,11 +282,11 @@ unfolding row_said
 row_check epoch n fs [] behind f = rw f refl
 row_check epoch n fs (w ∷ ws) behind f = rw f refl
 
-words_nil : (bytes : List ℕ) → row_words [] bytes ≡ []
+pub words_nil : (bytes : List ℕ) → row_words [] bytes ≡ []
 unfolding row_words
 words_nil bytes = refl
 
-words_value : (key : Bor (List ℕ)) (kind : Kind) (fs : List Field) (bytes : List ℕ) → row_words (Value key kind ∷ fs) bytes ≡ word_shown key.now (value_shown kind (take (width kind bytes) bytes)) ∷ row_words fs (drop (width kind bytes) bytes)
+pub words_value : (key : Bor (List ℕ)) (kind : Kind) (fs : List Field) (bytes : List ℕ) → row_words (Value key kind ∷ fs) bytes ≡ word_shown key.now (value_shown kind (take (width kind bytes) bytes)) ∷ row_words fs (drop (width kind bytes) bytes)
 unfolding row_words
 words_value key kind fs bytes = refl
 
@@ -298,7 +298,7 @@ words_check : (fs : List Field) (bytes : List ℕ) → row_words (Check ∷ fs) 
 unfolding row_words
 words_check fs bytes = refl
 
-empty_row : (bytes : List ℕ) → is_row [] bytes ≡ true → [] ≡ bytes
+pub empty_row : (bytes : List ℕ) → is_row [] bytes ≡ true → [] ≡ bytes
 unfolding is_row
 empty_row [] e = refl
 empty_row (b ∷ bytes) e = let none : length (b ∷ bytes) ≡ 0 = grind (arith, nat_tests) in absurd (omega (arith, none))

@@ -46,7 +46,7 @@ kept_word : (n : ℕ) (w : List ℕ) (ws : List (List ℕ)) (more : List Numbere
 kept_word n w ws more e = rw e refl
 
 -- a line of words says them
-kept_line : (n : ℕ) (w : List ℕ) (ws : List (List ℕ)) (rest : List ℕ) → IsWord w → AllByRecursion IsWord ws → (get_or w 0 0 == 35) ≡ false → kept_of n ((w ++ spaced ws) ++ 10 ∷ rest) ≡ record { number = n; words = w ∷ ws } ∷ kept_of (n + 1) rest
+pub kept_line : (n : ℕ) (w : List ℕ) (ws : List (List ℕ)) (rest : List ℕ) → IsWord w → AllByRecursion IsWord ws → (get_or w 0 0 == 35) ≡ false → kept_of n ((w ++ spaced ws) ++ 10 ∷ rest) ≡ record { number = n; words = w ∷ ws } ∷ kept_of (n + 1) rest
 kept_line n w ws rest first all said =
     let plain = all_append IsInLine w (spaced ws) (all_map IsPlain IsInLine plain_in_line w first.1) (spaced_in_line ws all) in
     ap (kept n) (lines_cons (w ++ spaced ws) rest plain)
@@ -101,7 +101,7 @@ raw_words k e =
     let last : spaced (hex e ∷ []) ≡ 32 ∷ hex e = spaced_cons (hex e) [] ∙ ap (λ (xs : List ℕ). 32 ∷ (hex e ++ xs)) spaced_nil ∙ ap (λ (xs : List ℕ). 32 ∷ xs) (append-nil (hex e)) in
     sym (ap (λ (xs : List ℕ). codes "raw" ++ xs) (spaced_cons (decimal k) (hex e ∷ []) ∙ ap (λ (xs : List ℕ). 32 ∷ (decimal k ++ xs)) last))
 
-raw_is_word : IsWord (codes "raw")
+pub raw_is_word : IsWord (codes "raw")
 raw_is_word = (omega arith, (omega arith, (omega arith, (omega arith, tt))))
 
 -- the words of an entry's line, of which the first is no end and no comment
@@ -115,7 +115,7 @@ record IsLine (epoch : Option ℕ) (l : Layout) (place k : ℕ) (e line : List �
   goes_on : is_end (word ∷ more) ≡ false
   entry : entry_said epoch l place (word ∷ more) ≡ Ok (record { number = k; bytes = behind_gap l place k e })
 
-hex_is_word : (e : List ℕ) → 0 < length e → IsWord (hex e)
+pub hex_is_word : (e : List ℕ) → 0 < length e → IsWord (hex e)
 hex_is_word e some = (omega (arith, hex_length e), hex_is_plain e)
 
 line_is : (epoch : Option ℕ) (l : Layout) (place k : ℕ) (e : List ℕ) → IsLayout l → place < k → k ≤ l.count → AllByRecursion (λ b. b < 256) e → length e ≡ l.size → (b : Bool) → is_row l.fields.now e ≡ b → IsLine epoch l place k e (entry_line l k e)
@@ -155,10 +155,10 @@ line_then epoch l place k n e line rest is =
     ∙ entries_line epoch l place n n (is.word ∷ is.more) (kept_of n ((is.word ++ spaced is.more) ++ 10 ∷ rest)) (kept_of (n + 1) rest) (kept_line n is.word is.more rest is.first is.all is.said) is.goes_on
     ∙ ap (λ (r : Result Placed LineFault). then_entries n r (λ j. entries_said epoch l j (n + 1) (kept_of (n + 1) rest))) is.entry
 
-end_is_word : IsWord (codes "end")
+pub end_is_word : IsWord (codes "end")
 end_is_word = (omega arith, (omega arith, (omega arith, (omega arith, tt))))
 
-end_text : codes "end" ++ 10 ∷ [] ≡ (codes "end" ++ spaced []) ++ 10 ∷ []
+pub end_text : codes "end" ++ 10 ∷ [] ≡ (codes "end" ++ spaced []) ++ 10 ∷ []
 end_text = rw spaced_nil refl
 
 end_back : (epoch : Option ℕ) (l : Layout) (place n : ℕ) → entries_said epoch l place n (kept_of n (codes "end" ++ 10 ∷ [])) ≡ Ok (replicate ((l.count - place) * l.size) 0)

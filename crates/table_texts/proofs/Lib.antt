@@ -6,3 +6,4 @@ pub mod BackLemmas
 pub mod SizeLemmas
 pub mod SequenceLemmas
 pub mod PayloadLemmas
+pub mod SequenceBackLemmas

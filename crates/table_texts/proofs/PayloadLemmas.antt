@@ -94,7 +94,7 @@ bounds fs size bytes some = item_bounds fs size bytes some (is_command_at fs siz
 
 -- ---- all of a payload
 
-shown_none : (cs : List Command) (fs : List Field) (size fuel : ℕ) → sequence_shown cs fs size fuel [] ≡ codes "end" ++ 10 ∷ []
+pub shown_none : (cs : List Command) (fs : List Field) (size fuel : ℕ) → sequence_shown cs fs size fuel [] ≡ codes "end" ++ 10 ∷ []
 unfolding sequence_shown
 shown_none cs fs size zero = refl
 shown_none cs fs size (suc fuel) = refl

@@ -55,7 +55,7 @@ no_fields : (fs : List Field) → (length fs == 0) ≡ true → fs ≡ []
 no_fields [] e = refl
 no_fields (f ∷ fs) e = let h : length (f ∷ fs) ≡ 0 = grind (arith, nat_tests) in absurd (omega (arith, h))
 
-said_nil : (epoch : Option ℕ) (n : ℕ) (ws : List (List ℕ)) → front_said epoch n [] ws ≡ Ok (record { bytes = []; rest = ws })
+pub said_nil : (epoch : Option ℕ) (n : ℕ) (ws : List (List ℕ)) → front_said epoch n [] ws ≡ Ok (record { bytes = []; rest = ws })
 unfolding front_said
 said_nil epoch n ws = refl
 

@@ -1,5 +1,5 @@
 -- Lemmas on telecommands that are read back.
-use Rattle.std.proofs.Common.{◌≡◌, ℕ, ◌+◌, ◌<◌, ◌≤◌, true, false, ◌&&◌, List, [], ◌∷◌, ◌++◌, length, Option, Some, None, refl, ap, ◌∙◌, arith}
+use Rattle.std.proofs.Common.{◌≡◌, ℕ, ◌+◌, ◌<◌, ◌≤◌, true, false, ◌&&◌, List, [], ◌∷◌, ◌++◌, length, Option, Some, None, refl, ap, sym, subst, ◌∙◌, arith, append-nil}
 use Rattle.std.specs.Prelude.{nat_lt, nat_le, if◌then◌else◌, is_none, codes, Ok}
 use Rattle.std.specs.List.{list_all, AllByRecursion}
 use Rattle.std.proofs.lemmas.Bool.Decides.{nat_tests}
@@ -9,8 +9,8 @@ use Rattle.packet_forms.specs.Hex.{hex}
 use Rattle.packet_forms.specs.Packets.{is_command, payload_of}
 use Rattle.packet_forms.proofs.Forms.{packet_of_none}
 use Rattle.row_forms.specs.Words.{words}
-use Rattle.row_forms.specs.Rows.{behind_key, row_words, row_shown}
-use Rattle.row_forms.proofs.TextLemmas.{IsPlain, IsWord, all_append, word_alone, words_led}
+use Rattle.row_forms.specs.Rows.{behind_key, row_words, row_shown, spaced}
+use Rattle.row_forms.proofs.TextLemmas.{IsPlain, IsWord, all_append, spaced_nil, word_alone, words_led}
 use Rattle.row_forms.proofs.HexLemmas.{hex_is_bytes, hex_is_plain}
 use Rattle.row_forms.proofs.BackLemmas.{all_drop, key_back, key_plain, row_back, row_words_are}
 use Rattle.telecommands.specs.declared.command.Command.{Command}
@@ -69,6 +69,38 @@ name_back epoch n cs packet c all short found =
     ∙ sent_is c payload (payload_room packet short)
     ∙ ap Ok (same_bytes (command_of c.id c.code payload) packet shown.whole)
 
+-- a text that is one word and others, with a space between
+pub record IsSpaced (shown : List ℕ) : Type 0 where
+  pub word : List ℕ
+  pub more : List (List ℕ)
+  pub text : shown ≡ word ++ spaced more
+  pub first : IsWord word
+  pub all : AllByRecursion IsWord more
+
+bytes_spaced : (packet : List ℕ) → IsSpaced (codes "packet=" ++ hex packet)
+bytes_spaced packet = record {
+  word = codes "packet=" ++ hex packet;
+  more = [];
+  text = sym (ap (λ (xs : List ℕ). (codes "packet=" ++ hex packet) ++ xs) spaced_nil ∙ append-nil (codes "packet=" ++ hex packet));
+  first = (omega arith, all_append IsPlain (codes "packet=") (hex packet) front_plain (hex_is_plain packet));
+  all = tt;
+}
+
+name_spaced : (cs : List Command) (packet : List ℕ) (c : Command) → AllByRecursion (λ b. b < 256) packet → IsFound cs packet c → IsSpaced (c.name.now ++ row_shown c.fields.now (payload_of packet))
+name_spaced cs packet c all found =
+    let good = good_is c found.good in
+    let shown = shown_is packet c found.shown in
+    let name = and_both (nat_lt 0 (length c.name.now) && list_all (nat_lt 32) c.name.now) (is_none (behind_key (codes "packet") c.name.now)) good.name in
+    let text = and_both (nat_lt 0 (length c.name.now)) (list_all (nat_lt 32) c.name.now) name.0 in
+    let some = text.0 in
+    record {
+      word = c.name.now;
+      more = row_words c.fields.now (payload_of packet);
+      text = refl;
+      first = (grind (arith, nat_tests, some), key_plain c.name.now text.1);
+      all = row_words_are c.fields.now (payload_of packet) good.fields (payload_bytes packet all) shown.row;
+    }
+
 shown_is_by : (cs : List Command) (packet : List ℕ) (o : Option Command) → showing cs packet ≡ o → command_shown cs packet ≡ shown_by o packet
 unfolding command_shown
 shown_is_by cs packet o e = ap (λ (x : Option Command). shown_by x packet) e
@@ -81,3 +113,10 @@ command_back epoch n cs packet good distinct all faultless = by (showing cs pack
   by (Some c) e =
       ap (λ (xs : List ℕ). command_said epoch n cs (words xs)) (shown_is_by cs packet (Some c) e)
       ∙ name_back epoch n cs packet c all (packet_of_none packet faultless).short (found_is cs packet c good distinct e)
+
+-- the words that a packet is shown by stand with a space between
+pub command_spaced : (cs : List Command) (packet : List ℕ) → are_good cs ≡ true → are_distinct cs ≡ true → AllByRecursion (λ b. b < 256) packet → IsSpaced (command_shown cs packet)
+command_spaced cs packet good distinct all = by (showing cs packet) refl where
+  by : (o : Option Command) → showing cs packet ≡ o → IsSpaced (command_shown cs packet)
+  by None e = subst IsSpaced (sym (shown_is_by cs packet None e)) (bytes_spaced packet)
+  by (Some c) e = subst IsSpaced (sym (shown_is_by cs packet (Some c) e)) (name_spaced cs packet c all (found_is cs packet c good distinct e))
