@@ -6,4 +6,5 @@ pub mod BackLemmas
 pub mod SizeLemmas
 pub mod SequenceLemmas
 pub mod PayloadLemmas
+pub mod FrontBackLemmas
 pub mod SequenceBackLemmas

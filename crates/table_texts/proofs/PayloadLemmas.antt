@@ -9,7 +9,8 @@ use Rattle.row_forms.specs.declared.field.Field.{Field}
 use Rattle.row_forms.specs.Rows.{is_row}
 use Rattle.row_forms.proofs.TextLemmas.{and_both}
 use Rattle.telecommands.specs.declared.command.Command.{Command}
-use Rattle.table_texts.specs.Sequences.{packet_size, packet_behind, is_command_at, item_size, item_shown, sequence_shown, payload_shown}
+use Rattle.table_texts.specs.Fronts.{packet_size, packet_behind, is_command_at}
+use Rattle.table_texts.specs.Sequences.{item_size, item_shown, sequence_shown, payload_shown}
 
 -- bytes that begin with fields and a packet
 pub record IsCommandAt (fs : List Field) (size : ℕ) (bytes : List ℕ) : Type 0 where

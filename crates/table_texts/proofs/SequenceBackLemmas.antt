@@ -1,81 +1,32 @@
 -- Lemmas on sequences that are shown and read back.
-use Rattle.std.proofs.Common.{◌≡◌, ℕ, zero, suc, ◌+◌, ◌<◌, ◌≤◌, Bool, true, false, ◌&&◌, List, [], ◌∷◌, ◌++◌, length, take, drop, get_or, Option, Some, None, refl, ap, sym, ◌∙◌, arith, append_assoc, append-nil, Bor, nat_le, ◌-◌, length-drop, drop-drop}
-use Rattle.std.specs.Prelude.{codes, Result, Ok, Err, ◌==◌, nat_lt}
-use Rattle.std.specs.List.{AllByRecursion, list_all}
-use Rattle.std.proofs.lemmas.List.{take-append-drop, drop_all}
-use Rattle.std.proofs.lemmas.Bool.Decides.{nat_tests}
-use Rattle.packet_forms.specs.Faults.{fault_of}
+use Rattle.std.proofs.Common.{◌≡◌, ℕ, zero, suc, ◌+◌, ◌<◌, ◌≤◌, Bool, true, false, List, [], ◌∷◌, ◌++◌, length, take, drop, get_or, Option, refl, ap, sym, ◌∙◌, arith, append_assoc, append-nil, ◌-◌, length-drop}
+use Rattle.std.specs.Prelude.{codes, Result, Ok, ◌==◌}
+use Rattle.std.specs.List.{AllByRecursion}
+use Rattle.std.proofs.lemmas.List.{drop_all}
 use Rattle.packet_forms.specs.Hex.{hex}
 use Rattle.row_forms.specs.declared.field.Field.{Field}
-use Rattle.row_forms.specs.declared.field.Field.TheVariants.{Value, Zeros, Check}
-use Rattle.row_forms.specs.declared.field.Kind.{Kind}
-use Rattle.row_forms.specs.declared.fault.RowFault.{RowFault}
-use Rattle.row_forms.specs.Values.{width, value_shown, is_kind}
-use Rattle.row_forms.specs.Words.{words}
-use Rattle.row_forms.specs.Rows.{with_front, row_said, row_words, row_shown, word_shown, spaced, is_row, are_fields}
-use Rattle.row_forms.proofs.TextLemmas.{IsWord, IsPlain, and_both, spaced_nil, spaced_cons, words_led}
+use Rattle.row_forms.specs.Rows.{with_front, row_shown, spaced}
+use Rattle.row_forms.proofs.TextLemmas.{IsWord, spaced_nil, spaced_cons}
 use Rattle.row_forms.proofs.HexLemmas.{hex_is_bytes}
-use Rattle.row_forms.proofs.RowLemmas.{row_shows}
-use Rattle.row_forms.proofs.BackLemmas.{all_take, all_drop, field_back, row_value, row_nil, words_value, words_nil, empty_row, row_words_are}
+use Rattle.row_forms.proofs.BackLemmas.{all_drop}
 use Rattle.telecommands.specs.declared.command.Command.{Command}
-use Rattle.telecommands.specs.declared.fault.CommandFault.{CommandFault}
-use Rattle.telecommands.specs.Commands.{are_good, are_distinct, command_said, command_shown}
-use Rattle.telecommands.proofs.ReadBackLemmas.{IsSpaced, command_spaced, command_back}
+use Rattle.telecommands.specs.Commands.{are_good, are_distinct, command_shown}
 use Rattle.table_texts.specs.declared.fault.LineFault.{LineFault}
 use Rattle.table_texts.specs.declared.fault.TextFault.{TextFault}
 use Rattle.table_texts.specs.Lines.{Numbered, kept_of}
-use Rattle.table_texts.specs.Entries.{is_end}
-use Rattle.table_texts.specs.Sequences.{is_value, is_front, Front, then_front, front_said, stored, behind_front, bytes_said, some_bytes, item_said, then_item, sequence_said, packet_behind, packet_size, is_command_at, command_line, item_size, item_shown, payload_shown, sequence_shown}
+use Rattle.table_texts.specs.Endings.{is_end}
+use Rattle.table_texts.specs.Fronts.{is_front, packet_behind, is_command_at}
+use Rattle.table_texts.specs.Sequences.{some_bytes, item_said, then_item, sequence_said, command_line, item_size, item_shown, payload_shown, sequence_shown}
+use Rattle.table_texts.proofs.FrontBackLemmas.{stored_says, command_bytes}
 use Rattle.table_texts.proofs.LineLemmas.{nothing_kept}
 use Rattle.table_texts.proofs.BackLemmas.{kept_line, hex_is_word, raw_is_word, end_is_word, end_text}
-use Rattle.table_texts.proofs.SequenceLemmas.{IsFront, front_is, said_nil, said_cons, item_command, item_raw, sequence_end, sequence_line}
-use Rattle.table_texts.proofs.PayloadLemmas.{IsCommandAt, command_is, packet_long, item_of_command, item_of_rest, bounds, shown_step, shown_none}
+use Rattle.table_texts.proofs.SequenceLemmas.{IsFront, front_is, item_command, item_raw, sequence_end, sequence_line}
+use Rattle.table_texts.proofs.PayloadLemmas.{IsCommandAt, command_is, item_of_command, item_of_rest, bounds, shown_step, shown_none}
 
 abbrev AreBytes : List ℕ → Type 0
 AreBytes bytes = AllByRecursion (λ b. b < 256) bytes
 
--- ---- the fields in front
-
-front_ok : (a b : List ℕ) (ws : List (List ℕ)) (r : Result (List ℕ) RowFault) (more : Result Front RowFault) → r ≡ Ok a → more ≡ Ok (record { bytes = b; rest = ws }) → then_front r more ≡ Ok (record { bytes = a ++ b; rest = ws })
-front_ok a b ws r more e f = rw (e, f) refl
-
--- the words of fields say them, and the words behind them are left
-front_back : (epoch : Option ℕ) (n : ℕ) (fs : List Field) (bytes : List ℕ) (ws : List (List ℕ)) → are_fields fs ≡ true → list_all is_value fs ≡ true → AllByRecursion (λ b. b < 256) bytes → is_row fs bytes ≡ true → front_said epoch n fs (row_words fs bytes ++ ws) ≡ Ok (record { bytes = bytes; rest = ws })
-front_back epoch n [] bytes ws good values all e =
-    ap (λ (xs : List (List ℕ)). front_said epoch n [] (xs ++ ws)) (words_nil bytes) ∙ said_nil epoch n ws ∙ ap (as_front ws) (empty_row bytes e) where
-      as_front : List (List ℕ) → List ℕ → Result Front RowFault
-      as_front ws xs = Ok (record { bytes = xs; rest = ws })
-front_back epoch n (Value key kind ∷ fs) bytes ws good values all e =
-    let both = and_both (list_all (nat_lt 32) key.now && is_kind kind) (are_fields fs) good in
-    let kind_good = (and_both (list_all (nat_lt 32) key.now) (is_kind kind) both.0).1 in
-    let is = row_shows key kind fs bytes e in
-    let w = width kind bytes in
-    let word = word_shown key.now (value_shown kind (take w bytes)) in
-    let value = field_back epoch key.now kind (take w bytes) kind_good (all_take (λ b. b < 256) w bytes all) is.shows in
-    let first = row_value epoch n key kind [] word [] (take w bytes) [] value (row_nil epoch (n + 1)) ∙ ap Ok (append-nil (take w bytes)) in
-    let rest = front_back epoch (n + 1) fs (drop w bytes) ws both.1 values (all_drop (λ b. b < 256) w bytes all) is.behind in
-    ap (λ (xs : List (List ℕ)). front_said epoch n (Value key kind ∷ fs) (xs ++ ws)) (words_value key kind fs bytes)
-    ∙ said_cons epoch n (Value key kind) fs word (row_words fs (drop w bytes) ++ ws)
-    ∙ front_ok (take w bytes) (drop w bytes) ws (row_said epoch n (Value key kind ∷ []) (word ∷ [])) (front_said epoch (n + 1) fs (row_words fs (drop w bytes) ++ ws)) first rest
-    ∙ ap (as_front ws) (take-append-drop w bytes) where
-      as_front : List (List ℕ) → List ℕ → Result Front RowFault
-      as_front ws xs = Ok (record { bytes = xs; rest = ws })
-front_back epoch n (Zeros count ∷ fs) bytes ws good values all e = absurd (cc)
-front_back epoch n (Check ∷ fs) bytes ws good values all e = absurd (cc)
-
 -- ---- a line
-
-all_append : (xs ys : List (List ℕ)) → AllByRecursion IsWord xs → AllByRecursion IsWord ys → AllByRecursion IsWord (xs ++ ys)
-all_append [] ys first second = second
-all_append (x ∷ xs) ys first second = (first.0, all_append xs ys first.1 second)
-
-spaced_append : (xs : List (List ℕ)) (w : List ℕ) (more : List (List ℕ)) → spaced (xs ++ w ∷ more) ≡ spaced xs ++ 32 ∷ (w ++ spaced more)
-spaced_append [] w more = spaced_cons w more ∙ ap (λ (ys : List ℕ). ys ++ 32 ∷ (w ++ spaced more)) (sym spaced_nil)
-spaced_append (x ∷ xs) w more =
-    spaced_cons x (xs ++ w ∷ more)
-    ∙ ap (λ (ys : List ℕ). 32 ∷ (x ++ ys)) (spaced_append xs w more)
-    ∙ ap (λ (ys : List ℕ). 32 ∷ ys) (sym (append_assoc x (spaced xs) (32 ∷ (w ++ spaced more))))
-    ∙ ap (λ (ys : List ℕ). ys ++ 32 ∷ (w ++ spaced more)) (sym (spaced_cons x xs))
 
 command_is_word : IsWord (codes "command")
 command_is_word = (omega arith, (omega arith, (omega arith, (omega arith, (omega arith, (omega arith, (omega arith, (omega arith, tt))))))))
@@ -91,32 +42,18 @@ record SaysItem (epoch : Option ℕ) (cs : List Command) (fs : List Field) (byte
   goes_on : is_end (word ∷ more) ≡ false
   item : item_said epoch cs fs (word ∷ more) ≡ Ok bytes
 
-stored_ok : (front packet : List ℕ) (r : Result (List ℕ) CommandFault) → r ≡ Ok packet → stored front r ≡ Ok (front ++ packet)
-stored_ok front packet r e = rw e refl
-
 command_says : (epoch : Option ℕ) (cs : List Command) (fs : List Field) (size : ℕ) (bytes : List ℕ) → are_good cs ≡ true → are_distinct cs ≡ true → IsFront fs size → AllByRecursion (λ b. b < 256) bytes → IsCommandAt fs size bytes → SaysItem epoch cs fs (take size bytes ++ packet_behind size bytes) (command_line cs fs size bytes)
 command_says epoch cs fs size bytes good distinct is all at =
-    let front = take size bytes in
-    let packet = packet_behind size bytes in
-    let front_bytes = all_take (λ b. b < 256) size bytes all in
-    let packet_bytes = all_take (λ b. b < 256) (packet_size (drop size bytes)) (drop size bytes) (all_drop (λ b. b < 256) size bytes all) in
-    let shown = command_spaced cs packet good distinct packet_bytes in
-    let rest = shown.word ∷ shown.more in
-    let said = ap (command_said epoch (length fs + 2) cs) (sym (ap words shown.text ∙ words_led shown.word shown.more shown.first shown.all)) ∙ command_back epoch (length fs + 2) cs packet good distinct packet_bytes at.packet in
+    let says = stored_says epoch cs fs size bytes good distinct is all at in
     record {
       word = codes "command";
-      more = row_words fs front ++ rest;
-      text =
-          ap (λ (xs : List ℕ). ((codes "command" ++ row_shown fs front) ++ 32 ∷ xs) ++ 10 ∷ []) shown.text
-          ∙ ap (λ (xs : List ℕ). xs ++ 10 ∷ []) (append_assoc (codes "command") (row_shown fs front) (32 ∷ (shown.word ++ spaced shown.more)) ∙ ap (λ (xs : List ℕ). codes "command" ++ xs) (sym (spaced_append (row_words fs front) shown.word shown.more)));
+      more = says.more;
+      text = ap (λ (xs : List ℕ). xs ++ 10 ∷ []) (append_assoc (codes "command") (row_shown fs (take size bytes)) (32 ∷ command_shown cs (packet_behind size bytes)) ∙ ap (λ (xs : List ℕ). codes "command" ++ xs) says.text);
       first = command_is_word;
-      all = all_append (row_words fs front) rest (row_words_are fs front is.fields front_bytes at.row) (shown.first, shown.all);
+      all = says.all;
       said = refl;
       goes_on = refl;
-      item =
-          item_command epoch cs fs (codes "command" ∷ (row_words fs front ++ rest)) (codes "command") (row_words fs front ++ rest) refl refl
-          ∙ ap (behind_front epoch cs (length fs + 2)) (front_back epoch 2 fs front rest is.fields is.values front_bytes at.row)
-          ∙ stored_ok front packet (command_said epoch (length fs + 2) cs rest) said;
+      item = item_command epoch cs fs (codes "command" ∷ says.more) (codes "command") says.more refl refl ∙ says.stored;
     }
 
 raw_says : (epoch : Option ℕ) (cs : List Command) (fs : List Field) (bytes : List ℕ) → 0 < length bytes → AllByRecursion (λ b. b < 256) bytes → SaysItem epoch cs fs bytes ((codes "raw " ++ hex bytes) ++ 10 ∷ [])
@@ -163,14 +100,6 @@ shown_item cs fs size bytes e = rw e refl
 
 shown_rest : (cs : List Command) (fs : List Field) (size : ℕ) (bytes : List ℕ) → is_command_at fs size bytes ≡ false → item_shown cs fs size bytes ≡ (codes "raw " ++ hex bytes) ++ 10 ∷ []
 shown_rest cs fs size bytes e = rw e refl
-
-command_bytes : (size : ℕ) (bytes : List ℕ) → (take size bytes ++ packet_behind size bytes) ++ drop (size + packet_size (drop size bytes)) bytes ≡ bytes
-command_bytes size bytes =
-    let p = packet_size (drop size bytes) in
-    append_assoc (take size bytes) (take p (drop size bytes)) (drop (size + p) bytes)
-    ∙ ap (λ (xs : List ℕ). take size bytes ++ (take p (drop size bytes) ++ xs)) (sym (drop-drop p size bytes))
-    ∙ ap (λ (xs : List ℕ). take size bytes ++ xs) (take-append-drop p (drop size bytes))
-    ∙ take-append-drop size bytes
 
 step_back : (epoch : Option ℕ) (cs : List Command) (fs : List Field) (size fuel n : ℕ) (bytes : List ℕ) → are_good cs ≡ true → are_distinct cs ≡ true → IsFront fs size → AllByRecursion (λ b. b < 256) bytes → 0 < length bytes → Behind epoch cs fs size fuel (drop (item_size fs size bytes) bytes) → (b : Bool) → is_command_at fs size bytes ≡ b → sequence_said epoch cs fs n (kept_of n (item_shown cs fs size bytes ++ sequence_shown cs fs size fuel (drop (item_size fs size bytes) bytes))) ≡ Ok bytes
 step_back epoch cs fs size fuel n bytes good distinct is all some behind true e =

@@ -20,8 +20,9 @@ use Rattle.table_texts.specs.declared.fault.TextFault.{TextFault}
 use Rattle.table_texts.specs.declared.fault.TextError.{TextError}
 use Rattle.table_texts.specs.declared.fault.TextError.TheVariants as errors
 use Rattle.table_texts.specs.Lines.{Numbered}
-use Rattle.table_texts.specs.Entries.{is_end, behind_first, ended, fault_on, error_on, has_size, GivesText}
-use Rattle.table_texts.specs.Sequences.{is_value, is_front, Front, then_front, front_said, front_behind, behind_front, bytes_said, item_said, then_item, sequence_said, GivesFront, GivesItem}
+use Rattle.table_texts.specs.Endings.{is_end, behind_first, ended, fault_on, error_on, GivesText}
+use Rattle.table_texts.specs.Fronts.{has_size, is_value, is_front, Front, then_front, front_said, front_behind, behind_front, GivesFront, GivesItem}
+use Rattle.table_texts.specs.Sequences.{bytes_said, item_said, then_item, sequence_said}
 
 -- ---- fields in front
 
@@ -32,7 +33,7 @@ pub record IsFront (fs : List Field) (bytes : ℕ) : Type 0 where
   pub values : list_all is_value fs ≡ true
   pub sized : row_size fs ≡ Some bytes
 
-size_is : (o : Option ℕ) (n : ℕ) → has_size o n ≡ true → o ≡ Some n
+pub size_is : (o : Option ℕ) (n : ℕ) → has_size o n ≡ true → o ≡ Some n
 size_is None n e = absurd (cc)
 size_is (Some m) n e = let h : m ≡ n = grind (arith, nat_tests) in rw h refl
 

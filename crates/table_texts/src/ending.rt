@@ -2,7 +2,7 @@
 ghost use Rattle.std.specs.Prelude.{◌≡◌, ◌<◌, ◌+◌, ◌^◌, ℕ, List, true, false, length, MatchOption};
 ghost use Rattle.row_forms.specs.Words.{words};
 ghost use Rattle.table_texts.specs.Lines.{kept_of};
-ghost use Rattle.table_texts.specs.Entries.{is_end, behind_first, ended, as_ended, error_on};
+ghost use Rattle.table_texts.specs.Endings.{is_end, behind_first, ended, as_ended, error_on};
 
 use crate::fault::{LineError, LineFault, TextError, TextFault};
 use crate::lines::next_line;

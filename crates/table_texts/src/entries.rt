@@ -1,41 +1,45 @@
 //! Entries that are read from a table's text.
-ghost use Rattle.std.specs.Prelude.{◌≡◌, ◌<◌, ◌≤◌, ◌+◌, ◌^◌, ℕ, true, false, length, IfOk, MatchOption, OnOk, vec_len};
+ghost use Rattle.std.specs.Prelude.{◌≡◌, ◌<◌, ◌≤◌, ◌+◌, ◌-◌, ◌^◌, ◌++◌, true, length, replicate, nat_le, if◌then◌else◌, IfOk, vec_len};
 ghost use Rattle.row_forms.specs.Words.{words, number};
 ghost use Rattle.row_forms.specs.Rows.{with_front, row_said};
 ghost use Rattle.table_texts.specs.Lines.{kept_of};
-ghost use Rattle.table_texts.specs.Entries.{is_layout, left_out, number_said, row_placed, raw_said, block_placed, entry_said, ended, entries_said, placed_behind, GivesEntry, GivesText};
+ghost use Rattle.table_texts.specs.Endings.{ended, GivesText};
+ghost use Rattle.table_texts.specs.Fronts.{front_said, behind_front, GivesItem};
+ghost use Rattle.table_texts.specs.Entries.{is_layout, left_out, number_said, as_row, padded, values_said, row_placed, raw_said, block_placed, entry_said, table_said, placed_behind, GivesEntry};
+ghost use Rattle.telecommands.specs.Commands.{are_good};
 
 use crate::ending::{behind_end, end_of_text, error_on, row_fault, text_fault};
 use crate::fault::{LineError, LineFault, TextError};
-use crate::layout::Layout;
+use crate::fronts::read_stored;
+use crate::layout::{Layout, TableForm};
 use crate::lines::next_line;
-use row_forms::{Reason, number, push_zeros, read_block, read_row, split_word};
+use row_forms::{Field, Reason, number, push_zeros, read_block, read_row, split_word};
 
 /// Reads the entries behind entry `place` (0 for all) up to the line `end`, and appends their bytes, zero bytes for those that the text
 /// leaves out. A line is `NUMBER KEY=VALUE ..` or `raw NUMBER HEX`, with rising numbers; lines without words and those that begin with
-/// `#` are skipped. `line` is the number of the text's first line, and `epoch` what times such as `+0:01:00` are counted from, where
-/// there is one. What is appended where there is a fault has no meaning.
+/// `#` are skipped. `line` is the number of the text's first line. The bytes of `scratch` are lost. What is appended where there is a fault has no meaning.
 pub fn read_entries(
-    epoch: Option<u32>,
-    layout: &Layout,
+    form: &TableForm<'_>,
     place: usize,
     line: u32,
     text: &[u8],
+    scratch: &mut Vec<u8>,
     out: &mut Vec<u8>,
 ) -> Result<(), TextError>
-    requires layout { is_layout layout.now ≡ true }
-    requires place { place ≤ layout.now.count }
+    requires commands { are_good form.now.commands.now ≡ true }
+    requires layout { is_layout form.now.layout ≡ true }
+    requires place { place ≤ form.now.layout.count }
     requires short { line + length text.now < 2 ^ 32 }
-    ensures { GivesText (with_front out.old.items (entries_said epoch layout.now place line (kept_of line text.now))) out.new.items result }
+    ensures { GivesText (with_front out.old.items (table_said form.now place line (kept_of line text.now))) out.new.items result }
 {
     let Some(next) = next_line(text, line) else {
         return Err(text_fault(line, LineFault::End));
     };
     if let Some(behind) = behind_end(next.bytes) {
-        return end_entries(layout, place, next.number, behind, next.rest, out);
+        return end_entries(&form.layout, place, next.number, behind, next.rest, out);
     }
-    match read_entry(epoch, layout, place, next.bytes, out) {
-        Ok(entry) => read_entries(epoch, layout, entry, next.number + 1, next.rest, out),
+    match read_entry(form, place, next.bytes, scratch, out) {
+        Ok(entry) => read_entries(form, entry, next.number + 1, next.rest, scratch, out),
         Err(error) => Err(error_on(next.number, error)),
     }
 }
@@ -65,25 +69,26 @@ fn end_entries(
 
 /// Reads a line: an entry behind entry `place`. Appends zero bytes for the entries between them, and its own bytes.
 fn read_entry(
-    epoch: Option<u32>,
-    layout: &Layout,
+    form: &TableForm<'_>,
     place: usize,
     line: &[u8],
+    scratch: &mut Vec<u8>,
     out: &mut Vec<u8>,
 ) -> Result<usize, LineError>
-    requires layout { is_layout layout.now ≡ true }
-    requires place { place ≤ layout.now.count }
-    ensures said { GivesEntry (placed_behind out.old.items (entry_said epoch layout.now place (words line.now))) out.new.items result }
-    ensures number { IfOk result (λ k. k ≤ layout.now.count) }
+    requires commands { are_good form.now.commands.now ≡ true }
+    requires layout { is_layout form.now.layout ≡ true }
+    requires place { place ≤ form.now.layout.count }
+    ensures said { GivesEntry (placed_behind out.old.items (entry_said form.now.epoch form.now.commands.now form.now.layout place (words line.now))) out.new.items result }
+    ensures number { IfOk result (λ k. k ≤ form.now.layout.count) }
 {
     let Some((word, rest)) = split_word(line) else {
         return Err(LineError::Fault(LineFault::Entry));
     };
     if word == b"raw".as_slice() {
-        return read_raw(layout, place, rest, out);
+        return read_raw(&form.layout, place, rest, out);
     }
-    match entry_number(layout, place, word) {
-        Ok(entry) => read_placed(epoch, layout, place, entry, rest, out),
+    match entry_number(&form.layout, place, word) {
+        Ok(entry) => read_placed(form, place, entry, rest, scratch, out),
         Err(fault) => Err(LineError::Fault(fault)),
     }
 }
@@ -107,28 +112,105 @@ fn entry_number(layout: &Layout, place: usize, word: &[u8]) -> Result<usize, Lin
     Ok(entry)
 }
 
-/// Reads the row of an entry.
+/// Reads the values of an entry.
 fn read_placed(
-    epoch: Option<u32>,
-    layout: &Layout,
+    form: &TableForm<'_>,
     place: usize,
     entry: usize,
     line: &[u8],
+    scratch: &mut Vec<u8>,
     out: &mut Vec<u8>,
 ) -> Result<usize, LineError>
-    requires layout { is_layout layout.now ≡ true }
+    requires commands { are_good form.now.commands.now ≡ true }
+    requires layout { is_layout form.now.layout ≡ true }
     requires behind { place < entry }
-    requires room { entry ≤ layout.now.count }
-    ensures said { GivesEntry (placed_behind out.old.items (row_placed layout.now place entry (row_said epoch 2 layout.now.fields.now (words line.now)))) out.new.items result }
-    ensures number { IfOk result (λ k. k ≤ layout.now.count) }
+    requires room { entry ≤ form.now.layout.count }
+    ensures said { GivesEntry (placed_behind out.old.items (row_placed form.now.layout place entry (values_said form.now.epoch form.now.commands.now form.now.layout (words line.now)))) out.new.items result }
+    ensures number { IfOk result (λ k. k ≤ form.now.layout.count) }
 {
-    if let Err(error) = push_zeros((entry - 1 - place) * layout.size, out) {
+    if let Err(error) = push_zeros((entry - 1 - place) * form.layout.size, out) {
         return Err(LineError::Memory(error));
     }
-    match read_row(epoch, layout.fields, 2, line, out) {
+    match read_values(form, line, scratch, out) {
         Ok(()) => Ok(entry),
+        Err(error) => Err(error),
+    }
+}
+
+/// Reads the words of an entry behind its number, and appends its bytes.
+#[tactic(auto, unfolding(crate::specs::Entries::values_said))]
+fn read_values(
+    form: &TableForm<'_>,
+    line: &[u8],
+    scratch: &mut Vec<u8>,
+    out: &mut Vec<u8>,
+) -> Result<(), LineError>
+    requires commands { are_good form.now.commands.now ≡ true }
+    requires layout { is_layout form.now.layout ≡ true }
+    ensures { GivesItem (with_front out.old.items (values_said form.now.epoch form.now.commands.now form.now.layout (words line.now))) out.new.items result }
+{
+    if form.layout.area == 0 {
+        return read_fields(form.epoch, form.layout.fields, line, out);
+    }
+    read_area(form, line, scratch, out)
+}
+
+/// Reads the row of an entry that has no telecommand.
+fn read_fields(
+    epoch: Option<u32>,
+    fields: &[Field],
+    line: &[u8],
+    out: &mut Vec<u8>,
+) -> Result<(), LineError>
+    requires { length fields.now < 65536 }
+    ensures { GivesItem (with_front out.old.items (as_row (row_said epoch 2 fields.now (words line.now)))) out.new.items result }
+{
+    match read_row(epoch, fields, 2, line, out) {
+        Ok(()) => Ok(()),
         Err(row_forms::ReadError::Memory(error)) => Err(LineError::Memory(error)),
         Err(row_forms::ReadError::Row(fault)) => Err(LineError::Fault(LineFault::Row(fault))),
+    }
+}
+
+/// Reads the fields of an entry and its telecommand, and appends them with zero bytes up to the size of an entry.
+fn read_area(
+    form: &TableForm<'_>,
+    line: &[u8],
+    scratch: &mut Vec<u8>,
+    out: &mut Vec<u8>,
+) -> Result<(), LineError>
+    requires commands { are_good form.now.commands.now ≡ true }
+    requires few { length form.now.layout.fields.now ≤ 16 }
+    ensures { let said = behind_front form.now.epoch form.now.commands.now (length form.now.layout.fields.now + 2) (front_said form.now.epoch 2 form.now.layout.fields.now (words line.now)) in
+        GivesItem (with_front out.old.items (padded form.now.layout said)) out.new.items result }
+{
+    let before = out.len();
+    match read_stored(
+        form.epoch,
+        form.commands,
+        form.layout.fields,
+        line,
+        scratch,
+        out,
+    ) {
+        Ok(()) => pad(before, form.layout.size, out),
+        Err(error) => Err(error),
+    }
+}
+
+/// Appends zero bytes, so that as many bytes stand behind the first ones as an entry has.
+fn pad(before: usize, size: usize, out: &mut Vec<u8>) -> Result<(), LineError>
+    requires { before ≤ vec_len out.old }
+    ensures { let long = vec_len out.old - before in
+        GivesItem (if nat_le long size then Ok (out.old.items ++ replicate (size - long) 0) else Err LineFault.Long) out.new.items result }
+{
+    let long = out.len() - before;
+    if long > size {
+        return Err(LineError::Fault(LineFault::Long));
+    }
+    match push_zeros(size - long, out) {
+        Ok(()) => Ok(()),
+        Err(error) => Err(LineError::Memory(error)),
     }
 }
 

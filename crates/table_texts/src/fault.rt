@@ -26,6 +26,9 @@ pub enum LineFault {
     /// The words of a telecommand.
     #[error("{0}")]
     Command(CommandFault),
+    /// The telecommand is longer than its place.
+    #[error("the telecommand is too long for its entry")]
+    Long,
     /// The text has no `end`.
     #[error("`end` is missing")]
     End,

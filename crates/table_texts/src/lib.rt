@@ -4,6 +4,7 @@
 mod ending;
 mod entries;
 mod fault;
+mod fronts;
 pub mod laws;
 mod layout;
 mod lines;
@@ -13,8 +14,8 @@ mod showing;
 
 pub use entries::read_entries;
 pub use fault::{LineFault, TextError, TextFault};
-pub use layout::Layout;
+pub use layout::{Layout, TableForm};
 pub use lines::{Line, next_line};
-pub use sequences::read_sequence;
+pub use sequences::{SequenceForm, read_sequence};
 pub use sequences_shown::show_sequence;
 pub use showing::show_entries;

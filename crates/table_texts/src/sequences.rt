@@ -1,18 +1,19 @@
 //! Sequences of commands that are read from text.
 ghost use Rattle.std.specs.Prelude.{◌≡◌, ◌<◌, ◌≤◌, ◌+◌, ◌^◌, true, ℕ, List, [], length};
 ghost use Rattle.row_forms.specs.Words.{words};
-ghost use Rattle.row_forms.specs.Rows.{with_front, fault_at};
-ghost use Rattle.row_forms.specs.declared.fault.ReadError.TheVariants as row_errors;
-ghost use Rattle.telecommands.specs.Commands.{are_good, command_said};
+ghost use Rattle.row_forms.specs.Rows.{with_front};
+ghost use Rattle.telecommands.specs.Commands.{are_good};
 ghost use Rattle.table_texts.specs.Lines.{kept_of};
-ghost use Rattle.table_texts.specs.Entries.{ended, GivesText};
-ghost use Rattle.table_texts.specs.Sequences.{is_front, front_said, front_behind, behind_front, bytes_said, item_said, stored, said_by, GivesFront, GivesItem};
+ghost use Rattle.table_texts.specs.Endings.{ended, GivesText};
+ghost use Rattle.table_texts.specs.Fronts.{is_front, GivesItem};
+ghost use Rattle.table_texts.specs.Sequences.{bytes_said, item_said, said_by};
 
 use crate::ending::{behind_end, end_of_text, error_on, row_fault, text_fault};
 use crate::fault::{LineError, LineFault, TextError};
+use crate::fronts::read_stored;
 use crate::lines::next_line;
-use row_forms::{Field, Reason, RowFault, read_block, read_row, split_word};
-use telecommands::{Command, read_command};
+use row_forms::{Field, Reason, read_block, split_word};
+use telecommands::Command;
 
 /// What a sequence's text is read by: its commands, the fields in front of each telecommand, and what times such as `+0:01:00` are
 /// counted from, where there is one.
@@ -83,93 +84,12 @@ fn read_item(
         return Err(LineError::Fault(LineFault::Word));
     };
     if word == b"command".as_slice() {
-        return read_stored(form, rest, scratch, out);
+        return read_stored(form.epoch, form.commands, form.fields, rest, scratch, out);
     }
     if word == b"raw".as_slice() {
         return read_raw(rest, out);
     }
     Err(LineError::Fault(LineFault::Word))
-}
-
-/// Reads the fields of a command and its telecommand, and appends the bytes of both.
-fn read_stored(
-    form: &SequenceForm<'_>,
-    line: &[u8],
-    scratch: &mut Vec<u8>,
-    out: &mut Vec<u8>,
-) -> Result<(), LineError>
-    requires commands { are_good form.now.commands.now ≡ true }
-    requires front { is_front form.now.fields.now form.now.size ≡ true }
-    ensures { GivesItem (with_front out.old.items (behind_front form.now.epoch form.now.commands.now (length form.now.fields.now + 2) (front_said form.now.epoch 2 form.now.fields.now (words line.now)))) out.new.items result }
-{
-    match read_front(form.epoch, form.fields, 2, line, out) {
-        Ok(rest) => read_packet(form, rest, scratch, out),
-        Err(row_forms::ReadError::Memory(error)) => Err(LineError::Memory(error)),
-        Err(row_forms::ReadError::Row(fault)) => Err(LineError::Fault(LineFault::Row(fault))),
-    }
-}
-
-/// Reads a telecommand behind its fields, and appends its bytes.
-fn read_packet(
-    form: &SequenceForm<'_>,
-    line: &[u8],
-    scratch: &mut Vec<u8>,
-    out: &mut Vec<u8>,
-) -> Result<(), LineError>
-    requires commands { are_good form.now.commands.now ≡ true }
-    requires few { length form.now.fields.now ≤ 16 }
-    ensures { GivesItem (stored out.old.items (command_said form.now.epoch (length form.now.fields.now + 2) form.now.commands.now (words line.now))) out.new.items result }
-{
-    match read_command(
-        form.epoch,
-        form.commands,
-        form.fields.len() + 2,
-        line,
-        scratch,
-    ) {
-        Ok(packet) => match out.extend_from_slice(packet.bytes()) {
-            Ok(()) => Ok(()),
-            Err(error) => Err(LineError::Memory(error)),
-        },
-        Err(telecommands::ReadError::Memory(error)) => Err(LineError::Memory(error)),
-        Err(telecommands::ReadError::Fault(fault)) => {
-            Err(LineError::Fault(LineFault::Command(fault)))
-        }
-    }
-}
-
-/// Reads fields, a word each, and appends their bytes. Answers what stands behind them.
-fn read_front<'a>(
-    epoch: Option<u32>,
-    fields: &[Field],
-    word: usize,
-    line: &'a [u8],
-    out: &mut Vec<u8>,
-) -> Result<&'a [u8], row_forms::ReadError>
-    requires { word + length fields.now < 2 ^ 16 }
-    ensures { GivesFront (front_behind out.old.items (front_said epoch word fields.now (words line.now))) out.new.items result }
-{
-    if fields.is_empty() {
-        return Ok(line);
-    }
-    let (field, more) = fields.split_at(1);
-    let Some((text, rest)) = split_word(line) else {
-        return Err(missing(word));
-    };
-    match read_row(epoch, field, word, text, out) {
-        Ok(()) => read_front(epoch, more, word + 1, rest, out),
-        Err(error) => Err(error),
-    }
-}
-
-/// The word of this number is missing.
-fn missing(word: usize) -> row_forms::ReadError
-    ensures { result ≡ row_errors.Row (fault_at word Reason.Missing) }
-{
-    row_forms::ReadError::Row(RowFault {
-        word,
-        reason: Reason::Missing,
-    })
 }
 
 /// Reads a block of bytes, behind which no word stands, and appends them.

@@ -1,12 +1,14 @@
 //! Sequences of commands that are shown as text.
-ghost use Rattle.std.specs.Prelude.{◌≡◌, ◌<◌, ◌≤◌, ◌+◌, ◌++◌, ◌∷◌, [], true, false, length, codes, OnOk, IfOk, IfSome, MatchOption};
+ghost use Rattle.std.specs.Prelude.{◌≡◌, ◌<◌, ◌≤◌, ◌+◌, ◌++◌, ◌∷◌, [], true, length, codes, OnOk, IfOk};
 ghost use Rattle.row_forms.specs.Rows.{is_row, row_shown};
 ghost use Rattle.telecommands.specs.Commands.{are_good, command_shown};
-ghost use Rattle.table_texts.specs.Sequences.{is_front, is_command_at, item_size, item_shown, packet_behind, payload_shown};
+ghost use Rattle.table_texts.specs.Fronts.{is_front};
+ghost use Rattle.table_texts.specs.Sequences.{item_size, item_shown, payload_shown};
 
+use crate::fronts::packet_at;
 use crate::sequences::SequenceForm;
-use packet_forms::{Packet, be16, behind, front};
-use row_forms::{is_row, push_hex, show_row};
+use packet_forms::{Packet, behind, front};
+use row_forms::{push_hex, show_row};
 use std::alloc::AllocError;
 use telecommands::show_command;
 
@@ -39,7 +41,7 @@ fn show_item(form: &SequenceForm<'_>, bytes: &[u8], out: &mut Vec<u8>) -> Result
     ensures forward { IfOk result (λ n. 0 < n) }
     ensures inside { IfOk result (λ n. n ≤ length bytes.now) }
 {
-    match packet_at(form, bytes) {
+    match packet_at(form.fields, form.size, bytes) {
         Some(packet) => {
             show_line(form, front(bytes, form.size), &packet, out)?;
             Ok(form.size + packet.bytes().len())
@@ -50,31 +52,6 @@ fn show_item(form: &SequenceForm<'_>, bytes: &[u8], out: &mut Vec<u8>) -> Result
             out.push(b'\n')?;
             Ok(bytes.len())
         }
-    }
-}
-
-/// The packet behind the fields with which bytes begin, where there are both.
-fn packet_at(form: &SequenceForm<'_>, bytes: &[u8]) -> Option<Packet>
-    requires { is_front form.now.fields.now form.now.size ≡ true }
-    ensures packet { MatchOption result
-        (is_command_at form.now.fields.now form.now.size bytes.now ≡ false)
-        (λ packet. (is_command_at form.now.fields.now form.now.size bytes.now ≡ true) × (packet ≡ packet_behind form.now.size bytes.now)) }
-    ensures inside { IfSome result (λ packet. form.now.size + length packet ≤ length bytes.now) }
-{
-    if bytes.len() < form.size + 8 {
-        return None;
-    }
-    let (first, rest) = bytes.split_at(form.size);
-    if !is_row(form.fields, first) {
-        return None;
-    }
-    let size = be16(rest, 4) as usize + 7;
-    if size > rest.len() {
-        return None;
-    }
-    match Packet::from_bytes(front(rest, size)) {
-        Ok(packet) => Some(packet),
-        Err(_) => None,
     }
 }
 

@@ -1,6 +1,6 @@
 use Rattle.std.proofs.Common.{sym, ◌∙◌}
 use Rattle.table_texts.proofs.SequenceLemmas.{front_ends, missing_gives, then_gives, refused_gives}
-use Rattle.table_texts.proofs.sequences.+read_front.Goals as goal
+use Rattle.table_texts.proofs.fronts.+read_front.Goals as goal
 
 pub returns-then-is_empty : goal.returns-then-is_empty
 returns-then-is_empty t c = front_ends c.args.epoch c.args.word c.args.fields.now _ c.args.out.now.items (sym c.is_empty.ensures ∙ c.if-is_empty.true)
