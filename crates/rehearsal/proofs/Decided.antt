@@ -1,6 +1,6 @@
 -- The first line of the headline's list that holds decides how a rehearsal ends.
 use Rattle.std.proofs.Common.{◌≡◌, ℕ, ◌+◌, ◌<◌, ◌≤◌, Bool, true, false, List, [], ◌∷◌, ◌++◌, length, map, take, drop, refl, sym, ◌∙◌, ap, subst, arith, inl, inr, zero, suc, length-append, Option, Some, None}
-use Rattle.std.specs.Prelude.{◌⊎◌}
+use Rattle.std.specs.Prelude.{◌⊎◌, IsSome}
 use Rattle.std.proofs.lemmas.List.{take-take, take-append-drop, append_cancel_right}
 use Rattle.fsw_outside.specs.Files.{Stored, Content, file_named}
 use Rattle.scenario.specs.declared.item.Item.TheVariants as answers
@@ -13,7 +13,7 @@ use Rattle.rehearsal.specs.declared.report.Status.{Status}
 use Rattle.rehearsal.specs.declared.report.Status.TheVariants as statuses
 use Rattle.rehearsal.specs.Words.{Asked, drill_in}
 use Rattle.rehearsal.specs.Files.{Refusal, refused_or, refusal_of, refused_from, first_refusal, AreTaken, EndsAtFileBy, RefusesFile, FailsAtFile}
-use Rattle.rehearsal.specs.Lines.{Rehearsed, FailsOn, Refuses, ReadsText, IsDrill}
+use Rattle.rehearsal.specs.Lines.{Rehearsal, Rehearsed, HasMemory, FailsOn, Refuses, ReadsText, IsDrill}
 use Rattle.rehearsal.specs.Outcome.{frames_of, IsText, IsCut, refused_read, GivesReads, IsRefusedAt, OutcomeOf, Outcome, DrillOutcomeOf, DrillOutcome, Seen, RunsDrill, RunsBy, Rehearses}
 use Rattle.rehearsal.proofs.Outcomes.{refused_none, frames_in_none}
 use Rattle.rehearsal.proofs.Endings.{not_open_at_bad}
@@ -52,35 +52,35 @@ written_at statuses.WriteFailed report before now at well rose = at
 written_at statuses.NoMemory report before now at well rose = let kept = well (λ other. cc) in absurd (omega (arith, kept, rose))
 
 -- where the count stayed the output didn't fail
-pub not_written : (report : Report) (asked : Asked) (crowd : Option (List Simulated)) (seen : Seen) (wrote_before wrote_now : ℕ) (before after : Content) → Rehearsed report asked crowd seen wrote_before wrote_now before after → wrote_now ≡ wrote_before
-    → report.status ≡ statuses.WriteFailed → ⊥
-not_written report asked crowd seen wrote_before wrote_now before after run kept failed =
+pub not_written : (r : Rehearsal) → Rehearsed r → r.wrote_now ≡ r.wrote_before
+    → r.report.status ≡ statuses.WriteFailed → ⊥
+not_written r run kept failed =
     let rose = run.write_failed failed in
     omega (arith, rose, kept)
 
 -- and where its count stayed the shelf didn't
-not_failed : (report : Report) (asked : Asked) (crowd : Option (List Simulated)) (seen : Seen) (wrote_before wrote_now : ℕ) (before after : Content) → Rehearsed report asked crowd seen wrote_before wrote_now before after → seen.faults_now ≡ seen.faults_before
-    → report.status ≡ statuses.ReadFailed → ⊥
-not_failed report asked crowd seen wrote_before wrote_now before after run well failed =
+not_failed : (r : Rehearsal) → Rehearsed r → r.seen.faults_now ≡ r.seen.faults_before
+    → r.report.status ≡ statuses.ReadFailed → ⊥
+not_failed r run well failed =
     let rose = run.read_failed failed in
     omega (arith, rose, well)
 
 -- The shelf failed on a FILE.
-pub unread : (report : Report) (asked : Asked) (crowd : Option (List Simulated)) (seen : Seen) (wrote_before wrote_now : ℕ) (before after : Content) (file : ℕ) → Rehearsed report asked crowd seen wrote_before wrote_now before after → FailsOn file asked seen before after
-    → (report.status ≡ statuses.ReadFailed) × (report.file ≡ file)
-unread report asked crowd seen wrote_before wrote_now before after file run fails =
-    let failed = failed_at report.status report seen.faults_before seen.faults_now refl run.read_well fails.rose in
+pub unread : (r : Rehearsal) (file : ℕ) → Rehearsed r → FailsOn file r
+    → (r.report.status ≡ statuses.ReadFailed) × (r.report.file ≡ file)
+unread r file run fails =
+    let failed = failed_at r.report.status r.report r.seen.faults_before r.seen.faults_now refl run.read_well fails.rose in
     (failed, by_stage failed run.rehearses)
   where
-    by_stage : report.status ≡ statuses.ReadFailed → Rehearses report asked crowd seen before after → report.file ≡ file
-    by_stage failed (inl ends) = elim (ends_by report.status report before.files asked.files ends.count seen.is_open after.rest refl (λ out. cc) ends.ends) [
+    by_stage : r.report.status ≡ statuses.ReadFailed → Rehearses r.report r.asked r.crowd r.seen r.before r.after → r.report.file ≡ file
+    by_stage failed (inl ends) = elim (ends_by r.report.status r.report r.before.files r.asked.files ends.count r.seen.is_open r.after.rest refl (λ out. cc) ends.ends) [
       | inl refuses ↦ let wrong : ⊥ = cc (refuses.0) in absurd wrong
       | inr fails_at ↦ omega (arith, fails_at.2, fails.last, ends.asked.openings)
     ]
     by_stage failed (inr (inl ends)) = let wrong : ⊥ = cc (ends.refuses.status) in absurd wrong
-    by_stage failed (inr (inr runs)) = by_source (drill_in asked.scenario) runs
+    by_stage failed (inr (inr runs)) = by_source (drill_in r.asked.scenario) runs
       where
-        by_source : (d : Option ℕ) → RunsBy d report asked crowd seen before after → report.file ≡ file
+        by_source : (d : Option ℕ) → RunsBy d r.report r.asked r.crowd r.seen r.before r.after → r.report.file ≡ file
         by_source None reads = absurd (omega (arith, fails.last, fails.within, reads.asked.openings))
         by_source (Some k) drill = absurd (drill.well.0 failed)
 
@@ -119,10 +119,10 @@ in_order (suc m) zero = inr (omega arith)
 in_order (suc m) (suc n) = elim (in_order m n) [ inl less ↦ inl (omega (arith, less)) | inr more ↦ inr (omega (arith, more)) ]
 
 -- files that are all taken have no refusal among a front of them
-none_refused : (asked : Asked) (seen : Seen) (before : Content) (refusal : Refusal) (files : List (List ℕ)) → AreTaken before.files asked.files files → Refuses refusal asked seen before → ⊥
+none_refused : (r : Rehearsal) (refusal : Refusal) (files : List (List ℕ)) → AreTaken r.before.files r.asked.files files → Refuses refusal r → ⊥
 unfolding first_refusal
-none_refused asked seen before refusal files taken refuses =
-    let front : refuses.files ≡ take refuses.count files = front_named before.files refuses.count asked.files files refuses.files taken.named refuses.named in
+none_refused r refusal files taken refuses =
+    let front : refuses.files ≡ take refuses.count files = front_named r.before.files refuses.count r.asked.files files refuses.files taken.named refuses.named in
     let none : refused_from 1 refuses.files ≡ None = ap (refused_from 1) front ∙ none_of_front 1 files refuses.count taken.taken in
     let is = refuses.refused in
     cc
@@ -133,41 +133,41 @@ taken_by report asked crowd seen before after None reads = (reads.files, reads.t
 taken_by report asked crowd seen before after (Some k) drill = (drill.files, drill.taken, drill.loaded)
 
 -- A FILE is refused.
-pub refused : (report : Report) (asked : Asked) (crowd : Option (List Simulated)) (seen : Seen) (wrote_before wrote_now : ℕ) (before after : Content) (refusal : Refusal) → Rehearsed report asked crowd seen wrote_before wrote_now before after
-    → (report.status ≡ statuses.NoMemory → ⊥) → Refuses refusal asked seen before → (report.status ≡ statuses.FileRefused) × (report.file ≡ refusal.file) × (report.line ≡ 0) × (report.reason ≡ refusal.reason)
-refused report asked crowd seen wrote_before wrote_now before after refusal run some refuses = by_stage run.rehearses
+pub refused : (r : Rehearsal) (refusal : Refusal) → Rehearsed r
+    → (r.report.status ≡ statuses.NoMemory → ⊥) → Refuses refusal r → (r.report.status ≡ statuses.FileRefused) × (r.report.file ≡ refusal.file) × (r.report.line ≡ 0) × (r.report.reason ≡ refusal.reason)
+refused r refusal run some refuses = by_stage run.rehearses
   where
-    by_stage : Rehearses report asked crowd seen before after → (report.status ≡ statuses.FileRefused) × (report.file ≡ refusal.file) × (report.line ≡ 0) × (report.reason ≡ refusal.reason)
-    by_stage (inl ends) = elim (ends_by report.status report before.files asked.files ends.count seen.is_open after.rest refl some ends.ends) [
+    by_stage : Rehearses r.report r.asked r.crowd r.seen r.before r.after → (r.report.status ≡ statuses.FileRefused) × (r.report.file ≡ refusal.file) × (r.report.line ≡ 0) × (r.report.reason ≡ refusal.reason)
+    by_stage (inl ends) = elim (ends_by r.report.status r.report r.before.files r.asked.files ends.count r.seen.is_open r.after.rest refl some ends.ends) [
       | inl is ↦
-          let one = first_is_one before.files asked.files (is.1.before ++ is.1.bytes ∷ []) refuses.files report.file refuses.count (record { file = report.file; reason = report.reason }) refusal (in_order report.file refuses.count) is.1.named refuses.named is.1.refused refuses.refused in
+          let one = first_is_one r.before.files r.asked.files (is.1.before ++ is.1.bytes ∷ []) refuses.files r.report.file refuses.count (record { file = r.report.file; reason = r.report.reason }) refusal (in_order r.report.file refuses.count) is.1.named refuses.named is.1.refused refuses.refused in
           (is.0, ap (λ (r : Refusal). r.file) one, is.1.line, ap (λ (r : Refusal). r.reason) one)
-      | inr fails_at ↦ absurd (not_failed report asked crowd seen wrote_before wrote_now before after run refuses.well fails_at.0)
+      | inr fails_at ↦ absurd (not_failed r run refuses.well fails_at.0)
     ]
-    by_stage (inr (inl ends)) = absurd (none_refused asked seen before refusal ends.files ends.taken refuses)
-    by_stage (inr (inr runs)) = let all = taken_by report asked crowd seen before after (drill_in asked.scenario) runs in absurd (none_refused asked seen before refusal all.0 all.1 refuses)
+    by_stage (inr (inl ends)) = absurd (none_refused r refusal ends.files ends.taken refuses)
+    by_stage (inr (inr runs)) = let all = taken_by r.report r.asked r.crowd r.seen r.before r.after (drill_in r.asked.scenario) runs in absurd (none_refused r refusal all.0 all.1 refuses)
 
 same_fault : (a b : TablesFault) → ◌≡◌ {A = Option TablesFault} (Some a) (Some b) → a ≡ b
 same_fault a b same = cc
 
 -- An entry of a table isn't in order.
-pub faulty : (report : Report) (asked : Asked) (crowd : Option (List Simulated)) (seen : Seen) (wrote_before wrote_now : ℕ) (before after : Content) (files : List (List ℕ)) (fault : TablesFault) → Rehearsed report asked crowd seen wrote_before wrote_now before after
-    → (report.status ≡ statuses.NoMemory → ⊥) → seen.faults_now ≡ seen.faults_before → AreTaken before.files asked.files files → tables_fault files ≡ Some fault
-    → (report.status ≡ statuses.FileRefused) × (report.file ≡ fault.file) × (report.line ≡ fault.entry) × (report.reason ≡ fault.reason + 10)
-faulty report asked crowd seen wrote_before wrote_now before after files fault run some well taken is = by_stage run.rehearses
+pub faulty : (r : Rehearsal) (files : List (List ℕ)) (fault : TablesFault) → Rehearsed r
+    → (r.report.status ≡ statuses.NoMemory → ⊥) → r.seen.faults_now ≡ r.seen.faults_before → AreTaken r.before.files r.asked.files files → tables_fault files ≡ Some fault
+    → (r.report.status ≡ statuses.FileRefused) × (r.report.file ≡ fault.file) × (r.report.line ≡ fault.entry) × (r.report.reason ≡ fault.reason + 10)
+faulty r files fault run some well taken is = by_stage run.rehearses
   where
-    by_stage : Rehearses report asked crowd seen before after → (report.status ≡ statuses.FileRefused) × (report.file ≡ fault.file) × (report.line ≡ fault.entry) × (report.reason ≡ fault.reason + 10)
-    by_stage (inl ends) = elim (ends_by report.status report before.files asked.files ends.count seen.is_open after.rest refl some ends.ends) [
-      | inl refuses ↦ absurd (refused_taken report before.files asked.files files after.rest refuses.1 taken)
-      | inr fails_at ↦ absurd (not_failed report asked crowd seen wrote_before wrote_now before after run well fails_at.0)
+    by_stage : Rehearses r.report r.asked r.crowd r.seen r.before r.after → (r.report.status ≡ statuses.FileRefused) × (r.report.file ≡ fault.file) × (r.report.line ≡ fault.entry) × (r.report.reason ≡ fault.reason + 10)
+    by_stage (inl ends) = elim (ends_by r.report.status r.report r.before.files r.asked.files ends.count r.seen.is_open r.after.rest refl some ends.ends) [
+      | inl refuses ↦ absurd (refused_taken r.report r.before.files r.asked.files files r.after.rest refuses.1 taken)
+      | inr fails_at ↦ absurd (not_failed r run well fails_at.0)
     ]
     by_stage (inr (inl ends)) =
-        let same = same_named before.files asked.files ends.files files ends.taken.named taken.named in
+        let same = same_named r.before.files r.asked.files ends.files files ends.taken.named taken.named in
         let one = same_fault ends.refuses.fault fault (sym ends.refuses.is ∙ ap tables_fault same ∙ is) in
         (ends.refuses.status, ends.refuses.file ∙ ap (λ (f : TablesFault). f.file) one, ends.refuses.line ∙ ap (λ (f : TablesFault). f.entry) one, ends.refuses.reason ∙ ap (λ (f : TablesFault). f.reason + 10) one)
     by_stage (inr (inr runs)) =
-        let all = taken_by report asked crowd seen before after (drill_in asked.scenario) runs in
-        let same = same_named before.files asked.files all.0 files all.1.named taken.named in
+        let all = taken_by r.report r.asked r.crowd r.seen r.before r.after (drill_in r.asked.scenario) runs in
+        let same = same_named r.before.files r.asked.files all.0 files all.1.named taken.named in
         let none : tables_fault files ≡ None = ap tables_fault (sym same) ∙ all.2 in
         let wrong : ⊥ = cc in
         absurd wrong
@@ -181,30 +181,41 @@ text_is_one true before now file rest t u first second = text_same t u (append_c
 text_is_one false before now file rest t u first second = text_same t u (first.nothing refl ∙ sym (second.nothing refl)) (first.closed ∙ sym second.closed)
 
 -- what the report says of the text
-pub reads_it : (report : Report) (asked : Asked) (crowd : Option (List Simulated)) (seen : Seen) (wrote_before wrote_now : ℕ) (before after : Content) (files : List (List ℕ)) (text : Text) (new : List ℕ) → Rehearsed report asked crowd seen wrote_before wrote_now before after
-    → (report.status ≡ statuses.NoMemory → ⊥) → ReadsText files text asked seen before after → seen.held_now ≡ Some new → (old : List ℕ) × Outcome report files crowd text old new
-reads_it report asked crowd seen wrote_before wrote_now before after files text new run some reads_text tells = by_stage run.rehearses
+reads_as : (r : Rehearsal) (files : List (List ℕ)) (text : Text) (new : List ℕ) → Rehearsed r
+    → (r.report.status ≡ statuses.NoMemory → ⊥) → ReadsText files text r → r.seen.held_now ≡ Some new → (old : List ℕ) × Outcome r.report files r.crowd text old new
+reads_as r files text new run some reads_text tells = by_stage run.rehearses
   where
-    by_stage : Rehearses report asked crowd seen before after → (old : List ℕ) × Outcome report files crowd text old new
-    by_stage (inl ends) = elim (ends_by report.status report before.files asked.files ends.count seen.is_open after.rest refl some ends.ends) [
-      | inl refuses ↦ absurd (refused_taken report before.files asked.files files after.rest refuses.1 reads_text.taken)
+    by_stage : Rehearses r.report r.asked r.crowd r.seen r.before r.after → (old : List ℕ) × Outcome r.report files r.crowd text old new
+    by_stage (inl ends) = elim (ends_by r.report.status r.report r.before.files r.asked.files ends.count r.seen.is_open r.after.rest refl some ends.ends) [
+      | inl refuses ↦ absurd (refused_taken r.report r.before.files r.asked.files files r.after.rest refuses.1 reads_text.taken)
       | inr fails_at ↦ absurd (omega (arith, fails_at.1.within, fails_at.2, ends.asked.openings, reads_text.last))
     ]
     by_stage (inr (inl ends)) =
-        let same = same_named before.files asked.files ends.files files ends.taken.named reads_text.taken.named in
+        let same = same_named r.before.files r.asked.files ends.files files ends.taken.named reads_text.taken.named in
         let none : tables_fault ends.files ≡ None = ap tables_fault same ∙ reads_text.loaded in
         let is = ends.refuses.is in
         let wrong : ⊥ = cc in
         absurd wrong
-    by_stage (inr (inr runs)) = by_source (drill_in asked.scenario) runs
+    by_stage (inr (inr runs)) = by_source (drill_in r.asked.scenario) runs
       where
-        by_source : (d : Option ℕ) → RunsBy d report asked crowd seen before after → (old : List ℕ) × Outcome report files crowd text old new
+        by_source : (d : Option ℕ) → RunsBy d r.report r.asked r.crowd r.seen r.before r.after → (old : List ℕ) × Outcome r.report files r.crowd text old new
         by_source (Some k) drill = absurd (omega (arith, drill.asked.openings, reads_text.last))
         by_source None reads =
             let inner = reads.outcome new tells in
-            let same : reads.files ≡ files = same_named before.files asked.files reads.files files reads.taken.named reads_text.taken.named in
-            let one : reads.text ≡ text = text_is_one seen.is_open seen.faults_before seen.faults_now (file_named before.files asked.scenario) after.rest reads.text text reads.is_text reads_text.is_text in
-            (inner.0, subst (λ (t : Text). Outcome report files crowd t inner.0 new) one (subst (λ (fs : List (List ℕ)). Outcome report fs crowd reads.text inner.0 new) same inner.2))
+            let same : reads.files ≡ files = same_named r.before.files r.asked.files reads.files files reads.taken.named reads_text.taken.named in
+            let one : reads.text ≡ text = text_is_one r.seen.is_open r.seen.faults_before r.seen.faults_now (file_named r.before.files r.asked.scenario) r.after.rest reads.text text reads.is_text reads_text.is_text in
+            (inner.0, subst (λ (t : Text). Outcome r.report files r.crowd t inner.0 new) one (subst (λ (fs : List (List ℕ)). Outcome r.report fs r.crowd reads.text inner.0 new) same inner.2))
+
+-- what is told is something
+held_of : {A : Type 0} (told : Option A) → IsSome told → (a : A) × (told ≡ Some a)
+held_of None some = let wrong : ⊥ = cc in absurd wrong
+held_of (Some a) some = (a, refl)
+
+pub reads_it : (r : Rehearsal) (files : List (List ℕ)) (text : Text) → Rehearsed r → HasMemory r → ReadsText files text r → (old : List ℕ) × (new : List ℕ) × Outcome r.report files r.crowd text old new
+reads_it r files text run some reads =
+    let held = held_of r.seen.held_now reads.told in
+    let o = reads_as r files text held.0 run some reads held.1 in
+    (o.0, held.0, o.1)
 
 -- the same place
 bad_same : (a b c d : ℕ) → answers.Bad a b ≡ answers.Bad c d → (a ≡ c) × (b ≡ d)
@@ -277,26 +288,32 @@ by_unmapped statuses.NoMemory report files crowd read old new file entry at some
 -- ---- a generated scenario
 
 -- what the report says of it
-pub drills_it : (report : Report) (asked : Asked) (crowd : Option (List Simulated)) (seen : Seen) (wrote_before wrote_now : ℕ) (before after : Content) (files : List (List ℕ)) (k : ℕ) (new : List ℕ) → Rehearsed report asked crowd seen wrote_before wrote_now before after
-    → (report.status ≡ statuses.NoMemory → ⊥) → IsDrill k files asked seen before → seen.held_now ≡ Some new → (old : List ℕ) × DrillOutcome report files crowd k old new
-drills_it report asked crowd seen wrote_before wrote_now before after files k new run some drill tells = by_stage run.rehearses
+drills_as : (r : Rehearsal) (files : List (List ℕ)) (k : ℕ) (new : List ℕ) → Rehearsed r
+    → (r.report.status ≡ statuses.NoMemory → ⊥) → IsDrill k files r → r.seen.held_now ≡ Some new → (old : List ℕ) × DrillOutcome r.report files r.crowd k old new
+drills_as r files k new run some drill tells = by_stage run.rehearses
   where
-    by_stage : Rehearses report asked crowd seen before after → (old : List ℕ) × DrillOutcome report files crowd k old new
-    by_stage (inl ends) = elim (ends_by report.status report before.files asked.files ends.count seen.is_open after.rest refl some ends.ends) [
-      | inl refuses ↦ absurd (refused_taken report before.files asked.files files after.rest refuses.1 drill.taken)
-      | inr fails_at ↦ absurd (not_failed report asked crowd seen wrote_before wrote_now before after run drill.well fails_at.0)
+    by_stage : Rehearses r.report r.asked r.crowd r.seen r.before r.after → (old : List ℕ) × DrillOutcome r.report files r.crowd k old new
+    by_stage (inl ends) = elim (ends_by r.report.status r.report r.before.files r.asked.files ends.count r.seen.is_open r.after.rest refl some ends.ends) [
+      | inl refuses ↦ absurd (refused_taken r.report r.before.files r.asked.files files r.after.rest refuses.1 drill.taken)
+      | inr fails_at ↦ absurd (not_failed r run drill.well fails_at.0)
     ]
     by_stage (inr (inl ends)) =
-        let same : ends.files ≡ files = same_named before.files asked.files ends.files files ends.taken.named drill.taken.named in
+        let same : ends.files ≡ files = same_named r.before.files r.asked.files ends.files files ends.taken.named drill.taken.named in
         let none : tables_fault ends.files ≡ None = ap tables_fault same ∙ drill.loaded in
         let is = ends.refuses.is in
         let wrong : ⊥ = cc in
         absurd wrong
     by_stage (inr (inr runs)) =
-        let ran : RunsDrill k report asked crowd seen before after = subst (λ (d : Option ℕ). RunsBy d report asked crowd seen before after) drill.drill runs in
+        let ran : RunsDrill k r.report r.asked r.crowd r.seen r.before r.after = subst (λ (d : Option ℕ). RunsBy d r.report r.asked r.crowd r.seen r.before r.after) drill.drill runs in
         let inner = ran.outcome new tells in
-        let same : ran.files ≡ files = same_named before.files asked.files ran.files files ran.taken.named drill.taken.named in
-        (inner.0, subst (λ (fs : List (List ℕ)). DrillOutcome report fs crowd k inner.0 new) same inner.2)
+        let same : ran.files ≡ files = same_named r.before.files r.asked.files ran.files files ran.taken.named drill.taken.named in
+        (inner.0, subst (λ (fs : List (List ℕ)). DrillOutcome r.report fs r.crowd k inner.0 new) same inner.2)
+
+pub drills_it : (r : Rehearsal) (files : List (List ℕ)) (k : ℕ) → Rehearsed r → HasMemory r → IsDrill k files r → (old : List ℕ) × (new : List ℕ) × DrillOutcome r.report files r.crowd k old new
+drills_it r files k run some drill =
+    let held = held_of r.seen.held_now drill.told in
+    let o = drills_as r files k held.0 run some drill held.1 in
+    (o.0, held.0, o.1)
 
 -- The text ended well.
 pub drill_ended : (status : Status) (report : Report) (files : List (List ℕ)) (crowd : Option (List Simulated)) (read : Reading) (old new : List ℕ) → report.status ≡ status → (report.status ≡ statuses.NoMemory → ⊥) → DrillOutcomeOf status report files crowd read old new

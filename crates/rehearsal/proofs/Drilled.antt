@@ -1,5 +1,6 @@
 -- The run of a generated scenario comes to its summary.
-use Rattle.std.proofs.Common.{◌≡◌, ℕ, true, List, [], ◌∷◌, ◌++◌, length, refl, sym, ◌∙◌, ap, subst, arith, inl, inr, Option, Some, None}
+use Rattle.std.proofs.Common.{◌≡◌, ℕ, Bool, true, false, List, [], ◌∷◌, ◌++◌, length, refl, sym, ◌∙◌, ap, subst, arith, inl, inr, Option, Some, None}
+use Rattle.std.specs.Prelude.{◌==◌, ◌&&◌}
 use Rattle.fsw_outside.specs.Told.{WhereTold}
 use Rattle.fsw_outside.specs.Causes.{HasRisen}
 use Rattle.fsw_outside.specs.Files.{Content}
@@ -18,7 +19,7 @@ use Rattle.rehearsal.specs.declared.report.Status.TheVariants as statuses
 use Rattle.rehearsal.specs.declared.report.Report.{Report}
 use Rattle.rehearsal.specs.Words.{Asked, drill_in}
 use Rattle.rehearsal.specs.Files.{AreTaken}
-use Rattle.rehearsal.specs.Outcome.{frames_of, GivesReads, IsTextOf, IsWhole, ReadsAhead, OutcomeOf, Outcome, drill_of, summary_in, DrillOutcomeOf, DrillOutcome, Seen, RunsDrill, RunsBy, Rehearses, SumsUp}
+use Rattle.rehearsal.specs.Outcome.{frames_of, GivesReads, IsTextOf, IsWhole, ReadsAheadBy, ReadsAhead, LeavesFrames, OutcomeOf, Outcome, drill_of, summary_in, DrillOutcomeOf, DrillOutcome, Seen, RunsDrill, RunsBy, Rehearses, SumsUp}
 use Rattle.rehearsal.specs.Run.{failed_at, Sums}
 use Rattle.rehearsal.proofs.Endings.{not_open_at_bad}
 use Rattle.rehearsal.proofs.Ahead.{frames_behind}
@@ -64,6 +65,25 @@ ran files crowd k report start after held log all none told read write = by_told
     by_told : (from : Content) × (◌≡◌ {A = Option Content} (Some start) (Some from)) × ((whole : Text) × IsTextOf 0 0 from after whole × ReadsAhead report whole × WhereTold (Some held) (Some log) (Outcome report files crowd whole))
         → Outcome report files crowd (drill_of k) [] log
     by_told (from, is, text) = by_log from text.0 is text.1 (text.3 log refl)
+
+and_true : (t : Bool) → (t && true) ≡ t
+and_true true = refl
+and_true false = refl
+
+-- where memory ran out the text was read no further than a piece past the header
+pub leaves_frames : (files : List (List ℕ)) (crowd : Option (List Simulated)) (report : Report) (start after : Content) (held log : Option (List ℕ)) → report.status ≡ statuses.NoMemory
+    → WhereTold (Some start) (Some after) (λ from to. (whole : Text) × IsTextOf 0 0 from to whole × ReadsAhead report whole × WhereTold held log (Outcome report files crowd whole))
+    → LeavesFrames start.rest after.rest
+leaves_frames files crowd report start after held log out told = by_told (told after refl)
+  where
+    by_told : (from : Content) × (◌≡◌ {A = Option Content} (Some start) (Some from)) × ((whole : Text) × IsTextOf 0 0 from after whole × ReadsAhead report whole × WhereTold held log (Outcome report files crowd whole))
+        → LeavesFrames start.rest after.rest
+    by_told (from, is, text) = record {
+      text = text.0;
+      parts = ap (λ (c : Content). c.rest) (same_content start from is) ∙ text.1.parts;
+      closed = text.1.closed ∙ and_true (length after.rest == 0);
+      read = subst (λ (s : Status). ReadsAheadBy s report text.0) out text.2;
+    }
 
 -- a generated scenario has 2,000 frames
 drill_frames : (k : ℕ) → length (frames_of (reading (drill_of k)).items) ≡ 2000

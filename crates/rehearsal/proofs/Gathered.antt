@@ -84,7 +84,13 @@ stops_at stored names files (stops.Refused reason) is_open rest now within taken
   },
   refl,
 )
-stops_at stored names files stops.NoMemory is_open rest now within taken why = record { file = refl; line = refl; reason = refl; frames = refl }
+stops_at stored names files stops.NoMemory is_open rest now within taken why = record {
+  within = omega (arith, within);
+  file = refl;
+  line = refl;
+  reason = refl;
+  frames = refl;
+}
 
 -- nothing was asked for
 pub asks_none : (words files : List (List ℕ)) (content : Content) → files ≡ [] → AsksFor words (length files) content content

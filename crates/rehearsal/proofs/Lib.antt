@@ -14,3 +14,4 @@ pub mod Stages
 pub mod Decided
 pub mod Drilled
 pub mod Numbers
+pub mod Promised

@@ -17,20 +17,6 @@ use Rattle.rehearsal.specs.Outcome.{IsText, ReadsAhead, Outcome, DrillOutcome, S
 use Rattle.rehearsal.proofs.Gathered.{asks_none, asks_front, asks_all}
 use Rattle.rehearsal.proofs.Beginnings.{text_by}
 
--- memory ran out before a file was asked for
-pub runs_out : (asked : Asked) (crowd : Option (List Simulated)) (report : Report) (seen : Seen) (content : Content) → report ≡ record { status = statuses.NoMemory; file = 0; line = 0; reason = 0; frames = 0 } → WritesNothing seen
-    → Rehearses report asked crowd seen content content
-runs_out asked crowd report seen content is unwritten = rw is (inl (record {
-  count = 0;
-  asked = asks_none (words_to_open asked) [] content refl;
-  ends = record { file = refl; line = refl; reason = refl; frames = refl };
-  unwritten = unwritten;
-}))
-
--- nothing was asked for
-pub opens_none : (asked : Asked) (content : Content) → (count : ℕ) × AsksFor (words_to_open asked) count content content
-opens_none asked content = (0, asks_none (words_to_open asked) [] content refl)
-
 -- behind the FILEs the scenario's file is to be opened, unless the scenario is generated
 abbrev behind_files : Asked → List (List ℕ)
 behind_files asked = file_unless (drill_in asked.scenario) asked.scenario
@@ -117,16 +103,6 @@ asked_once words plan asked by is = same_some plan asked (sym by ∙ is)
   where
     same_some : (a b : Asked) → Some a ≡ Some b → a ≡ b
     same_some a b same = cc
-
--- so is the crowd that they ask for
-pub beside_as : (plan asked : Asked) (subjects : List Simulated) (crowd : Option (List Simulated)) → plan ≡ asked → crowd ≡ crowd_for plan.subjects subjects → crowd ≡ crowd_for asked.subjects subjects
-beside_as plan asked subjects crowd same is = is ∙ ap (λ (a : Asked). crowd_for a.subjects subjects) same
-
--- and what it comes to
-pub rehearses_as : (report : Report) (plan asked : Asked) (crowd beside : Option (List Simulated)) (seen : Seen) (before after : Content) → plan ≡ asked → crowd ≡ beside
-    → Rehearses report plan crowd seen before after → Rehearses report asked beside seen before after
-rehearses_as report plan asked crowd beside seen before after same is rehearses =
-    subst (λ (c : Option (List Simulated)). Rehearses report asked c seen before after) is (subst (λ (a : Asked). Rehearses report a crowd seen before after) same rehearses)
 
 -- what holds of accepted words holds of the words asked for
 pub asks_nothing : {A : Type 0} (P : Type 0) (now old : A) (status : Status) (plan asked : Asked) → plan ≡ asked → P ⊎ ((now ≡ old) × (words_to_open plan ≡ [])) → P ⊎ ((now ≡ old) × MayAskNothing status asked)

@@ -144,8 +144,9 @@ pub record RefusesFile (report : Report) (stored : List Stored) (names : List (L
   pub line : report.line ≡ 0
   pub frames : report.frames ≡ 0
 
--- Memory ran out before the first frame.
-pub record RunsOut (report : Report) : Type 0 where
+-- Memory ran out before the scenario was asked for.
+pub record RunsOut (report : Report) (names : List (List ℕ)) (count : ℕ) : Type 0 where
+  pub within : count ≤ length names
   pub file : report.file ≡ 0
   pub line : report.line ≡ 0
   pub reason : report.reason ≡ 0
@@ -159,7 +160,7 @@ EndsAtFileBy statuses.FileRefused report stored names count is_open rest = Refus
 EndsAtFileBy statuses.ScenarioRefused report stored names count is_open rest = ⊥
 EndsAtFileBy statuses.ReadFailed report stored names count is_open rest = FailsAtFile report stored names is_open rest × (report.file ≡ count)
 EndsAtFileBy statuses.WriteFailed report stored names count is_open rest = ⊥
-EndsAtFileBy statuses.NoMemory report stored names count is_open rest = RunsOut report
+EndsAtFileBy statuses.NoMemory report stored names count is_open rest = RunsOut report names count
 
 -- A rehearsal ended at a FILE, the last of so many that were asked for: the shelf failed on it, it is refused, or memory ran out.
 abbrev pub EndsAtFile : Report → List Stored → List (List ℕ) → ℕ → Bool → List ℕ → Type 0

@@ -8,3 +8,5 @@ pub mod Report
 pub mod Outcome
 pub mod Run
 pub mod Lines
+pub mod Promise
+pub mod PromiseLaws

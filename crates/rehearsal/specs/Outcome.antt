@@ -165,6 +165,10 @@ DrillOutcomeOf statuses.NoMemory report files crowd read old new = HasNoPlace re
 abbrev pub DrillOutcome : Report → List (List ℕ) → Option (List Simulated) → ℕ → List ℕ → List ℕ → Type 0
 DrillOutcome report files crowd k old new = DrillOutcomeOf report.status report files crowd (reading (drill_of k)) old new
 
+-- at most 4,096 bytes were read past the end of the text's header
+abbrev pub IsReadToHeader : Text → Type 0
+IsReadToHeader text = length text.bytes ≤ slice_index (reading text).stops 0 + 4096
+
 -- How far reading went ahead: where the output failed, at most 4,096 bytes past the end of the `tick` line of the frame whose lines were cut,
 -- where a line is bad, at most 4,096 bytes past the end of that line, and where a read is refused or memory ran out, at most as many past the header's end.
 abbrev pub ReadsAheadBy : Status → Report → Text → Type 0
@@ -173,13 +177,20 @@ ReadsAheadBy statuses.ScenarioRefused report text =
     (line : ℕ) (reason : Reason) → (reading text).ending ≡ Bad line reason → length text.bytes ≤ slice_index (reading text).stops (length (reading text).items) + 4096
 ReadsAheadBy statuses.Done report text = Unit {0}
 ReadsAheadBy statuses.WordsRefused report text = Unit {0}
-ReadsAheadBy statuses.FileRefused report text = length text.bytes ≤ slice_index (reading text).stops 0 + 4096
+ReadsAheadBy statuses.FileRefused report text = IsReadToHeader text
 ReadsAheadBy statuses.ReadFailed report text = Unit {0}
-ReadsAheadBy statuses.NoMemory report text = length text.bytes ≤ slice_index (reading text).stops 0 + 4096
+ReadsAheadBy statuses.NoMemory report text = IsReadToHeader text
 
 -- how far reading went ahead, by a report
 abbrev pub ReadsAhead : Report → Text → Type 0
 ReadsAhead report text = ReadsAheadBy report.status report text
+
+-- Of a text that had these bytes to come, at most 4,096 were read past the end of its header, so that these are still to come.
+pub record LeavesFrames (before after : List ℕ) : Type 0 where
+  pub text : Text
+  pub parts : before ≡ text.bytes ++ after
+  pub closed : text.closed ≡ (length after == 0)
+  pub read : IsReadToHeader text
 
 -- The causes of a report: the shelf's count of faults rose exactly where a read failed, and the output's where a write did; else each stays.
 pub record HasCauses {A B : Type 0} (status : Status) (told : Option A) (faults_before faults_now : ℕ) (held : Option B) (wrote_before wrote_now : ℕ) : Type 0 where

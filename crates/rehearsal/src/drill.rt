@@ -1,14 +1,16 @@
 //! The run of a generated scenario, and the summary of its log.
 
-ghost use Rattle.std.specs.Prelude.{◌≡◌, ◌≢◌, ◌≤◌, ◌⊎◌};
+ghost use Rattle.std.specs.Prelude.{◌≡◌, ◌≢◌, ℕ, ◌≤◌, ◌⊎◌};
 ghost use Rattle.fsw_outside.specs.Told.{WhereTold};
 ghost use Rattle.fsw_outside.specs.Causes.{HasRisen};
 ghost use Rattle.fsw_outside.specs.Tally.{tally_of};
 ghost use Rattle.packet_log.specs.Summaries.{summary_text};
 ghost use Rattle.packet_log.specs.Logged.{logged};
+ghost use Rattle.scenario.specs.Drill.{drill_text};
 ghost use Rattle.frame_exec.specs.Tables.{AreLoaded};
 ghost use Rattle.rehearsal.specs.Beside.{crowd_in};
-ghost use Rattle.rehearsal.specs.Outcome.{DrillOutcome};
+ghost use Rattle.rehearsal.specs.Drill.{unread_in};
+ghost use Rattle.rehearsal.specs.Outcome.{DrillOutcome, LeavesFrames};
 ghost use Rattle.rehearsal.specs.Run.{failed_at, Sums};
 
 use crate::report::{Report, Status};
@@ -29,11 +31,24 @@ pub struct DrillText {
     drill: Drill,
 }
 
+impl DrillText {
+    /// The whole text of the generated scenario of this number.
+    pub fn start(k: u32) -> DrillText
+        requires { k ≤ 999999 }
+        ensures { unread_in result ≡ drill_text k }
+    {
+        DrillText {
+            drill: Drill::start(k),
+        }
+    }
+}
+
 impl Source for DrillText {
     ghost use Rattle.std.specs.Prelude.{[], Some, None, true};
     ghost use Rattle.rehearsal.specs.Drill.{unread_in};
 
-    ghost told = { λ t. Some (record { files = []; rest = unread_in t; openings = 0; name = None }) };
+    ghost told = { λ t.
+        Some (record { files = []; rest = unread_in t; openings = 0; name = None }) };
 
     ghost is_open = { λ t. true };
 
@@ -49,8 +64,10 @@ impl Source for DrillText {
 /// Writes the summary of a run, and answers its report; where that fails the output failed.
 fn write_summary<O: Sink>(summary: &Summary, out: &mut O, report: Report) -> Report
     requires ended { report.status ≡ Status.Done }
-    ensures sums { WhereTold (O.held out.old) (O.held out.new) (Sums result report (summary_text report.frames (tally_of (logged summary.now)))) }
-    ensures write_failed { result.status ≡ Status.WriteFailed → HasRisen (O.held out.new) (O.faults out.old) (O.faults out.new) }
+    ensures sums { WhereTold (O.held out.old) (O.held out.new)
+        (Sums result report (summary_text report.frames (tally_of (logged summary.now)))) }
+    ensures write_failed { result.status ≡ Status.WriteFailed
+        → HasRisen (O.held out.new) (O.faults out.old) (O.faults out.new) }
     ensures wrote_well { result.status ≢ Status.WriteFailed → O.faults out.new ≡ O.faults out.old }
     ensures ends { (result ≡ report) ⊎ (result ≡ failed_at report.frames) }
 {
@@ -61,9 +78,9 @@ fn write_summary<O: Sink>(summary: &Summary, out: &mut O, report: Report) -> Rep
     }
 }
 
-/// Runs the generated scenario of this number, which is at most 999,999, with these tables, beside the crowd where there is
-/// one. The summary of its log is written behind the last frame, and nothing else is. Its text ends well and no read of it
-/// fails.
+/// Runs a generated scenario, of which nothing was read, with these tables, beside the crowd where there is one. The summary
+/// of its log is written behind the last frame, and nothing else is. Its text ends well and no read of it fails. Where memory
+/// runs out none of its frames was run: its text was read no further than a piece past the header.
 // In one stack frame with its caller, which has room for a bench as well.
 #[inline(always)]
 pub fn run_drill<'f, R: Threads + Sync, C: Subject + Send, O: Sink, G: Gate>(
@@ -73,23 +90,27 @@ pub fn run_drill<'f, R: Threads + Sync, C: Subject + Send, O: Sink, G: Gate>(
     tables: Tables<'f>,
     files: &'f Files,
     crowd: &mut Option<Crowd<C>>,
-    k: u32,
+    text: &mut DrillText,
     out: &mut O,
     gate: &G,
 ) -> Report
     requires workers { (1 ≤ workers) × (workers ≤ 16) }
     requires loaded { AreLoaded files.now tables }
-    requires number { k ≤ 999999 }
-    ensures outcome { WhereTold (O.held out.old) (O.held out.new) (DrillOutcome result files.now (crowd_in C.seen crowd.old) k) }
-    ensures well { (result.status ≢ Status.WordsRefused) × (result.status ≢ Status.ReadFailed) × (result.status ≢ Status.ScenarioRefused) }
+    requires drawn { (k : ℕ) × (unread_in text.old ≡ drill_text k) }
+    ensures outcome { (k : ℕ) → unread_in text.old ≡ drill_text k
+        → WhereTold (O.held out.old) (O.held out.new)
+        (DrillOutcome result files.now (crowd_in C.seen crowd.old) k) }
+    ensures well { (result.status ≢ Status.WordsRefused) × (result.status ≢ Status.ReadFailed)
+        × (result.status ≢ Status.ScenarioRefused) }
     ensures file_refused { result.status ≡ Status.FileRefused → out.new ≡ out.old }
-    ensures no_memory { result.status ≡ Status.NoMemory → (out.new ≡ out.old) × (result.frames ≡ 0) }
-    ensures write_failed { result.status ≡ Status.WriteFailed → HasRisen (O.held out.new) (O.faults out.old) (O.faults out.new) }
+    ensures no_memory { result.status ≡ Status.NoMemory → (out.new ≡ out.old)
+        × (result.frames ≡ 0) }
+    ensures unrun { result.status ≡ Status.NoMemory
+        → LeavesFrames (unread_in text.old) (unread_in text.new) }
+    ensures write_failed { result.status ≡ Status.WriteFailed
+        → HasRisen (O.held out.new) (O.faults out.old) (O.faults out.new) }
     ensures wrote_well { result.status ≢ Status.WriteFailed → O.faults out.new ≡ O.faults out.old }
 {
-    let mut text = DrillText {
-        drill: Drill::start(k),
-    };
     let mut summary = Summary::start();
     let report = run_open(
         rt,
@@ -98,7 +119,7 @@ pub fn run_drill<'f, R: Threads + Sync, C: Subject + Send, O: Sink, G: Gate>(
         tables,
         files,
         crowd,
-        &mut text,
+        text,
         &mut summary,
         gate,
     );

@@ -35,12 +35,16 @@ fn append_piece<S: Shelf>(
     requires opened { IsTrue (S.is_open shelf.old) }
     requires some { 0 < length piece.old }
     requires room { length bytes.old.items + length piece.old ≤ 65701 }
-    ensures content { WhereTold (S.told shelf.old) (S.told shelf.new) (λ before after. IsSameOpening before after
-        × MatchResult result (λ count. Appends count bytes.old.items bytes.new.items before after) (λ why. why ≡ Unread.Failed → after.rest ≡ before.rest)) }
+    ensures content { WhereTold (S.told shelf.old) (S.told shelf.new) (λ before after.
+        IsSameOpening before after
+        × MatchResult result (λ count.
+        Appends count bytes.old.items bytes.new.items before after) (λ why.
+        why ≡ Unread.Failed → after.rest ≡ before.rest)) }
     ensures grown { IfOk result (λ count. length bytes.new.items ≡ length bytes.old.items + count) }
     ensures few { IfOk result (λ count. length bytes.new.items ≤ 65701) }
     ensures well { OnOk result (S.faults shelf.new ≡ S.faults shelf.old) }
-    ensures cause { IfErr result (UnreadCause (S.told shelf.new) (S.faults shelf.old) (S.faults shelf.new)) }
+    ensures cause { IfErr result
+        (UnreadCause (S.told shelf.new) (S.faults shelf.old) (S.faults shelf.new)) }
     ensures short { IfErr result (λ why. why ≢ Unread.TooLong) }
     ensures is_open { IsTrue (S.is_open shelf.new) }
     ensures mark { S.mark shelf.new ≡ S.mark shelf.old }
@@ -58,11 +62,14 @@ fn append_piece<S: Shelf>(
 fn read_rest<S: Shelf>(shelf: &mut S, bytes: &mut Vec<u8>) -> Result<(), Unread>
     requires opened { IsTrue (S.is_open shelf.old) }
     requires empty { bytes.old.items ≡ [] }
-    ensures content { WhereTold (S.told shelf.old) (S.told shelf.new) (λ before after. IsSameOpening before after
-        × MatchResult result (λ _. (before.rest ≡ bytes.new.items) × (after.rest ≡ [])) (λ why. IsUnread why before.rest after.rest)) }
+    ensures content { WhereTold (S.told shelf.old) (S.told shelf.new) (λ before after.
+        IsSameOpening before after
+        × MatchResult result (λ _. (before.rest ≡ bytes.new.items) × (after.rest ≡ [])) (λ why.
+        IsUnread why before.rest after.rest)) }
     ensures small { OnOk result (length bytes.new.items ≤ 65700) }
     ensures well { OnOk result (S.faults shelf.new ≡ S.faults shelf.old) }
-    ensures cause { IfErr result (UnreadCause (S.told shelf.new) (S.faults shelf.old) (S.faults shelf.new)) }
+    ensures cause { IfErr result
+        (UnreadCause (S.told shelf.new) (S.faults shelf.old) (S.faults shelf.new)) }
     ensures is_open { IsTrue (S.is_open shelf.new) }
     ensures mark { S.mark shelf.new ≡ S.mark shelf.old }
 {
@@ -83,11 +90,15 @@ fn read_rest<S: Shelf>(shelf: &mut S, bytes: &mut Vec<u8>) -> Result<(), Unread>
 
 /// Reads the file of this name whole, where it has at most 65,700 bytes.
 fn read_file<S: Shelf>(alloc: Global, shelf: &mut S, name: &str) -> Result<Vec<u8>, Unread>
-    ensures content { WhereTold (S.told shelf.old) (S.told shelf.new) (λ before after. OpensOnce name.now before after
-        × MatchResult result (λ bytes. (file_named before.files name.now ≡ Some bytes.items) × (after.rest ≡ [])) (λ why. IsUnreadFile why (S.is_open shelf.new) (file_named before.files name.now) after.rest)) }
+    ensures content { WhereTold (S.told shelf.old) (S.told shelf.new) (λ before after.
+        OpensOnce name.now before after
+        × MatchResult result (λ bytes. (file_named before.files name.now ≡ Some bytes.items)
+        × (after.rest ≡ [])) (λ why.
+        IsUnreadFile why (S.is_open shelf.new) (file_named before.files name.now) after.rest)) }
     ensures small { IfOk result (λ bytes. length bytes.items ≤ 65700) }
     ensures well { OnOk result (S.faults shelf.new ≡ S.faults shelf.old) }
-    ensures cause { IfErr result (UnreadCause (S.told shelf.new) (S.faults shelf.old) (S.faults shelf.new)) }
+    ensures cause { IfErr result
+        (UnreadCause (S.told shelf.new) (S.faults shelf.old) (S.faults shelf.new)) }
     ensures is_open { IfErr result (λ why. why ≢ Unread.Failed → IsTrue (S.is_open shelf.new)) }
     ensures opened { OnOk result (IsTrue (S.is_open shelf.new)) }
     ensures mark { S.mark shelf.new ≡ S.faults shelf.old }
@@ -122,12 +133,15 @@ fn take_file<S: Shelf>(
     files: &mut Files,
 ) -> Result<(), Stop>
     requires room { length files.old < 100 }
-    ensures content { WhereTold (S.told shelf.old) (S.told shelf.new) (λ before after. OpensOnce name.now before after
-        × Takes result (S.is_open shelf.new) (file_named before.files name.now) after.rest files.old files.new) }
+    ensures content { WhereTold (S.told shelf.old) (S.told shelf.new) (λ before after.
+        OpensOnce name.now before after
+        × Takes result (S.is_open shelf.new)
+        (file_named before.files name.now) after.rest files.old files.new) }
     ensures grown { OnOk result (length files.new ≡ length files.old + 1) }
     ensures same { OnErr result (files.new ≡ files.old) }
     ensures well { OnOk result (S.faults shelf.new ≡ S.faults shelf.old) }
-    ensures cause { IfErr result (StopCause (S.told shelf.new) (S.faults shelf.old) (S.faults shelf.new)) }
+    ensures cause { IfErr result
+        (StopCause (S.told shelf.new) (S.faults shelf.old) (S.faults shelf.new)) }
     ensures is_open { IfErr result (λ why. why ≢ Stop.Failed → IsTrue (S.is_open shelf.new)) }
     ensures opened { OnOk result (IsTrue (S.is_open shelf.new)) }
     ensures mark { S.mark shelf.new ≡ S.faults shelf.old }
@@ -169,16 +183,23 @@ pub fn take_files<S: Shelf>(
     requires few { length names.now ≤ 100 }
     requires empty { files.old ≡ [] }
     ensures content { WhereTold (S.told shelf.old) (S.told shelf.new) (λ before after.
-        MatchResult result (λ _. AsksFor names.now (length names.now) before after × AreTaken before.files names.now files.new × (0 < length names.now → after.rest ≡ []))
-        (λ report. AsksFor names.now (length files.new + 1) before after × EndsAtFile report before.files names.now (length files.new + 1) (S.is_open shelf.new) after.rest)) }
+        MatchResult result (λ _. AsksFor names.now (length names.now) before after
+        × AreTaken before.files names.now files.new × (0 < length names.now → after.rest ≡ []))
+        (λ report. AsksFor names.now (length files.new + 1) before after
+        × EndsAtFile report before.files names.now (length files.new + 1)
+        (S.is_open shelf.new) after.rest)) }
     ensures all { OnOk result (length files.new ≡ length names.now) }
     ensures well { OnOk result (S.faults shelf.new ≡ S.faults shelf.old) }
-    ensures cause { IfErr result (EndCause (S.told shelf.new) (S.faults shelf.old) (S.faults shelf.new)) }
-    ensures is_open { IfErr result (λ report. report.status ≢ Status.ReadFailed → IsTrue (S.is_open shelf.new)) }
+    ensures cause { IfErr result
+        (EndCause (S.told shelf.new) (S.faults shelf.old) (S.faults shelf.new)) }
+    ensures is_open { IfErr result (λ report.
+        report.status ≢ Status.ReadFailed → IsTrue (S.is_open shelf.new)) }
     ensures opened { OnOk result (0 < length names.now → IsTrue (S.is_open shelf.new)) }
     ensures mark { 0 < length names.now → S.mark shelf.new ≡ S.faults shelf.old }
     ensures unasked { OnOk result (length names.now ≡ 0 → shelf.new ≡ shelf.old) }
-    ensures stops { IfErr result (λ report. (0 < length names.now) × (report.frames ≡ 0) × (report.status ≢ Status.WordsRefused) × (report.status ≢ Status.WriteFailed)) }
+    ensures stops { IfErr result
+        (λ report. (0 < length names.now) × (report.frames ≡ 0)
+        × (report.status ≢ Status.WordsRefused) × (report.status ≢ Status.WriteFailed)) }
 {
     'files: for place in 0..names.len() {
         match take_file(alloc, shelf, names.word(place), files) {

@@ -45,7 +45,13 @@ pub struct Report {
 impl Report {
     /// A report without a place: how it ended, and after how many frames.
     pub fn at(status: Status, frames: u32) -> Report
-        ensures { result ≡ record { status = status; file = 0; line = 0; reason = 0; frames = frames } }
+        ensures { result ≡ record {
+          status = status;
+          file = 0;
+          line = 0;
+          reason = 0;
+          frames = frames;
+        } }
     {
         Report {
             status,
@@ -58,7 +64,13 @@ impl Report {
 
     /// The scenario is refused at a line, after this many frames.
     pub fn refused(line: u32, reason: u8, frames: u32) -> Report
-        ensures { result ≡ record { status = Status.ScenarioRefused; file = 0; line = line; reason = reason; frames = frames } }
+        ensures { result ≡ record {
+          status = Status.ScenarioRefused;
+          file = 0;
+          line = line;
+          reason = reason;
+          frames = frames;
+        } }
     {
         Report {
             status: Status::ScenarioRefused,
@@ -71,7 +83,13 @@ impl Report {
 
     /// A FILE is refused before the first frame: its number from 1, an entry of its table or 0, and why.
     pub fn file_refused(file: u32, entry: u32, reason: u8) -> Report
-        ensures { result ≡ record { status = Status.FileRefused; file = file; line = entry; reason = reason; frames = 0 } }
+        ensures { result ≡ record {
+          status = Status.FileRefused;
+          file = file;
+          line = entry;
+          reason = reason;
+          frames = 0;
+        } }
     {
         Report {
             status: Status::FileRefused,
@@ -84,7 +102,13 @@ impl Report {
 
     /// The shelf failed on a FILE: its number from 1.
     pub fn file_unread(file: u32) -> Report
-        ensures { result ≡ record { status = Status.ReadFailed; file = file; line = 0; reason = 0; frames = 0 } }
+        ensures { result ≡ record {
+          status = Status.ReadFailed;
+          file = file;
+          line = 0;
+          reason = 0;
+          frames = 0;
+        } }
     {
         Report {
             status: Status::ReadFailed,
@@ -158,7 +182,8 @@ pub fn line_of(report: &Report) -> ErrorLine
 
 /// Tells a report by its line. A sink that fails changes nothing else.
 pub fn tell<E: Sink>(err: &mut E, report: &Report)
-    ensures { WhereTold (E.held err.old) (E.held err.new) (Tells (E.faults err.old) (E.faults err.new) (error_line report.now)) }
+    ensures { WhereTold (E.held err.old) (E.held err.new)
+        (Tells (E.faults err.old) (E.faults err.new) (error_line report.now)) }
 {
     let line = line_of(report);
     match put_text(err, line.as_str()) {

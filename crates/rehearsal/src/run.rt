@@ -31,13 +31,20 @@ use table_files::Files;
 
 /// Hands on what waits behind the frames that were run, and answers the report of them; where that fails the output failed.
 fn hand_on<O: Sink>(bench: &mut Bench<'_>, out: &mut O, report: Report) -> Report
-    requires follows { (setup : Setup) × (earlier : List Frame) × (later : List Frame) × Follows bench.old setup earlier later × (report.frames ≡ length (earlier ++ later)) }
-    requires ended { (report.status ≢ Status.ReadFailed) × (report.status ≢ Status.WriteFailed) × (report.status ≢ Status.WordsRefused) × (report.status ≢ Status.FileRefused) × (report.status ≢ Status.NoMemory) }
-    ensures hands_on { (setup : Setup) (earlier later : List Frame) → Follows bench.old setup earlier later → report.frames ≡ length (earlier ++ later)
-        → HandsOn result report setup earlier later (tells (O.held out.old) (waiting_in bench.old)) (O.held out.new) }
-    ensures write_failed { result.status ≡ Status.WriteFailed → HasRisen (O.held out.new) (O.faults out.old) (O.faults out.new) }
+    requires follows { (setup : Setup) × (earlier : List Frame) × (later : List Frame)
+        × Follows bench.old setup earlier later × (report.frames ≡ length (earlier ++ later)) }
+    requires ended { (report.status ≢ Status.ReadFailed) × (report.status ≢ Status.WriteFailed)
+        × (report.status ≢ Status.WordsRefused) × (report.status ≢ Status.FileRefused)
+        × (report.status ≢ Status.NoMemory) }
+    ensures hands_on { (setup : Setup) (earlier later : List Frame)
+        → Follows bench.old setup earlier later → report.frames ≡ length (earlier ++ later)
+        → HandsOn result report setup earlier later (tells (O.held out.old) (waiting_in bench.old))
+        (O.held out.new) }
+    ensures write_failed { result.status ≡ Status.WriteFailed
+        → HasRisen (O.held out.new) (O.faults out.old) (O.faults out.new) }
     ensures wrote_well { result.status ≢ Status.WriteFailed → O.faults out.new ≡ O.faults out.old }
-    ensures well { (result.status ≢ Status.ReadFailed) × (result.status ≢ Status.WordsRefused) × (result.status ≢ Status.FileRefused) × (result.status ≢ Status.NoMemory) }
+    ensures well { (result.status ≢ Status.ReadFailed) × (result.status ≢ Status.WordsRefused)
+        × (result.status ≢ Status.FileRefused) × (result.status ≢ Status.NoMemory) }
 {
     match bench.flush(out) {
         Ok(()) => report,
@@ -54,16 +61,31 @@ fn add_frame<R: Threads + Sync, C: Subject + Send, O: Sink, G: Gate>(
     gate: &G,
     out: &mut O,
 ) -> Result<(), Cut>
-    requires started { (setup : Setup) × (earlier : List Frame) × (later : List Frame) × Follows bench.old setup earlier later × CanRun setup (earlier ++ later) input.now }
-    ensures follows { (setup : Setup) (earlier later : List Frame) → Follows bench.old setup earlier later
-        → OnOk result (Follows bench.new setup earlier (later ++ frame_beside (crowd_in C.seen crowd.old) input.now ∷ [])) }
-    ensures told { (setup : Setup) (earlier later : List Frame) → Follows bench.old setup earlier later
-        → OnOk result (WhereTold (tells (O.held out.old) (waiting_in bench.old)) (tells (O.held out.new) (waiting_in bench.new)) (λ before after. after ≡ before ++ frame_lines setup (earlier ++ later) (frame_beside (crowd_in C.seen crowd.old) input.now))) }
-    ensures cut { (setup : Setup) (earlier later : List Frame) → Follows bench.old setup earlier later
-        → IfErr result (λ cut. (cut.late ≤ length later) × WhereTold (tells (O.held out.old) (waiting_in bench.old)) (O.held out.new) (λ before after. (start : List ℕ)
-        → before ≡ start ++ log_of setup (earlier ++ later) → IsCutAt setup ((earlier ++ later) ++ frame_beside (crowd_in C.seen crowd.old) input.now ∷ []) (length (earlier ++ later) - cut.late) start after)) }
-    ensures crowd { (setup : Setup) (earlier later : List Frame) → Follows bench.old setup earlier later
-        → OnOk result (crowd_in C.seen crowd.new ≡ crowd_then setup (earlier ++ later) (frame_beside (crowd_in C.seen crowd.old) input.now) (crowd_in C.seen crowd.old)) }
+    requires started { (setup : Setup) × (earlier : List Frame) × (later : List Frame)
+        × Follows bench.old setup earlier later × CanRun setup (earlier ++ later) input.now }
+    ensures follows { (setup : Setup) (earlier later : List Frame)
+        → Follows bench.old setup earlier later
+        → OnOk result (Follows bench.new setup earlier
+        (later ++ frame_beside (crowd_in C.seen crowd.old) input.now ∷ [])) }
+    ensures told { (setup : Setup) (earlier later : List Frame)
+        → Follows bench.old setup earlier later
+        → OnOk result (WhereTold (tells (O.held out.old) (waiting_in bench.old))
+        (tells (O.held out.new) (waiting_in bench.new)) (λ before after.
+        after ≡ before ++ frame_lines setup (earlier ++ later)
+        (frame_beside (crowd_in C.seen crowd.old) input.now))) }
+    ensures cut { (setup : Setup) (earlier later : List Frame)
+        → Follows bench.old setup earlier later
+        → IfErr result (λ cut. (cut.late ≤ length later)
+        × WhereTold (tells (O.held out.old) (waiting_in bench.old)) (O.held out.new)
+        (λ before after. (start : List ℕ)
+        → before ≡ start ++ log_of setup (earlier ++ later)
+        → IsCutAt setup ((earlier ++ later) ++ frame_beside (crowd_in C.seen crowd.old) input.now
+        ∷ []) (length (earlier ++ later) - cut.late) start after)) }
+    ensures crowd { (setup : Setup) (earlier later : List Frame)
+        → Follows bench.old setup earlier later
+        → OnOk result (crowd_in C.seen crowd.new
+        ≡ crowd_then setup (earlier ++ later) (frame_beside (crowd_in C.seen crowd.old) input.now)
+        (crowd_in C.seen crowd.old)) }
     ensures cause { HasCause (O.held out.new) (O.faults out.old) (O.faults out.new) result }
 {
     match crowd {
@@ -85,15 +107,22 @@ pub fn run_frames<R: Threads + Sync, C: Subject + Send, S: Source, O: Sink, G: G
     gate: &G,
 ) -> Report
     requires opened { IsTrue (S.is_open source.old) }
-    requires holds { (files : List (List ℕ)) × (text : Text) × (gave : List Given) × Holds reader.old feed.old text gave × Begins bench.old files gave }
-    ensures outcome { (files : List (List ℕ)) (text : Text) (gave : List Given) → Holds reader.old feed.old text gave → Begins bench.old files gave
-        → WhereTold (S.told source.old) (S.told source.new) (λ before after. (start : Content) → IsRead text feed.old.pending start before
-        → (whole : Text) × IsTextOf (S.faults source.old) (S.faults source.new) start after whole × ReadsAhead result whole
-        × WhereTold (O.held out.old) (O.held out.new) (Outcome result files (crowd_in C.seen crowd.old) whole)) }
+    requires holds { (files : List (List ℕ)) × (text : Text) × (gave : List Given)
+        × Holds reader.old feed.old text gave × Begins bench.old files gave }
+    ensures outcome { (files : List (List ℕ)) (text : Text) (gave : List Given)
+        → Holds reader.old feed.old text gave → Begins bench.old files gave
+        → WhereTold (S.told source.old) (S.told source.new)
+        (λ before after. (start : Content) → IsRead text feed.old.pending start before
+        → (whole : Text) × IsTextOf (S.faults source.old) (S.faults source.new) start after whole
+        × ReadsAhead result whole
+        × WhereTold (O.held out.old) (O.held out.new)
+        (Outcome result files (crowd_in C.seen crowd.old) whole)) }
     ensures is_open { IsTrue (S.is_open source.new) }
     ensures mark { S.mark source.new ≡ S.mark source.old }
-    ensures causes { HasCauses result.status (S.told source.new) (S.faults source.old) (S.faults source.new) (O.held out.new) (O.faults out.old) (O.faults out.new) }
-    ensures accepted { (result.status ≢ Status.WordsRefused) × (result.status ≢ Status.FileRefused) × (result.status ≢ Status.NoMemory) }
+    ensures causes { HasCauses result.status (S.told source.new) (S.faults source.old)
+        (S.faults source.new) (O.held out.new) (O.faults out.old) (O.faults out.new) }
+    ensures accepted { (result.status ≢ Status.WordsRefused) × (result.status ≢ Status.FileRefused)
+        × (result.status ≢ Status.NoMemory) }
 {
     let mut frames = 0;
     'frames: loop {
@@ -145,14 +174,18 @@ pub fn run_open<'f, R: Threads + Sync, C: Subject + Send, S: Source, O: Sink, G:
     requires workers { (1 ≤ workers) × (workers ≤ 16) }
     requires loaded { AreLoaded files.now tables }
     ensures outcome { WhereTold (S.told source.old) (S.told source.new) (λ start after.
-        (whole : Text) × IsTextOf (S.faults source.old) (S.faults source.new) start after whole × ReadsAhead result whole
-        × WhereTold (O.held out.old) (O.held out.new) (Outcome result files.now (crowd_in C.seen crowd.old) whole)) }
+        (whole : Text) × IsTextOf (S.faults source.old) (S.faults source.new) start after whole
+        × ReadsAhead result whole
+        × WhereTold (O.held out.old) (O.held out.new)
+        (Outcome result files.now (crowd_in C.seen crowd.old) whole)) }
     ensures is_open { IsTrue (S.is_open source.new) }
     ensures mark { S.mark source.new ≡ S.mark source.old }
-    ensures causes { HasCauses result.status (S.told source.new) (S.faults source.old) (S.faults source.new) (O.held out.new) (O.faults out.old) (O.faults out.new) }
+    ensures causes { HasCauses result.status (S.told source.new) (S.faults source.old)
+        (S.faults source.new) (O.held out.new) (O.faults out.old) (O.faults out.new) }
     ensures accepted { result.status ≢ Status.WordsRefused }
     ensures file_refused { result.status ≡ Status.FileRefused → out.new ≡ out.old }
-    ensures no_memory { result.status ≡ Status.NoMemory → (out.new ≡ out.old) × (result.frames ≡ 0) }
+    ensures no_memory { result.status ≡ Status.NoMemory → (out.new ≡ out.old)
+        × (result.frames ≡ 0) }
 {
     let Ok(mut reader) = Reader::open(alloc) else {
         return Report::at(Status::NoMemory, 0);
@@ -197,14 +230,18 @@ pub fn run_scenario<'f, R: Threads + Sync, C: Subject + Send, S: Shelf, O: Sink,
     requires workers { (1 ≤ workers) × (workers ≤ 16) }
     requires loaded { AreLoaded files.now tables }
     ensures outcome { WhereTold (S.told shelf.old) (S.told shelf.new) (λ before after.
-        (text : Text) × IsText (S.is_open shelf.new) (S.faults shelf.old) (S.faults shelf.new) (file_named before.files name.now) after.rest text × ReadsAhead result text
-        × WhereTold (O.held out.old) (O.held out.new) (Outcome result files.now (crowd_in C.seen crowd.old) text)) }
+        (text : Text) × IsText (S.is_open shelf.new) (S.faults shelf.old) (S.faults shelf.new)
+        (file_named before.files name.now) after.rest text × ReadsAhead result text
+        × WhereTold (O.held out.old) (O.held out.new)
+        (Outcome result files.now (crowd_in C.seen crowd.old) text)) }
     ensures opening { WhereTold (S.told shelf.old) (S.told shelf.new) (OpensOnce name.now) }
     ensures mark { S.mark shelf.new ≡ S.faults shelf.old }
-    ensures causes { HasCauses result.status (S.told shelf.new) (S.faults shelf.old) (S.faults shelf.new) (O.held out.new) (O.faults out.old) (O.faults out.new) }
+    ensures causes { HasCauses result.status (S.told shelf.new) (S.faults shelf.old)
+        (S.faults shelf.new) (O.held out.new) (O.faults out.old) (O.faults out.new) }
     ensures accepted { result.status ≢ Status.WordsRefused }
     ensures file_refused { result.status ≡ Status.FileRefused → out.new ≡ out.old }
-    ensures no_memory { result.status ≡ Status.NoMemory → (out.new ≡ out.old) × (result.frames ≡ 0) }
+    ensures no_memory { result.status ≡ Status.NoMemory → (out.new ≡ out.old)
+        × (result.frames ≡ 0) }
     ensures opened { result.status ≢ Status.ReadFailed → IsTrue (S.is_open shelf.new) }
 {
     let Ok(()) = shelf.open(name) else {

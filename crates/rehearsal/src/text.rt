@@ -48,7 +48,8 @@ impl Model for Feed {
 
     ghost Value = { Fed };
 
-    ghost view = { λ f. record { pending = drop f.from (take f.to f.piece); total = f.total; ended = f.ended } };
+    ghost view = { λ f.
+        record { pending = drop f.from (take f.to f.piece); total = f.total; ended = f.ended } };
 
     ghost invariant = { λ f. (f.from ≤ f.to) × (f.to ≤ 4096) × (length f.piece ≡ 4096) };
 }
@@ -87,12 +88,14 @@ impl Feed {
         requires opened { IsTrue (S.is_open source.old) }
         requires empty { self.old.pending ≡ [] }
         requires small { self.old.total ≤ 16777856 }
-        ensures content { WhereTold (S.told source.old) (S.told source.new) (Fills result self.new) }
+        ensures content { WhereTold (S.told source.old) (S.told source.new)
+            (Fills result self.new) }
         ensures total { OnOk result (self.new.total ≡ self.old.total + length self.new.pending) }
         ensures few { length self.new.pending ≤ 4096 }
         ensures ended { OnOk result ((self.new.ended ≡ true) ↔ (self.new.pending ≡ [])) }
         ensures same { OnErr result (self.new ≡ self.old) }
-        ensures cause { HasCause (S.told source.new) (S.faults source.old) (S.faults source.new) result }
+        ensures cause { HasCause (S.told source.new) (S.faults source.old)
+            (S.faults source.new) result }
         ensures is_open { IsTrue (S.is_open source.new) }
         ensures mark { S.mark source.new ≡ S.mark source.old }
     {
@@ -124,8 +127,10 @@ impl Feed {
         requires waits { Waits reader.old }
         requires some { 0 < length self.old.pending }
         requires unfinished { is_finished reader.old ≡ false }
-        ensures holds { (text : Text) (gave : List Given) → Holds reader.old self.old text gave → text.closed ≡ false
-            → (taken : ℕ) × Holds reader.new self.new (fed text (take taken self.old.pending)) gave × (self.new.pending ≡ drop taken self.old.pending) }
+        ensures holds { (text : Text) (gave : List Given) → Holds reader.old self.old text gave
+            → text.closed ≡ false
+            → (taken : ℕ) × Holds reader.new self.new (fed text (take taken self.old.pending)) gave
+            × (self.new.pending ≡ drop taken self.old.pending) }
         ensures less { work_left reader.new self.new < work_left reader.old self.old }
     {
         let taken = reader.feed(self.pending());
@@ -137,9 +142,11 @@ impl Feed {
 pub fn next_item(reader: &mut Reader, feed: &mut Feed) -> Next
     requires holds { (text : Text) × (gave : List Given) × Holds reader.old feed.old text gave }
     ensures gives { (text : Text) (gave : List Given) → Holds reader.old feed.old text gave
-        → (now : Text) × Gives result reader.new feed.new now gave × IsFedOn text feed.old.pending now feed.new.pending }
+        → (now : Text) × Gives result reader.new feed.new now gave
+        × IsFedOn text feed.old.pending now feed.new.pending }
     ensures shows { result ≡ Next.Frame → Shows reader.new }
-    ensures dry { result ≡ Next.Dry → (feed.new.pending ≡ []) × (feed.new.ended ≡ false) × (feed.new.total ≤ 16777856) }
+    ensures dry { result ≡ Next.Dry → (feed.new.pending ≡ []) × (feed.new.ended ≡ false)
+        × (feed.new.total ≤ 16777856) }
     ensures less { work_left reader.new feed.new ≤ work_left reader.old feed.old }
 {
     'items: loop {
@@ -165,11 +172,14 @@ pub fn fetch<S: Source>(source: &mut S, reader: &mut Reader, feed: &mut Feed) ->
     requires open_text { feed.old.ended ≡ false }
     ensures reads { (text : Text) (gave : List Given) → Holds reader.old feed.old text gave
         → (now : Text) × Holds reader.new feed.new now gave × OnErr result (now ≡ text)
-        × WhereTold (S.told source.old) (S.told source.new) (λ before after. (start : Content) → IsRead text [] start before → IsRead now feed.new.pending start after) }
+        × WhereTold (S.told source.old) (S.told source.new)
+        (λ before after. (start : Content) → IsRead text [] start before
+        → IsRead now feed.new.pending start after) }
     ensures less { OnOk result (work_left reader.new feed.new < work_left reader.old feed.old) }
     ensures same_reader { OnErr result (reader.new ≡ reader.old) }
     ensures same_feed { OnErr result (feed.new ≡ feed.old) }
-    ensures cause { HasCause (S.told source.new) (S.faults source.old) (S.faults source.new) result }
+    ensures cause { HasCause (S.told source.new) (S.faults source.old)
+        (S.faults source.new) result }
     ensures is_open { IsTrue (S.is_open source.new) }
     ensures mark { S.mark source.new ≡ S.mark source.old }
 {
@@ -189,10 +199,13 @@ pub fn read_on<S: Source>(source: &mut S, reader: &mut Reader, feed: &mut Feed) 
     requires holds { (text : Text) × (gave : List Given) × Holds reader.old feed.old text gave }
     ensures reads { (text : Text) (gave : List Given) → Holds reader.old feed.old text gave
         → (now : Text) × Gives result reader.new feed.new now gave
-        × WhereTold (S.told source.old) (S.told source.new) (λ before after. (start : Content) → IsRead text feed.old.pending start before → IsRead now feed.new.pending start after) }
+        × WhereTold (S.told source.old) (S.told source.new)
+        (λ before after. (start : Content) → IsRead text feed.old.pending start before
+        → IsRead now feed.new.pending start after) }
     ensures shows { result ≡ Next.Frame → Shows reader.new }
     ensures later { S.faults source.old ≤ S.faults source.new }
-    ensures failed { result ≡ Next.Dry → HasRisen (S.told source.new) (S.faults source.old) (S.faults source.new) }
+    ensures failed { result ≡ Next.Dry
+        → HasRisen (S.told source.new) (S.faults source.old) (S.faults source.new) }
     ensures well { result ≢ Next.Dry → S.faults source.new ≡ S.faults source.old }
     ensures is_open { IsTrue (S.is_open source.new) }
     ensures mark { S.mark source.new ≡ S.mark source.old }

@@ -86,7 +86,13 @@ impl Model for Plan {
 
     ghost Value = { Asked };
 
-    ghost view = { λ p. record { workers = p.workers; subjects = p.subjects; scenario = string_bytes p.scenario; files = p.files } };
+    ghost view = { λ p.
+        record {
+          workers = p.workers;
+          subjects = p.subjects;
+          scenario = string_bytes p.scenario;
+          files = p.files;
+        } };
 
     ghost invariant = { λ p. (1 ≤ p.workers) × (p.workers ≤ 16) × (length p.files ≤ 100) };
 }
@@ -170,7 +176,8 @@ fn vigil_command<'a>(alloc: Global) -> Result<Command<'a>, AllocError>
 
 /// The program's name and the words behind it.
 fn with_name(alloc: Global, words: &Words) -> Result<Vec<&str>, NoMemory>
-    ensures { IfOk result (λ texts. map (λ text. text.now) texts.items ≡ codes "vigil" ∷ words.now) }
+    ensures { IfOk result (λ texts.
+        map (λ text. text.now) texts.items ≡ codes "vigil" ∷ words.now) }
 {
     let mut texts = Vec::new(alloc);
     texts.push(NAME)?;
@@ -182,7 +189,9 @@ fn with_name(alloc: Global, words: &Words) -> Result<Vec<&str>, NoMemory>
 
 /// A refusal, unless memory ran out.
 fn refused_by(error: &Error) -> Result<Option<Plan>, NoMemory>
-    ensures { MatchResult result (λ plan. (plan ≡ None) × (kind_of error.now ≢ ErrorKind.OutOfMemory)) (λ _. kind_of error.now ≡ ErrorKind.OutOfMemory) }
+    ensures { MatchResult result
+        (λ plan. (plan ≡ None) × (kind_of error.now ≢ ErrorKind.OutOfMemory)) (λ _.
+        kind_of error.now ≡ ErrorKind.OutOfMemory) }
 {
     match error.kind() {
         ErrorKind::OutOfMemory => Err(NoMemory),
@@ -216,7 +225,8 @@ fn plan_of(alloc: Global, matches: &ArgMatches<'_>) -> Result<Option<Plan>, NoMe
 
 /// The FILEs, unless there are more than 100.
 fn files_of(alloc: Global, matches: &ArgMatches<'_>) -> Result<Option<Words>, NoMemory>
-    ensures value { IfOk result (λ files. few_files (files_in (rows_of (found_of matches.now))) ≡ files) }
+    ensures value { IfOk result (λ files.
+        few_files (files_in (rows_of (found_of matches.now))) ≡ files) }
     ensures few { IfOk result (λ files. IfSome files (λ words. length words ≤ 100)) }
 {
     let Some(texts) = matches.get_raw("files") else {

@@ -1,9 +1,10 @@
-//! What the program is given: its name and its words, or none.
+//! What the program is given: its name and its words, or none; and the number that it ends with.
 
 use super::runs::assert_text;
-use crate::{exit_number, rehearse_given};
-use fsw_outside::{MemShelf, MemSink};
-use rehearsal::{Report, Status};
+use super::tables::apps_file;
+use crate::program::{exit_number, run_program};
+use fsw_outside::{MemShelf, MemSink, OpenGate};
+use rehearsal::Status;
 use std::env::Args;
 use std::io::{self, ErrorKind};
 use std::process::Abort;
@@ -19,20 +20,22 @@ fn args_of<R: AllocGlobal>(rt: &R, texts: &[&str]) -> Result<Args, Fail> {
     Ok(given.into_iter())
 }
 
-/// Asserts how a program ends that is given this, over a shelf whose file `s` has a header and no frame.
+/// Asserts how a program ends that is given this, over a shelf whose file `s` has a header and no frame, and whose file `a` has a
+/// table.
 fn assert_end<R: Threads + Sync + AllocGlobal + Abort>(
     rt: &R,
     given: io::Result<Args>,
-    status: Status,
+    number: u8,
     told: &str,
 ) -> Result<(), Fail> {
     let alloc = rt.alloc();
     let mut shelf = MemShelf::new(alloc, &[])?;
     shelf.put("s", b"epoch 1000\nregion RAM 0x1000 256\nstart\nend\n")?;
+    shelf.put("a", &apps_file(alloc, &[(1, "LOAD", 3, 2)])?)?;
     let mut out = MemSink::new(alloc, &[], 256)?;
     let mut err = MemSink::new(alloc, &[], 256)?;
-    let report = rehearse_given(rt, alloc, given, &mut shelf, &mut out, &mut err);
-    assert_eq!(rt; report, Report::at(status, 0));
+    let ended = run_program(rt, alloc, given, &mut shelf, &mut out, &mut err, &OpenGate);
+    assert_eq!(rt; ended, number);
     assert_text(rt, "out", out.bytes(), "");
     assert_text(rt, "err", err.bytes(), told);
     Ok(())
@@ -41,25 +44,46 @@ fn assert_end<R: Threads + Sync + AllocGlobal + Abort>(
 #[test]
 fn words_behind_the_name_are_rehearsed(rt: HostRuntime) -> Result<(), Fail> {
     let refused = "vigil: words refused\n";
-    assert_end(&rt, Ok(args_of(&rt, &["vigil", "s"])?), Status::Done, "")?;
-    let named = Ok(args_of(&rt, &["s"])?);
-    assert_end(&rt, named, Status::WordsRefused, refused)?;
-    let none = Ok(args_of(&rt, &[])?);
-    assert_end(&rt, none, Status::WordsRefused, refused)?;
+    assert_end(&rt, Ok(args_of(&rt, &["vigil", "s"])?), 0, "")?;
+    assert_end(&rt, Ok(args_of(&rt, &["s"])?), 1, refused)?;
+    assert_end(&rt, Ok(args_of(&rt, &[])?), 1, refused)?;
     let strange = Ok(args_of(&rt, &["s", "t"])?);
-    let unread = "vigil: read failed on file 0\n";
-    assert_end(&rt, strange, Status::ReadFailed, unread)
+    assert_end(&rt, strange, 4, "vigil: read failed on file 0\n")
+}
+
+/// The program's name, a scenario and so many FILEs, the last of which isn't there.
+fn many_args<R: AllocGlobal>(rt: &R, files: u32) -> Result<Args, Fail> {
+    let alloc = rt.alloc();
+    let mut given = Vec::new(alloc);
+    given.push(String::from_str(alloc, "vigil")?)?;
+    given.push(String::from_str(alloc, "s")?)?;
+    for _ in 1..files {
+        given.push(String::from_str(alloc, "a")?)?;
+    }
+    given.push(String::from_str(alloc, "missing")?)?;
+    Ok(given.into_iter())
+}
+
+/// With ample memory a scenario and up to 100 FILEs are handed on, each in its place; one FILE more is refused.
+#[test]
+fn memory_suffices_for_any_words(rt: HostRuntime) -> Result<(), Fail> {
+    for files in 1..101u32 {
+        let told = format!(in rt.alloc(); "vigil: read failed on file {files}\n")?;
+        assert_end(&rt, Ok(many_args(&rt, files)?), 4, told.as_str())?;
+    }
+    let many = Ok(many_args(&rt, 101)?);
+    assert_end(&rt, many, 1, "vigil: words refused\n")
 }
 
 #[test]
 fn missing_words_are_told(rt: HostRuntime) -> Result<(), Fail> {
     let refused = "vigil: words refused\n";
     let strange = Err(io::Error::from(ErrorKind::InvalidData));
-    assert_end(&rt, strange, Status::WordsRefused, refused)?;
+    assert_end(&rt, strange, 1, refused)?;
     let other = Err(io::Error::from(ErrorKind::Other));
-    assert_end(&rt, other, Status::WordsRefused, refused)?;
+    assert_end(&rt, other, 1, refused)?;
     let memory = Err(io::Error::from(ErrorKind::OutOfMemory));
-    assert_end(&rt, memory, Status::NoMemory, "vigil: out of memory\n")
+    assert_end(&rt, memory, 6, "vigil: out of memory\n")
 }
 
 #[test]

@@ -43,6 +43,13 @@ fn headers(alloc: Global, name: &str, payload: u32) -> Result<Vec<u8>, Fail> {
     Ok(bytes)
 }
 
+/// A file of a table whose bytes are all 0.
+pub fn blank_file(alloc: Global, name: &str, payload: u32) -> Result<Vec<u8>, Fail> {
+    let mut bytes = headers(alloc, name, payload)?;
+    pad(&mut bytes, (payload as usize).saturating_add(116))?;
+    Ok(bytes)
+}
+
 /// A file of bytes to be loaded at an address: this many times this byte, with their check.
 pub fn load_file(alloc: Global, at: u32, len: u32, byte: u8) -> Result<Vec<u8>, Fail> {
     let mut data = Vec::new(alloc);

@@ -1,7 +1,7 @@
 //! A rehearsal of many frames, on any number of workers.
 
 use super::runs::{HONEST, Line, NOOP, Outside, assert_text, log_of, run_beside, run_through};
-use super::tables::{apps_file, dwell_file, load_file, rts_file, segments_file};
+use super::tables::{apps_file, blank_file, dwell_file, load_file, rts_file, segments_file};
 use fsw_outside::Gate;
 use rehearsal::{Report, Status};
 use std::alloc::{AllocError, Global};
@@ -117,18 +117,42 @@ fn compare_runs<R: Threads + Sync + AllocGlobal + Abort>(
 
 const TURNS: u64 = 100_000_000;
 
-/// Holds some jobs until those awaited have entered, or for very many turns. Jobs are bits.
+/// The number of the first bank at a gate.
+const BANK: u32 = 64;
+
+/// Counts how often each of eight jobs or banks enters, in a byte each, from the number of the first on. Holds some of them,
+/// which are bits, until those awaited have entered, or for very many turns.
 #[derive(Drop)]
 struct Meeting {
+    first: u32,
+    counts: AtomicU64,
     entered: AtomicU64,
     met: AtomicU64,
     held: u64,
     awaited: u64,
 }
 
+impl Meeting {
+    fn new(first: u32, held: u64, awaited: u64) -> Meeting {
+        Meeting {
+            first,
+            counts: AtomicU64::new(0),
+            entered: AtomicU64::new(0),
+            met: AtomicU64::new(0),
+            held,
+            awaited,
+        }
+    }
+}
+
 impl Gate for Meeting {
     fn enter(&self, job: u32) {
-        let bit = 1u64 << (job % 64);
+        let place = job.saturating_sub(self.first);
+        if job < self.first || place >= 8 {
+            return;
+        }
+        let bit = 1u64 << place;
+        self.counts.fetch_add(1u64 << (8 * place), Ordering::SeqCst);
         self.entered.fetch_or(bit, Ordering::SeqCst);
         if self.held & bit == 0 {
             return;
@@ -144,23 +168,29 @@ impl Gate for Meeting {
     }
 }
 
-/// Runs the no-op on two workers, where some jobs are held until others have entered, and says which were met.
+/// Runs the no-op by these words beside these files, where some jobs are held until others have entered, and says which were
+/// met.
+fn met_by<R: Threads + Sync + AllocGlobal + Abort>(
+    rt: &R,
+    words: &[&str],
+    files: &[&[u8]],
+    held: u64,
+    awaited: u64,
+) -> Result<u64, Fail> {
+    let gate = Meeting::new(0, held, awaited);
+    let ran = run_through(rt, words, NOOP, files, &HONEST, &gate)?;
+    let log = log_of(rt.alloc(), &[Line::Event("MM", 1, 0, 16, 2)])?;
+    assert_text(rt, "out on workers", ran.out.bytes(), log.as_str());
+    Ok(gate.met.load(Ordering::SeqCst))
+}
+
+/// Runs the no-op on two workers.
 fn met<R: Threads + Sync + AllocGlobal + Abort>(
     rt: &R,
     held: u64,
     awaited: u64,
 ) -> Result<u64, Fail> {
-    let gate = Meeting {
-        entered: AtomicU64::new(0),
-        met: AtomicU64::new(0),
-        held,
-        awaited,
-    };
-    let words = ["--workers", "2", "s"];
-    let ran = run_through(rt, &words, NOOP, &[], &HONEST, &gate)?;
-    let log = log_of(rt.alloc(), &[Line::Event("MM", 1, 0, 16, 2)])?;
-    assert_text(rt, "out on two workers", ran.out.bytes(), log.as_str());
-    Ok(gate.met.load(Ordering::SeqCst))
+    met_by(rt, &["--workers", "2", "s"], &[], held, awaited)
 }
 
 #[test]
@@ -176,5 +206,44 @@ fn jobs_are_drawn(rt: HostRuntime) -> Result<(), Fail> {
         let held = 1u64 << job;
         assert_eq!(rt; met(&rt, held, 31)?, held);
     }
+    Ok(())
+}
+
+/// A table of the Limit Checker makes a sixth job: each is drawn, and on six workers all six meet.
+#[test]
+fn six_jobs_are_drawn(rt: HostRuntime) -> Result<(), Fail> {
+    let limits = blank_file(rt.alloc(), "LC.WDT_Tbl", 512)?;
+    for job in 0..6u32 {
+        let held = 1u64 << job;
+        let words = ["--workers", "2", "s", "a"];
+        assert_eq!(rt; met_by(&rt, &words, &[&limits], held, 63)?, held);
+    }
+    let words = ["--workers", "6", "s", "a"];
+    assert_eq!(rt; met_by(&rt, &words, &[&limits], 63, 63)?, 63);
+    Ok(())
+}
+
+/// Four banks, over the first edge of which 32 bytes are filled.
+const FILL: &str = "epoch 1000\nregion RAM 0 200000\nstart\n\
+    send 1888C000000A08D80000FFF0000000205A\ntick\ntick\ntick\nend\n";
+
+/// Runs the fill on so many workers: each bank enters once, the idle ones too. Says which of those held were met.
+fn met_banks<R: Threads + Sync + AllocGlobal + Abort>(
+    rt: &R,
+    workers: &str,
+    held: u64,
+) -> Result<u64, Fail> {
+    let gate = Meeting::new(BANK, held, held);
+    let ran = run_through(rt, &["--workers", workers, "s"], FILL, &[], &HONEST, &gate)?;
+    assert_eq!(rt; ran.report, Report::at(Status::Done, 3));
+    assert_eq!(rt; gate.counts.load(Ordering::SeqCst), 0x01_01_01_01);
+    Ok(gate.met.load(Ordering::SeqCst))
+}
+
+#[test]
+fn banks_of_a_frame_meet(rt: HostRuntime) -> Result<(), Fail> {
+    assert_eq!(rt; met_banks(&rt, "1", 0)?, 0);
+    assert_eq!(rt; met_banks(&rt, "2", 3)?, 3);
+    assert_eq!(rt; met_banks(&rt, "16", 3)?, 3);
     Ok(())
 }

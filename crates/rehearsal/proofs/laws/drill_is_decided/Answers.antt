@@ -5,11 +5,11 @@ use Rattle.rehearsal.proofs.Decided.{not_written, drills_it, drill_ended, drill_
 use Rattle.rehearsal.proofs.laws.drill_is_decided.Goals as goal
 
 pub returns-clause-unmapped : goal.returns-clause-unmapped
-returns-clause-unmapped c = λ report asked crowd seen wrote_before wrote_now before after files k new file entry run some drill tells refuses.
-    let o = drills_it report asked crowd seen wrote_before wrote_now before after files k new run some drill tells in
-    drill_unmapped report.status report files crowd (reading (drill_of k)) o.0 new file entry refl some o.1 refuses
+returns-clause-unmapped c = λ r files k file entry run some drill refuses.
+    let o = drills_it r files k run some drill in
+    drill_unmapped r.report.status r.report files r.crowd (reading (drill_of k)) o.0 o.1 file entry refl some o.2 refuses
 
 pub returns-clause-ended : goal.returns-clause-ended
-returns-clause-ended c = λ report asked crowd seen wrote_before wrote_now before after files k new run some drill tells given kept.
-    let o = drills_it report asked crowd seen wrote_before wrote_now before after files k new run some drill tells in
-    drill_ended report.status report files crowd (reading (drill_of k)) o.0 new refl some o.1 given (λ failed. not_written report asked crowd seen wrote_before wrote_now before after run kept failed)
+returns-clause-ended c = λ r files k run some drill given kept.
+    let o = drills_it r files k run some drill in
+    drill_ended r.report.status r.report files r.crowd (reading (drill_of k)) o.0 o.1 refl some o.2 given (λ failed. not_written r run kept failed)

@@ -10,37 +10,37 @@ pub returns-clause-refused : goal.returns-clause-refused
 returns-clause-refused c = refused
 
 pub returns-clause-faulty : goal.returns-clause-faulty
-returns-clause-faulty c = faulty
+returns-clause-faulty c = λ r fault run some is. faulty r is.files fault run some is.well is.taken is.fails
 
 pub returns-clause-headless : goal.returns-clause-headless
-returns-clause-headless c = λ report asked crowd seen wrote_before wrote_now before after files text new line reason run some reads tells none bad.
-    let o = reads_it report asked crowd seen wrote_before wrote_now before after files text new run some reads tells in
-    by_bad report.status report files crowd (reading text) o.0 new line reason refl some o.1 (gives_none files (reading text) none) (λ _ cut. no_cut report.frames files crowd (reading text) o.0 new none cut) bad
+returns-clause-headless c = λ r files text line reason run some reads none bad.
+    let o = reads_it r files text run some reads in
+    by_bad r.report.status r.report files r.crowd (reading text) o.0 o.1 line reason refl some o.2 (gives_none files (reading text) none) (λ _ cut. no_cut r.report.frames files r.crowd (reading text) o.0 o.1 none cut) bad
 
 pub returns-clause-headless_open : goal.returns-clause-headless_open
-returns-clause-headless_open c = λ report asked crowd seen wrote_before wrote_now before after files text new run some reads tells none is_open.
-    let o = reads_it report asked crowd seen wrote_before wrote_now before after files text new run some reads tells in
-    by_open report.status report files crowd (reading text) o.0 new refl some o.1 (gives_none files (reading text) none) (λ _ cut. no_cut report.frames files crowd (reading text) o.0 new none cut) is_open
+returns-clause-headless_open c = λ r files text run some reads none is_open.
+    let o = reads_it r files text run some reads in
+    by_open r.report.status r.report files r.crowd (reading text) o.0 o.1 refl some o.2 (gives_none files (reading text) none) (λ _ cut. no_cut r.report.frames files r.crowd (reading text) o.0 o.1 none cut) is_open
 
 pub returns-clause-unmapped : goal.returns-clause-unmapped
-returns-clause-unmapped c = λ report asked crowd seen wrote_before wrote_now before after files text new file entry run some reads tells refuses.
-    let o = reads_it report asked crowd seen wrote_before wrote_now before after files text new run some reads tells in
-    by_unmapped report.status report files crowd (reading text) o.0 new file entry refl some o.1 refuses
+returns-clause-unmapped c = λ r files text file entry run some reads refuses.
+    let o = reads_it r files text run some reads in
+    by_unmapped r.report.status r.report files r.crowd (reading text) o.0 o.1 file entry refl some o.2 refuses
 
 pub returns-clause-unwritten : goal.returns-clause-unwritten
-returns-clause-unwritten c = λ report asked crowd seen wrote_before wrote_now before after run rose. written_at report.status report wrote_before wrote_now refl run.wrote_well rose
+returns-clause-unwritten c = λ r run rose. written_at r.report.status r.report r.wrote_before r.wrote_now refl run.wrote_well rose
 
 pub returns-clause-ended : goal.returns-clause-ended
-returns-clause-ended c = λ report asked crowd seen wrote_before wrote_now before after files text new run some reads tells given kept ended.
-    let o = reads_it report asked crowd seen wrote_before wrote_now before after files text new run some reads tells in
-    by_ended report.status report files crowd (reading text) o.0 new refl some o.1 given (λ failed _. not_written report asked crowd seen wrote_before wrote_now before after run kept failed) ended
+returns-clause-ended c = λ r files text run some runs ended.
+    let o = reads_it r files text run some runs.reads in
+    by_ended r.report.status r.report files r.crowd (reading text) o.0 o.1 refl some o.2 runs.given (λ failed _. not_written r run runs.written failed) ended
 
 pub returns-clause-bad : goal.returns-clause-bad
-returns-clause-bad c = λ report asked crowd seen wrote_before wrote_now before after files text new line reason run some reads tells given kept bad.
-    let o = reads_it report asked crowd seen wrote_before wrote_now before after files text new run some reads tells in
-    by_bad report.status report files crowd (reading text) o.0 new line reason refl some o.1 given (λ failed _. not_written report asked crowd seen wrote_before wrote_now before after run kept failed) bad
+returns-clause-bad c = λ r files text line reason run some runs bad.
+    let o = reads_it r files text run some runs.reads in
+    by_bad r.report.status r.report files r.crowd (reading text) o.0 o.1 line reason refl some o.2 runs.given (λ failed _. not_written r run runs.written failed) bad
 
 pub returns-clause-cut_off : goal.returns-clause-cut_off
-returns-clause-cut_off c = λ report asked crowd seen wrote_before wrote_now before after files text new run some reads tells given kept is_open.
-    let o = reads_it report asked crowd seen wrote_before wrote_now before after files text new run some reads tells in
-    by_open report.status report files crowd (reading text) o.0 new refl some o.1 given (λ failed _. not_written report asked crowd seen wrote_before wrote_now before after run kept failed) is_open
+returns-clause-cut_off c = λ r files text run some runs is_open.
+    let o = reads_it r files text run some runs.reads in
+    by_open r.report.status r.report files r.crowd (reading text) o.0 o.1 refl some o.2 runs.given (λ failed _. not_written r run runs.written failed) is_open

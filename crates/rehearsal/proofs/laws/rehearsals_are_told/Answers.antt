@@ -1,7 +1,7 @@
 use Rattle.rehearsal.proofs.laws.rehearsals_are_told.Goals as goal
 
 pub returns : goal.returns
-returns c = λ report asked crowd seen wrote_before wrote_now told held before after rehearses causes tells holds. record {
+returns c = λ r told held rehearses causes tells holds. record {
   rehearses = rehearses;
   read_failed = λ is. (causes.read_failed is).strictly tells;
   read_well = causes.read_well;

@@ -51,7 +51,7 @@ pub returns-clause-outcome : goal.returns-clause-outcome
 returns-clause-outcome g c =
     told_map c.in-Ok.ensures.content (λ before after first.
     runs_drill c.args.plan.now (crowd_in g.C.Subject.seen c.args.crowd.now) c.files.result.now c.run_drill.result c.in-Some.k c.take_files.new.files _ before after (sym c.in-Some.ensures.value) c.files.ensures.value first.0 first.1 first.2 c.in-Ok-load.ensures.loaded.well
-    (c.run_drill.ensures.well.1, c.run_drill.ensures.well.2) c.run_drill.ensures.outcome)
+    (c.run_drill.ensures.well.1, c.run_drill.ensures.well.2) (c.run_drill.ensures.outcome c.in-Some.k c.start-text.ensures))
 
 pub returns-clause-opening : goal.returns-clause-opening
 returns-clause-opening g c =

@@ -1,55 +1,34 @@
-use Rattle.std.proofs.Common.{◌≡◌, ◌∙◌, ap}
-use Rattle.fsw_outside.specs.TellingLaws.{told_map}
-use Rattle.rehearsal.specs.Words.{Asked, drill_in}
-use Rattle.rehearsal.specs.declared.report.Report.{Report}
-use Rattle.rehearsal.specs.declared.report.Status.TheVariants as statuses
-use Rattle.rehearsal.proofs.Completeness.{rehearses_complete, not_risen}
-use Rattle.rehearsal.proofs.Drilled.{rehearses_sums}
-use Rattle.rehearsal.proofs.Stages.{asked_once, beside_as, rehearses_as, is_opened, asks_nothing}
+use Rattle.std.proofs.Common.{◌∙◌, map}
+use Rattle.rehearsal.specs.Beside.{crowd_in}
+use Rattle.rehearsal.specs.Promise.{ShelfUse, shelf_use, SinkUse, sink_use}
+use Rattle.rehearsal.specs.PromiseLaws.{ends_refused, ends_without_memory}
+use Rattle.rehearsal.proofs.Promised.{carries_out, keeps_promise}
 use Rattle.rehearsal.proofs.rehearsing.vigil_with.Goals as goal
 
-pub returns-clause-complete : goal.returns-clause-complete
-returns-clause-complete g c = λ asked files bytes is plain loaded ended given well wrote after tells.
-    let o = c.carry_out.ensures.outcome after tells in
-    let same : c.in-Ok-Some.plan ≡ asked = asked_once _ c.in-Ok-Some.plan asked (c.in-Ok-Some.ensures ∙ c.in-Ok-Some.field-0-is) is in
-    let is_beside = beside_as c.in-Ok-Some.plan asked _ _ same c.in-Ok.ensures in
-    let whole = rehearses_as c.carry_out.result c.in-Ok-Some.plan asked _ _ _ o.0 after same is_beside o.2 in
-    let read = λ (failed : c.carry_out.result.status ≡ statuses.ReadFailed). not_risen _ after _ _ tells well (c.carry_out.ensures.causes.read_failed failed) in (
-      o.0,
-      o.1,
-      λ taken file.
-          rw c.told-2.ensures.same
-          (rehearses_complete c.carry_out.result asked _ _ o.0 after files bytes whole plain taken file loaded ended given read (λ reading some. is_opened _ _ _ c.in-Ok-Some.plan (ap (λ (a : Asked). drill_in a.scenario) same ∙ plain) (c.carry_out.ensures.opened reading))
-          (λ new told failed. not_risen _ new _ _ told wrote (c.carry_out.ensures.causes.write_failed failed))),
-    )
+pub returns-in-Ok-None : goal.returns-in-Ok-None
+returns-in-Ok-None g c =
+    rw c.told.ensures.same
+    (ends_refused c.at.result c.args.words.now (map g.C.Subject.seen c.args.subjects.items) g.S.Shelf.told g.S.Shelf.is_open g.S.Shelf.faults g.S.Shelf.mark c.args.shelf.now g.O.Sink.held g.O.Sink.faults c.args.out.now
+    (sink_use g.E.Sink.held g.E.Sink.faults c.args.err.now c.told.new.err) c.at.ensures (c.in-Ok-None.ensures ∙ c.in-Ok-None.field-0-is) c.told.ensures.told)
 
-pub returns-clause-complete_drill : goal.returns-clause-complete_drill
-returns-clause-complete_drill g c = λ asked files k is drilled loaded given well wrote after tells.
-    let o = c.carry_out.ensures.outcome after tells in
-    let same : c.in-Ok-Some.plan ≡ asked = asked_once _ c.in-Ok-Some.plan asked (c.in-Ok-Some.ensures ∙ c.in-Ok-Some.field-0-is) is in
-    let is_beside = beside_as c.in-Ok-Some.plan asked _ _ same c.in-Ok.ensures in
-    let whole = rehearses_as c.carry_out.result c.in-Ok-Some.plan asked _ _ _ o.0 after same is_beside o.2 in
-    let read = λ (failed : c.carry_out.result.status ≡ statuses.ReadFailed). not_risen _ after _ _ tells well (c.carry_out.ensures.causes.read_failed failed) in (
-      o.0,
-      o.1,
-      λ taken.
-          rw c.told-2.ensures.same
-          (rehearses_sums c.carry_out.result asked _ _ o.0 after files k whole drilled taken loaded given read
-          (λ new told failed. not_risen _ new _ _ told wrote (c.carry_out.ensures.causes.write_failed failed))),
-    )
+pub returns-in-Err : goal.returns-in-Err
+returns-in-Err g c =
+    rw c.told-in-Err.ensures.same
+    (ends_without_memory c.at-in-Err.result c.args.words.now (map g.C.Subject.seen c.args.subjects.items) g.S.Shelf.told g.S.Shelf.is_open g.S.Shelf.faults g.S.Shelf.mark c.args.shelf.now g.O.Sink.held g.O.Sink.faults c.args.out.now
+    (sink_use g.E.Sink.held g.E.Sink.faults c.args.err.now c.told-in-Err.new.err) c.at-in-Err.ensures c.told-in-Err.ensures.told)
 
-pub returns-clause-mark : goal.returns-clause-mark
-returns-clause-mark g c = λ asked is.
-    asks_nothing _ _ _ c.told-2.result.status c.in-Ok-Some.plan asked (asked_once _ c.in-Ok-Some.plan asked (c.in-Ok-Some.ensures ∙ c.in-Ok-Some.field-0-is) is) c.carry_out.ensures.mark
+pub returns-in_default : goal.returns-in_default
+returns-in_default g c =
+    rw c.told-in_default.ensures.same
+    (ends_without_memory c.at-in_default.result c.args.words.now (map g.C.Subject.seen c.args.subjects.items) g.S.Shelf.told g.S.Shelf.is_open g.S.Shelf.faults g.S.Shelf.mark c.args.shelf.now g.O.Sink.held g.O.Sink.faults c.args.out.now
+    (sink_use g.E.Sink.held g.E.Sink.faults c.args.err.now c.told-in_default.new.err) c.at-in_default.ensures c.told-in_default.ensures.told)
 
-pub returns-clause-opened : goal.returns-clause-opened
-returns-clause-opened g c = λ asked is read.
-    asks_nothing _ _ _ c.told-2.result.status c.in-Ok-Some.plan asked (asked_once _ c.in-Ok-Some.plan asked (c.in-Ok-Some.ensures ∙ c.in-Ok-Some.field-0-is) is)
-    (c.carry_out.ensures.opened (λ failed. read (ap (λ (report : Report). report.status) c.told-2.ensures.same ∙ failed)))
-
-pub returns-clause-outcome : goal.returns-clause-outcome
-returns-clause-outcome g c = λ asked is.
-    let same : c.in-Ok-Some.plan ≡ asked = asked_once _ c.in-Ok-Some.plan asked (c.in-Ok-Some.ensures ∙ c.in-Ok-Some.field-0-is) is in
-    let is_beside = beside_as c.in-Ok-Some.plan asked _ _ same c.in-Ok.ensures in
+pub returns : goal.returns
+returns g c =
+    let shelf = shelf_use g.S.Shelf.told g.S.Shelf.is_open g.S.Shelf.faults g.S.Shelf.mark c.args.shelf.now c.carry_out.new.shelf in
+    let out = sink_use g.O.Sink.held g.O.Sink.faults c.args.out.now c.carry_out.new.out in
+    let crowd = crowd_in g.C.Subject.seen c.in-Ok.crowd in
+    let carried = carries_out c.carry_out.result c.in-Ok-Some.plan crowd shelf out c.carry_out.ensures.outcome c.carry_out.ensures.opening c.carry_out.ensures.mark c.carry_out.ensures.opened c.carry_out.ensures.causes in
     rw c.told-2.ensures.same
-    (told_map c.carry_out.ensures.outcome (λ before after rehearses. rehearses_as c.carry_out.result c.in-Ok-Some.plan asked _ _ _ before after same is_beside rehearses))
+    (keeps_promise c.carry_out.result c.args.words.now c.in-Ok-Some.plan (map g.C.Subject.seen c.args.subjects.items) crowd shelf out (sink_use g.E.Sink.held g.E.Sink.faults c.args.err.now c.told-2.new.err)
+    (c.in-Ok-Some.ensures ∙ c.in-Ok-Some.field-0-is) c.in-Ok.ensures c.carry_out.ensures.accepted carried c.carry_out.ensures.file_refused c.carry_out.ensures.no_memory c.carry_out.ensures.causes c.told-2.ensures.told)

@@ -2,7 +2,7 @@ use Rattle.std.proofs.Common.{◌∙◌, sym, subst, Option, String, Global}
 use Rattle.std.specs.Prelude.{string_bytes}
 use Rattle.std.specs.Vec.Iter.{into_iter_steps}
 use Rattle.vigil.proofs.GivenWords.{first_gone, all_gone}
-use Rattle.vigil.proofs.words_behind_name.Goals as goal
+use Rattle.vigil.proofs.program.words_behind_name.Goals as goal
 
 pub words-init : goal.words-init
 words-init c =
