@@ -1,6 +1,7 @@
 //! One file a topic.
 
 mod banks;
+mod calls;
 mod crews;
 mod crowds;
 mod outside;
