@@ -4,7 +4,7 @@ use Rattle.fsw_outside.specs.Files.{Content, file_named}
 use Rattle.scenario.specs.Texts.{Text, reading}
 use Rattle.subjects.specs.Plans.{Simulated}
 use Rattle.frame_exec.specs.Tables.{tables_fault}
-use Rattle.frame_exec.specs.declared.loading.TablesFault.{TablesFault}
+use Rattle.active_tables.specs.declared.loading.TablesFault.{TablesFault}
 use Rattle.rehearsal.specs.Words.{Asked, drill_in}
 use Rattle.rehearsal.specs.Files.{Refusal, first_refusal, AreTaken}
 use Rattle.rehearsal.specs.Outcome.{IsText, GivesReads, Seen, Rehearses}
