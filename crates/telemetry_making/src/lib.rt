@@ -3,7 +3,7 @@
 #![tactic(auto)]
 
 pub mod cs;
-pub mod events;
+pub mod event_making;
 pub mod hs;
 pub mod lc;
 pub mod md;

@@ -6,7 +6,7 @@ use Rattle.md_dwell.specs.Messages.{md_codes}
 use Rattle.cs_slices.specs.Messages.{cs_codes}
 use Rattle.sc_sequences.specs.Messages.{sc_codes}
 use Rattle.lc_watch.specs.Messages.{lc_codes}
-use Rattle.telemetry_making.proofs.events.tables_are_whole.Goals as goal
+use Rattle.telemetry_making.proofs.event_making.tables_are_whole.Goals as goal
 
 pub returns-clause-hs_done : goal.returns-clause-hs_done
 unfolding event_table hs_events mm_events md_events cs_events sc_events lc_events table_events hs_codes mm_codes md_codes cs_codes sc_codes lc_codes

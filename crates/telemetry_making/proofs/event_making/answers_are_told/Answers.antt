@@ -38,7 +38,7 @@ use Rattle.lc_watch.specs.Verdicts.{point_refusal, lc_protocol, number_of as lc_
 use Rattle.lc_watch.specs.declared.actionpoints.ActRow.{ActRow}
 use Rattle.telemetry_making.specs.Told.{HasEvent, HasOwn}
 use Rattle.telemetry_making.proofs.AnswerLemmas.{answered, either}
-use Rattle.telemetry_making.proofs.events.answers_are_told.Goals as goal
+use Rattle.telemetry_making.proofs.event_making.answers_are_told.Goals as goal
 
 -- ---- Memory Manager
 

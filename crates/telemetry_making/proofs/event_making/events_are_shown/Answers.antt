@@ -19,7 +19,7 @@ use Rattle.telemetry.specs.Telemetry.{named}
 use Rattle.telemetry.specs.Dictionary.{dictionary, hs_rows, mm_rows, md_rows, cs_rows, sc_rows, lc_rows, event_rows, row, count as counted, long_count, type_of, event_message_fields}
 use Rattle.telemetry_making.specs.Making.{IsShownWith}
 use Rattle.telemetry_making.proofs.MakingLemmas.{content_from, header_row, shown_with, whole16, whole32, bytes16, bytes32}
-use Rattle.telemetry_making.proofs.events.events_are_shown.Goals as goal
+use Rattle.telemetry_making.proofs.event_making.events_are_shown.Goals as goal
 
 front_of : (n : ℕ) (xs ys : List ℕ) → length xs ≡ n → take n (xs ++ ys) ≡ xs
 front_of zero [] ys e = refl

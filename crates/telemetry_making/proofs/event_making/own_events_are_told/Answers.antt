@@ -13,7 +13,7 @@ use Rattle.sc_sequences.specs.Turns.{ending_items, head_items}
 use Rattle.lc_watch.specs.Messages.{lc_name}
 use Rattle.telemetry_making.specs.Told.{AreToldItems}
 use Rattle.telemetry_making.proofs.AnswerLemmas.{either}
-use Rattle.telemetry_making.proofs.events.own_events_are_told.Goals as goal
+use Rattle.telemetry_making.proofs.event_making.own_events_are_told.Goals as goal
 
 pub returns-clause-monitors : goal.returns-clause-monitors
 unfolding event_row event_table hs_events mm_events md_events cs_events sc_events lc_events table_events event_out hs_name
