@@ -195,7 +195,7 @@ stands_line old middle new text piece gave said answer at s found keeps same tel
     }
 
 -- no more bytes come
-gave_all : (r : LogReader) (text : List ℕ) (gave : List (Result LogLine LineFault)) → Stands r text gave → gave ≡ log_said text
+pub gave_all : (r : LogReader) (text : List ℕ) (gave : List (Result LogLine LineFault)) → Stands r text gave → gave ≡ log_said text
 unfolding log_said
 gave_all r text gave s = s.says ∙ ap (map line_said) (sym (ended_is s.lines s.last) ∙ ap ended (sym s.parts))
 
