@@ -1,0 +1,3 @@
+pub mod WritingLemmas
+pub mod TimeLemmas
+pub mod PlanLemmas
