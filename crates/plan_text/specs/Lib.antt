@@ -1,3 +1,4 @@
 pub mod Verbs
 pub mod Lines
 pub mod Plans
+pub mod Worked

@@ -1,0 +1,34 @@
+//! Laws of plans, as contracts of functions that do nothing.
+ghost use Rattle.std.specs.Prelude.{◌≡◌, ◌∷◌, [], ℕ, List, Ok, Err, codes};
+ghost use Rattle.row_forms.specs.Words.{words};
+ghost use Rattle.row_forms.specs.declared.fault.Reason.TheVariants as word_reasons;
+ghost use Rattle.telecommands.specs.declared.fault.CommandFault.TheVariants as command_faults;
+ghost use Rattle.telecommands.specs.Dictionary.{dictionary};
+ghost use Rattle.plan_text.specs.declared.fault.PlanReason.TheVariants as reasons;
+ghost use Rattle.plan_text.specs.declared.stage.Stage.TheVariants as stages;
+ghost use Rattle.plan_text.specs.Plans.{scenario_said, line_said, fault_on, word_fault};
+ghost use Rattle.plan_text.specs.Worked.{plan, scenario, at_frame};
+
+/// A plan with each kind of line, and its scenario.
+pub fn worked_plan()
+    ensures { scenario_said dictionary plan ≡ Ok scenario }
+{}
+
+/// Faults with their lines: what stands out of its place, times that go back or lie before the epoch, an end that is missing, that comes
+/// too early or that isn't the last line, and a telecommand's word.
+pub fn worked_faults()
+    ensures place { scenario_said [] (codes "epoch 5\nhold MM\n") ≡ Err (fault_on 2 reasons.Place) }
+    ensures word { scenario_said [] (codes "epoch 5\n\nplay\n") ≡ Err (fault_on 3 reasons.Word) }
+    ensures epoch { scenario_said [] (codes "epoch 4294000001\n") ≡ Err (fault_on 1 reasons.Epoch) }
+    ensures past { scenario_said [] (codes "epoch 5\nstart\nat +0:00:02\nframe 1\nend\n") ≡ Err (fault_on 4 reasons.Past) }
+    ensures early { scenario_said [] (codes "epoch 5\nstart\nat 4\nend\n") ≡ Err (fault_on 3 reasons.Early) }
+    ensures time { scenario_said [] (codes "epoch 5\nstart\nat 0:00:02\nend\n") ≡ Err (fault_on 3 (word_fault 2 word_reasons.Time)) }
+    ensures begun { scenario_said [] (codes "epoch 5\nstart\nhold MM\nend at 5\n") ≡ Err (fault_on 4 reasons.Begun) }
+    ensures end { scenario_said [] (codes "epoch 5\nstart\ntick\n") ≡ Err (fault_on 4 reasons.End) }
+    ensures behind { scenario_said [] (codes "epoch 5\nstart\nend\n# late\ntick\n") ≡ Err (fault_on 5 reasons.Behind) }
+    ensures command { scenario_said dictionary (codes "epoch 5\nstart\nsend mm.peek width=8 addres=1\n")
+        ≡ Err (fault_on 3 (reasons.Command (command_faults.Row (record { word = 4; reason = word_reasons.Key })))) }
+    ensures items { line_said [] (at_frame 3 64) (words (codes "hold MM")) ≡ Err reasons.Items }
+    ensures frames { line_said [] (at_frame 100000 0) (words (codes "tick")) ≡ Err reasons.Frames }
+    ensures last { line_said [] (at_frame 0 0) (words (codes "frame 100001")) ≡ Err reasons.Frames }
+{}
