@@ -1,3 +1,4 @@
 pub mod WritingLemmas
 pub mod TimeLemmas
 pub mod PlanLemmas
+pub mod ItemLemmas

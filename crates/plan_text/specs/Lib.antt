@@ -1,4 +1,5 @@
 pub mod Verbs
 pub mod Lines
 pub mod Plans
+pub mod Items
 pub mod Worked

@@ -6,7 +6,10 @@ ghost use Rattle.telecommands.specs.declared.fault.CommandFault.TheVariants as c
 ghost use Rattle.telecommands.specs.Dictionary.{dictionary};
 ghost use Rattle.plan_text.specs.declared.fault.PlanReason.TheVariants as reasons;
 ghost use Rattle.plan_text.specs.declared.stage.Stage.TheVariants as stages;
-ghost use Rattle.plan_text.specs.Plans.{scenario_said, line_said, fault_on, word_fault};
+ghost use Rattle.telecommands.specs.declared.command.Command.{Command};
+ghost use Rattle.table_texts.specs.Lines.{kept_of};
+ghost use Rattle.plan_text.specs.Items.{items_of, plan_items};
+ghost use Rattle.plan_text.specs.Plans.{scenario_said, plan_said, line_said, fault_on, word_fault};
 ghost use Rattle.plan_text.specs.Worked.{plan, scenario, at_frame};
 
 /// A plan with each kind of line, and its scenario.
@@ -31,4 +34,11 @@ pub fn worked_faults()
     ensures items { line_said [] (at_frame 3 64) (words (codes "hold MM")) ≡ Err reasons.Items }
     ensures frames { line_said [] (at_frame 100000 0) (words (codes "tick")) ≡ Err reasons.Frames }
     ensures last { line_said [] (at_frame 0 0) (words (codes "frame 100001")) ≡ Err reasons.Frames }
+{}
+
+/// Each item stands in the frame that has come where the plan says it: the number of ticks before it in the scenario is that frame's.
+/// No item is lost, and none is added.
+pub fn items_keep_their_frames()
+    ensures { (cs : List Command) (text : List ℕ) (lines : List (List (List ℕ))) → plan_said cs text ≡ Ok lines
+        → items_of 0 lines ≡ plan_items cs stages.Opening (kept_of 1 text) }
 {}
