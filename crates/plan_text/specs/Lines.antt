@@ -3,10 +3,14 @@ use Rattle.std.specs.Prelude.{ℕ, List, [], ◌∷◌, ◌++◌, codes}
 use Rattle.packet_forms.specs.Hex.{hex}
 use Rattle.row_forms.specs.Rows.{spaced}
 
--- the text of a line, by its words
+-- a line, by its words: with a space between two of them
+abbrev pub line_bytes : List (List ℕ) → List ℕ
+line_bytes [] = []
+line_bytes (w ∷ ws) = w ++ spaced ws
+
+-- the text of a line
 abbrev pub line_text : List (List ℕ) → List ℕ
-line_text [] = 10 ∷ []
-line_text (w ∷ ws) = w ++ (spaced ws ++ 10 ∷ [])
+line_text line = line_bytes line ++ 10 ∷ []
 
 -- the text of lines
 unfoldable pub text_of : List (List (List ℕ)) → List ℕ
