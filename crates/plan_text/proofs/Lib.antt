@@ -2,3 +2,5 @@ pub mod WritingLemmas
 pub mod TimeLemmas
 pub mod PlanLemmas
 pub mod ItemLemmas
+pub mod WordLemmas
+pub mod MadeLemmas

@@ -2,4 +2,5 @@ pub mod Verbs
 pub mod Lines
 pub mod Plans
 pub mod Items
+pub mod Readings
 pub mod Worked

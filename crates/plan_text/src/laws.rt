@@ -1,5 +1,6 @@
 //! Laws of plans, as contracts of functions that do nothing.
-ghost use Rattle.std.specs.Prelude.{◌≡◌, ◌∷◌, [], ℕ, List, Ok, Err, codes};
+ghost use Rattle.std.specs.Prelude.{◌≡◌, ◌∷◌, [], ℕ, List, Ok, Err, codes, map, true};
+ghost use Rattle.std.specs.List.{AllByRecursion, slice_split};
 ghost use Rattle.row_forms.specs.Words.{words};
 ghost use Rattle.row_forms.specs.declared.fault.Reason.TheVariants as word_reasons;
 ghost use Rattle.telecommands.specs.declared.fault.CommandFault.TheVariants as command_faults;
@@ -8,6 +9,12 @@ ghost use Rattle.plan_text.specs.declared.fault.PlanReason.TheVariants as reason
 ghost use Rattle.plan_text.specs.declared.stage.Stage.TheVariants as stages;
 ghost use Rattle.telecommands.specs.declared.command.Command.{Command};
 ghost use Rattle.table_texts.specs.Lines.{kept_of};
+ghost use Rattle.telecommands.specs.Commands.{are_good};
+ghost use Rattle.scenario.specs.Words.{words as scenario_words};
+ghost use Rattle.scenario.specs.Standing.{is_lf};
+ghost use Rattle.scenario.specs.Texts.{whole_lines};
+ghost use Rattle.plan_text.specs.Lines.{line_bytes, text_of};
+ghost use Rattle.plan_text.specs.Readings.{as_line};
 ghost use Rattle.plan_text.specs.Items.{items_of, plan_items};
 ghost use Rattle.plan_text.specs.Plans.{scenario_said, plan_said, line_said, fault_on, word_fault};
 ghost use Rattle.plan_text.specs.Worked.{plan, scenario, at_frame};
@@ -41,4 +48,12 @@ pub fn worked_faults()
 pub fn items_keep_their_frames()
     ensures { (cs : List Command) (text : List ℕ) (lines : List (List (List ℕ))) → plan_said cs text ≡ Ok lines
         → items_of 0 lines ≡ plan_items cs stages.Opening (kept_of 1 text) }
+{}
+
+/// A scenario that is made has the plan's lines, one by one, and each of them has its words: as a scenario's reader cuts it.
+pub fn scenarios_have_their_lines()
+    ensures lines { (cs : List Command) (text : List ℕ) (lines : List (List (List ℕ))) → are_good cs ≡ true → plan_said cs text ≡ Ok lines
+        → whole_lines true (slice_split is_lf (text_of lines)) ≡ map as_line lines }
+    ensures words { (cs : List Command) (text : List ℕ) (lines : List (List (List ℕ))) → are_good cs ≡ true → plan_said cs text ≡ Ok lines
+        → AllByRecursion (λ line. scenario_words (line_bytes line) ≡ line) lines }
 {}
