@@ -4,3 +4,5 @@ pub mod PlanLemmas
 pub mod ItemLemmas
 pub mod WordLemmas
 pub mod MadeLemmas
+pub mod ByteLemmas
+pub mod SendLemmas

@@ -40,7 +40,7 @@ use Rattle.plan_text.proofs.WordLemmas.{text_lines}
 -- ---- packets
 
 -- the first command of a name is good, as all are
-named_good : (cs : List Command) (name : List ℕ) (c : Command) → are_good cs ≡ true → named cs name ≡ Some c → is_good c ≡ true
+pub named_good : (cs : List Command) (name : List ℕ) (c : Command) → are_good cs ≡ true → named cs name ≡ Some c → is_good c ≡ true
 unfolding are_good named
 named_good [] name c good e = absurd (cc)
 named_good (d ∷ cs) name c good e =
@@ -50,7 +50,7 @@ named_good (d ∷ cs) name c good e =
   by true e first more = let same : d ≡ c = cc in rw (← same) first
   by false e first more = more e
 
-abbrev IsFaultless : Result (List ℕ) CommandFault → Type 0
+abbrev pub IsFaultless : Result (List ℕ) CommandFault → Type 0
 IsFaultless (Ok packet) = fault_of packet ≡ None
 IsFaultless (Err fault) = Unit {0}
 

@@ -1,5 +1,5 @@
 //! Laws of plans, as contracts of functions that do nothing.
-ghost use Rattle.std.specs.Prelude.{◌≡◌, ◌∷◌, [], ℕ, List, Ok, Err, codes, map, true};
+ghost use Rattle.std.specs.Prelude.{◌≡◌, ◌∷◌, [], ℕ, List, Ok, Err, codes, map, true, Some};
 ghost use Rattle.std.specs.List.{AllByRecursion, slice_split};
 ghost use Rattle.row_forms.specs.Words.{words};
 ghost use Rattle.row_forms.specs.declared.fault.Reason.TheVariants as word_reasons;
@@ -11,12 +11,15 @@ ghost use Rattle.telecommands.specs.declared.command.Command.{Command};
 ghost use Rattle.table_texts.specs.Lines.{kept_of};
 ghost use Rattle.telecommands.specs.Commands.{are_good};
 ghost use Rattle.scenario.specs.Words.{words as scenario_words};
+ghost use Rattle.scenario.specs.declared.sentence.Place.{Place};
+ghost use Rattle.scenario.specs.declared.sentence.Sentence.TheVariants as says;
+ghost use Rattle.scenario.specs.Sentences.{is_in_frames, line_says};
 ghost use Rattle.scenario.specs.Standing.{is_lf};
 ghost use Rattle.scenario.specs.Texts.{whole_lines};
-ghost use Rattle.plan_text.specs.Lines.{line_bytes, text_of};
+ghost use Rattle.plan_text.specs.Lines.{line_bytes, text_of, sent_line};
 ghost use Rattle.plan_text.specs.Readings.{as_line};
 ghost use Rattle.plan_text.specs.Items.{items_of, plan_items};
-ghost use Rattle.plan_text.specs.Plans.{scenario_said, plan_said, line_said, fault_on, word_fault};
+ghost use Rattle.plan_text.specs.Plans.{scenario_said, plan_said, packet_sent, line_said, fault_on, word_fault};
 ghost use Rattle.plan_text.specs.Worked.{plan, scenario, at_frame};
 
 /// A plan with each kind of line, and its scenario.
@@ -56,4 +59,10 @@ pub fn scenarios_have_their_lines()
         → whole_lines true (slice_split is_lf (text_of lines)) ≡ map as_line lines }
     ensures words { (cs : List Command) (text : List ℕ) (lines : List (List (List ℕ))) → are_good cs ≡ true → plan_said cs text ≡ Ok lines
         → AllByRecursion (λ line. scenario_words (line_bytes line) ≡ line) lines }
+{}
+
+/// The line of a `send` is read by a scenario's reader, wherever it may stand, as the packet that the words behind `send` say.
+pub fn sent_lines_say()
+    ensures { (cs : List Command) (epoch : ℕ) (ws : List (List ℕ)) (place : Place) (packet : List ℕ) → are_good cs ≡ true → is_in_frames place ≡ true
+        → packet_sent cs epoch ws ≡ Ok packet → line_says place (line_bytes (sent_line packet)) ≡ Ok (Some (says.Send packet)) }
 {}
