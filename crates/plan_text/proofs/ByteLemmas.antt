@@ -1,9 +1,8 @@
 -- Lemmas on the bytes of telecommands: each is below 256.
-use Rattle.std.proofs.Common.{◌≡◌, ℕ, zero, suc, ◌+◌, ◌-◌, ◌*◌, ◌/◌, ◌%◌, ◌<◌, ◌≤◌, Bool, true, false, ◌&&◌, ◌||◌, List, [], ◌∷◌, ◌++◌, length, Option, Some, None, refl, arith}
-use Rattle.std.specs.Prelude.{◌==◌, if◌then◌else◌, nat_lt, nat_le, replicate, codes, bit_xor, option_map, option_and_then, Result, Ok, Err}
+use Rattle.std.proofs.Common.{◌≡◌, ℕ, zero, suc, ◌+◌, ◌-◌, ◌*◌, ◌<◌, Bool, true, false, ◌&&◌, List, [], ◌∷◌, ◌++◌, length, Option, Some, None, refl, arith}
+use Rattle.std.specs.Prelude.{if◌then◌else◌, nat_lt, nat_le, replicate, codes, bit_xor, option_map, option_and_then, Result, Ok, Err}
 use Rattle.std.specs.Char.{is_digit, digit_value}
 use Rattle.std.specs.List.{AllByRecursion, fold, flat_map, list_all}
-use Rattle.std.specs.Str.{bytes_eq}
 use Rattle.std.proofs.lemmas.Bool.Decides.{nat_tests}
 use Rattle.std.proofs.lemmas.Nat.{xor_of_8}
 use Rattle.packet_forms.specs.Built.{command_of, with_checksum, primary_header}
@@ -16,9 +15,8 @@ use Rattle.packet_forms.specs.declared.packet.PacketFault.{PacketFault}
 use Rattle.row_forms.specs.Words.{before, hex_said, name_said}
 use Rattle.row_forms.specs.Lists.{parts}
 use Rattle.row_forms.specs.Numbers.{number_bytes, number_said}
-use Rattle.row_forms.specs.Values.{steps_said, steps_bytes, expression_of, expression_said, value_said, reason_of}
-use Rattle.row_forms.specs.Rows.{with_front, with_check, fault_at, behind_key, value_or, keyed_said, field_said, then_said, end_said, row_said}
-use Rattle.row_forms.specs.declared.field.Choice.{Choice}
+use Rattle.row_forms.specs.Values.{steps_said, expression_of, expression_said, value_said, reason_of}
+use Rattle.row_forms.specs.Rows.{with_front, with_check, behind_key, value_or, keyed_said, field_said, then_said, row_said}
 use Rattle.row_forms.specs.declared.field.Kind.{Kind}
 use Rattle.row_forms.specs.declared.field.Kind.TheVariants.{Number, Name, Block, Expression}
 use Rattle.row_forms.specs.declared.field.Width.{Width}
@@ -29,7 +27,6 @@ use Rattle.row_forms.specs.declared.fault.Reason.{Reason}
 use Rattle.row_forms.specs.declared.fault.RowFault.{RowFault}
 use Rattle.row_forms.proofs.TextLemmas.{all_append}
 use Rattle.telecommands.specs.declared.command.Command.{Command}
-use Rattle.telecommands.specs.declared.fault.CommandFault.{CommandFault}
 use Rattle.telecommands.specs.declared.fault.CommandFault.TheVariants as faults
 use Rattle.telecommands.specs.Commands.{is_good, are_good, named, named_said, sent, whole_packet, packet_said, word_said, command_said}
 use Rattle.telecommands.proofs.CommandLemmas.{good_is, and_both}

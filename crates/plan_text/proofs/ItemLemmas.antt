@@ -1,5 +1,5 @@
 -- Lemmas on the items of plans and of their scenarios.
-use Rattle.std.proofs.Common.{◌≡◌, ℕ, zero, suc, ◌+◌, ◌-◌, ◌<◌, ◌≤◌, Bool, true, false, ◌&&◌, List, [], ◌∷◌, ◌++◌, Option, Some, None, refl, ap, sym, ◌∙◌, arith, append_assoc, append-nil}
+use Rattle.std.proofs.Common.{◌≡◌, ℕ, zero, suc, ◌+◌, ◌-◌, ◌≤◌, Bool, true, false, ◌&&◌, List, [], ◌∷◌, ◌++◌, Option, Some, None, refl, ap, sym, ◌∙◌, arith, append_assoc, append-nil}
 use Rattle.std.specs.Prelude.{◌==◌, if◌then◌else◌, nat_lt, replicate, codes, Result, Ok, Err}
 use Rattle.std.specs.Str.{bytes_eq}
 use Rattle.std.proofs.lemmas.Bool.Decides.{nat_tests}
@@ -18,25 +18,25 @@ use Rattle.plan_text.specs.declared.verb.Verb.{Verb}
 use Rattle.plan_text.specs.declared.verb.Verb.TheVariants as verbs
 use Rattle.plan_text.specs.Verbs.{verb_of}
 use Rattle.plan_text.specs.Lines.{tick, end, sent_line}
-use Rattle.plan_text.specs.Plans.{◌>>=◌, Made, passed, none, one, or_else, word_fault, epoch_line, start_line, moved, forwarded, closed, last_of, frame_of_time, time_line, at_line, frame_line, tick_line, end_line, one_more, item_line, packet_sent, as_plan, send_line, course_line, header_line, opening_line, staged, of_verb, line_said, then_lines, with_lines, lines_said, plan_said, finished, fault_on}
+use Rattle.plan_text.specs.Plans.{◌>>=◌, Made, passed, none, one, or_else, word_fault, epoch_line, start_line, moved, forwarded, closed, last_of, time_line, end_line, item_line, packet_sent, as_plan, course_line, header_line, opening_line, of_verb, line_said, then_lines, with_lines, lines_said, plan_said, finished}
 use Rattle.plan_text.specs.Items.{FrameItem, item_at, verb_in, items_by, ticks_by, ticks_in, items_of, sent_item, course_items, staged_items, line_items, items_behind, plan_items}
 use Rattle.plan_text.proofs.PlanLemmas.{lines_cons}
 
 -- ---- lines of a scenario
 
-items_nil : (n : ℕ) → items_of n [] ≡ []
+pub items_nil : (n : ℕ) → items_of n [] ≡ []
 unfolding items_of
 items_nil n = refl
 
-items_cons : (n : ℕ) (line : List (List ℕ)) (more : List (List (List ℕ))) → items_of n (line ∷ more) ≡ items_by n (verb_in line) line ++ items_of (n + ticks_by (verb_in line)) more
+pub items_cons : (n : ℕ) (line : List (List ℕ)) (more : List (List (List ℕ))) → items_of n (line ∷ more) ≡ items_by n (verb_in line) line ++ items_of (n + ticks_by (verb_in line)) more
 unfolding items_of
 items_cons n line more = refl
 
-ticks_cons : (line : List (List ℕ)) (more : List (List (List ℕ))) → ticks_in (line ∷ more) ≡ ticks_by (verb_in line) + ticks_in more
+pub ticks_cons : (line : List (List ℕ)) (more : List (List (List ℕ))) → ticks_in (line ∷ more) ≡ ticks_by (verb_in line) + ticks_in more
 unfolding ticks_in
 ticks_cons line more = refl
 
-ticks_nil : ticks_in [] ≡ 0
+pub ticks_nil : ticks_in [] ≡ 0
 unfolding ticks_in
 ticks_nil = refl
 

@@ -6,3 +6,4 @@ pub mod WordLemmas
 pub mod MadeLemmas
 pub mod ByteLemmas
 pub mod SendLemmas
+pub mod FrameLemmas

@@ -1,12 +1,11 @@
 -- Lemmas on the lines that a plan makes: they are lines of words.
-use Rattle.std.proofs.Common.{◌≡◌, ℕ, zero, suc, ◌+◌, ◌-◌, ◌<◌, ◌≤◌, ◌*◌, Bool, true, false, ◌&&◌, List, [], ◌∷◌, ◌++◌, length, map, Option, Some, None, refl, ap, sym, ◌∙◌, arith, subst}
+use Rattle.std.proofs.Common.{◌≡◌, ℕ, zero, suc, ◌+◌, ◌-◌, ◌<◌, ◌≤◌, Bool, true, false, ◌&&◌, List, [], ◌∷◌, ◌++◌, length, Option, Some, None, refl, arith, subst}
 use Rattle.std.specs.Prelude.{◌==◌, if◌then◌else◌, nat_lt, nat_le, replicate, codes, Result, Ok, Err}
 use Rattle.std.specs.List.{AllByRecursion}
 use Rattle.std.specs.Str.{bytes_eq}
 use Rattle.std.proofs.lemmas.Bool.Decides.{nat_tests}
-use Rattle.packet_forms.specs.Built.{command_of, IsCommandOf}
+use Rattle.packet_forms.specs.Built.{command_of}
 use Rattle.packet_forms.specs.Faults.{fault_of}
-use Rattle.packet_forms.specs.Packets.{IsPacket}
 use Rattle.packet_forms.specs.Hex.{hex}
 use Rattle.packet_forms.specs.declared.packet.PacketFault.{PacketFault}
 use Rattle.packet_forms.proofs.Forms.{packet_of_none, none_of_packet, command_reads_back}
@@ -20,7 +19,7 @@ use Rattle.telecommands.specs.declared.command.Command.{Command}
 use Rattle.telecommands.specs.declared.fault.CommandFault.{CommandFault}
 use Rattle.telecommands.specs.declared.fault.CommandFault.TheVariants as faults
 use Rattle.telecommands.specs.Commands.{is_good, are_good, named, named_said, sent, whole_packet, packet_said, word_said, command_said}
-use Rattle.telecommands.proofs.CommandLemmas.{IsGood, good_is, and_both}
+use Rattle.telecommands.proofs.CommandLemmas.{good_is, and_both}
 use Rattle.table_texts.specs.Lines.{Numbered, kept_of}
 use Rattle.plan_text.specs.declared.fault.PlanReason.{PlanReason}
 use Rattle.plan_text.specs.declared.fault.PlanReason.TheVariants as reasons
@@ -32,9 +31,8 @@ use Rattle.plan_text.specs.declared.verb.Verb.{Verb}
 use Rattle.plan_text.specs.declared.verb.Verb.TheVariants as verbs
 use Rattle.plan_text.specs.Verbs.{verb_of}
 use Rattle.plan_text.specs.Lines.{tick, end, sent_line}
-use Rattle.plan_text.specs.Plans.{◌>>=◌, Made, passed, none, one, or_else, word_fault, epoch_line, start_line, moved, forwarded, closed, last_of, time_line, at_line, frame_line, tick_line, end_line, item_line, sent_by, packet_sent, as_plan, send_line, course_line, header_line, opening_line, of_verb, line_said, then_lines, with_lines, lines_said, plan_said, finished}
+use Rattle.plan_text.specs.Plans.{◌>>=◌, Made, passed, none, one, or_else, word_fault, moved, forwarded, closed, last_of, time_line, end_line, item_line, sent_by, packet_sent, as_plan, course_line, header_line, opening_line, of_verb, line_said, then_lines, with_lines, lines_said, plan_said, finished}
 use Rattle.plan_text.specs.Readings.{IsTextWord, IsTextLine}
-use Rattle.plan_text.proofs.PlanLemmas.{lines_cons}
 use Rattle.plan_text.proofs.WordLemmas.{text_lines}
 
 -- ---- packets
@@ -46,9 +44,9 @@ named_good [] name c good e = absurd (cc)
 named_good (d ∷ cs) name c good e =
     let parts = and_both (is_good d) (are_good cs) good in
     by (bytes_eq d.name.now name) e parts.0 (named_good cs name c parts.1) where
-  by : (b : Bool) → (if b then Some d else named cs name) ≡ Some c → is_good d ≡ true → (named cs name ≡ Some c → is_good c ≡ true) → is_good c ≡ true
-  by true e first more = let same : d ≡ c = cc in rw (← same) first
-  by false e first more = more e
+      by : (b : Bool) → (if b then Some d else named cs name) ≡ Some c → is_good d ≡ true → (named cs name ≡ Some c → is_good c ≡ true) → is_good c ≡ true
+      by true e first more = let same : d ≡ c = cc in rw (← same) first
+      by false e first more = more e
 
 abbrev pub IsFaultless : Result (List ℕ) CommandFault → Type 0
 IsFaultless (Ok packet) = fault_of packet ≡ None
@@ -105,16 +103,16 @@ plain_word : (w : List ℕ) → 0 < length w → AllByRecursion IsPlain w → Is
 plain_word w some all = (some, all_map IsPlain (λ b. (b == 32) ≡ false) (λ b p. plain_no 32 b (omega arith) p) w all, all_map IsPlain (λ b. (b == 10) ≡ false) (λ b p. plain_no 10 b (omega arith) p) w all)
 
 tick_line_is : IsTextLine tick
-tick_line_is = ((omega arith, (refl, (refl, (refl, (refl, tt)))), (refl, (refl, (refl, (refl, tt))))), tt)
+tick_line_is = ((omega arith, (refl, (refl, (refl, (refl, tt)))), (refl, (refl, (refl, (refl, tt))))), refl, tt)
 
 end_line_is : IsTextLine end
-end_line_is = ((omega arith, (refl, (refl, (refl, tt))), (refl, (refl, (refl, tt)))), tt)
+end_line_is = ((omega arith, (refl, (refl, (refl, tt))), (refl, (refl, (refl, tt)))), refl, tt)
 
 sent_line_is : (packet : List ℕ) → fault_of packet ≡ None → IsTextLine (sent_line packet)
 sent_line_is packet good =
     let long = (packet_of_none packet good).long in
     let size = hex_length packet in
-    ((omega arith, (refl, (refl, (refl, (refl, tt)))), (refl, (refl, (refl, (refl, tt))))), (plain_word (hex packet) (omega (arith, long, size)) (hex_is_plain packet), tt))
+    ((omega arith, (refl, (refl, (refl, (refl, tt)))), (refl, (refl, (refl, (refl, tt))))), refl, (plain_word (hex packet) (omega (arith, long, size)) (hex_is_plain packet), tt))
 
 abbrev AreTextLines : List (List (List ℕ)) → Type 0
 AreTextLines lines = AllByRecursion IsTextLine lines

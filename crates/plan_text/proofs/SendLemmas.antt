@@ -1,5 +1,5 @@
 -- Lemmas on the lines that send packets.
-use Rattle.std.proofs.Common.{◌≡◌, ℕ, ◌+◌, ◌*◌, ◌<◌, ◌≤◌, true, List, [], ◌∷◌, ◌++◌, length, Some, None, Ok, refl, ap, ◌∙◌, arith, append-nil}
+use Rattle.std.proofs.Common.{◌≡◌, ℕ, ◌<◌, true, List, ◌∷◌, ◌++◌, Some, None, Ok, refl, ap, ◌∙◌, arith, append-nil}
 use Rattle.std.specs.Prelude.{Result, codes}
 use Rattle.std.specs.List.{AllByRecursion}
 use Rattle.packet_forms.specs.Hex.{hex}

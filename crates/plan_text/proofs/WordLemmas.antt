@@ -1,5 +1,5 @@
 -- Lemmas on the words of texts, and on the lines that they make.
-use Rattle.std.proofs.Common.{◌≡◌, ℕ, ◌+◌, ◌<◌, ◌==◌, Bool, true, false, List, [], ◌∷◌, ◌++◌, length, map, refl, ap, sym, ◌∙◌, arith, append_assoc, append-nil}
+use Rattle.std.proofs.Common.{◌≡◌, ℕ, ◌+◌, ◌<◌, ◌==◌, Bool, true, false, List, [], ◌∷◌, ◌++◌, length, map, refl, ap, ◌∙◌, arith, append_assoc, append-nil}
 use Rattle.std.specs.Prelude.{if◌then◌else◌, nat_lt, filter}
 use Rattle.std.specs.List.{AllByRecursion, slice_split, onto_first}
 use Rattle.std.proofs.lemmas.Bool.Decides.{nat_tests}
@@ -11,7 +11,7 @@ use Rattle.table_texts.specs.Lines.{Numbered, lines_of, is_skipped, kept, kept_o
 use Rattle.scenario.specs.Texts.{Line, whole_lines}
 use Rattle.scenario.specs.Standing.{is_lf}
 use Rattle.scenario.specs.LineLaws.{whole_first, parts_some}
-use Rattle.plan_text.specs.Lines.{line_bytes, line_text, text_of}
+use Rattle.plan_text.specs.Lines.{line_bytes, text_of}
 use Rattle.plan_text.specs.Readings.{as_line, HasNo, IsTextWord, IsTextLine}
 use Rattle.plan_text.proofs.WritingLemmas.{text_nil, text_cons}
 
@@ -59,10 +59,10 @@ words_are line plain =
 -- a line that is kept has words
 kept_line : (n : ℕ) (ws : List (List ℕ)) (more : List Numbered) → AllByRecursion IsTextWord ws → AllByRecursion (λ (l : Numbered). IsTextLine l.words) more → AllByRecursion (λ (l : Numbered). IsTextLine l.words) (unless_skipped n ws more)
 kept_line n [] more all others = others
-kept_line n (w ∷ ws) more all others = by (is_skipped (w ∷ ws)) where
-  by : (b : Bool) → AllByRecursion (λ (l : Numbered). IsTextLine l.words) (if b then more else record { number = n; words = w ∷ ws } ∷ more)
-  by true = others
-  by false = ((all.0, all.1), others)
+kept_line n (w ∷ ws) more all others = by (is_skipped (w ∷ ws)) refl where
+  by : (b : Bool) → is_skipped (w ∷ ws) ≡ b → AllByRecursion (λ (l : Numbered). IsTextLine l.words) (if b then more else record { number = n; words = w ∷ ws } ∷ more)
+  by true e = others
+  by false e = ((all.0, e, all.1), others)
 
 kept_lines : (n : ℕ) (parts : List (List ℕ)) → AllByRecursion (HasNo 10) parts → AllByRecursion (λ (l : Numbered). IsTextLine l.words) (kept n parts)
 unfolding kept
@@ -98,7 +98,7 @@ words_back w (v ∷ vs) is all =
 -- a line has its words
 pub line_words : (line : List (List ℕ)) → IsTextLine line → words (line_bytes line) ≡ line
 line_words [] is = absurd is
-line_words (w ∷ ws) is = words_back w ws is.0 is.1
+line_words (w ∷ ws) is = words_back w ws is.0 is.2
 
 spaced_plain : (ws : List (List ℕ)) → AllByRecursion IsTextWord ws → HasNo 10 (spaced ws)
 unfolding spaced
@@ -107,7 +107,7 @@ spaced_plain (w ∷ ws) all = (refl, all_append (λ b. (b == 10) ≡ false) w (s
 
 line_plain : (line : List (List ℕ)) → IsTextLine line → HasNo 10 (line_bytes line)
 line_plain [] is = absurd is
-line_plain (w ∷ ws) is = all_append (λ b. (b == 10) ≡ false) w (spaced ws) is.0.2 (spaced_plain ws is.1)
+line_plain (w ∷ ws) is = all_append (λ b. (b == 10) ≡ false) w (spaced ws) is.0.2 (spaced_plain ws is.2)
 
 -- ---- the lines of a text that is made
 

@@ -3,4 +3,5 @@ pub mod Lines
 pub mod Plans
 pub mod Items
 pub mod Readings
+pub mod Frames
 pub mod Worked

@@ -1,5 +1,5 @@
 -- How a scenario's reader reads the lines that are made.
-use Rattle.std.specs.Prelude.{◌≡◌, ℕ, ◌+◌, ◌<◌, ◌==◌, false, List, [], ◌∷◌, length}
+use Rattle.std.specs.Prelude.{◌≡◌, ℕ, ◌+◌, ◌<◌, ◌==◌, false, List, [], ◌∷◌, length, slice_index}
 use Rattle.std.specs.List.{AllByRecursion}
 use Rattle.scenario.specs.Texts.{Line}
 use Rattle.plan_text.specs.Lines.{line_bytes}
@@ -15,7 +15,7 @@ HasNo c bytes = AllByRecursion (λ b. (b == c) ≡ false) bytes
 abbrev pub IsTextWord : List ℕ → Type 0
 IsTextWord w = (0 < length w) × HasNo 32 w × HasNo 10 w
 
--- a line of such words
+-- a line of such words that isn't skipped
 abbrev pub IsTextLine : List (List ℕ) → Type 0
 IsTextLine [] = ⊥
-IsTextLine (w ∷ ws) = IsTextWord w × AllByRecursion IsTextWord ws
+IsTextLine (w ∷ ws) = IsTextWord w × ((slice_index w 0 == 35) ≡ false) × AllByRecursion IsTextWord ws

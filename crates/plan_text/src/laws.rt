@@ -15,10 +15,11 @@ ghost use Rattle.scenario.specs.declared.sentence.Place.{Place};
 ghost use Rattle.scenario.specs.declared.sentence.Sentence.TheVariants as says;
 ghost use Rattle.scenario.specs.Sentences.{is_in_frames, line_says};
 ghost use Rattle.scenario.specs.Standing.{is_lf};
-ghost use Rattle.scenario.specs.Texts.{whole_lines};
+ghost use Rattle.scenario.specs.Texts.{whole_lines, Ended, reading};
 ghost use Rattle.plan_text.specs.Lines.{line_bytes, text_of, sent_line};
 ghost use Rattle.plan_text.specs.Readings.{as_line};
-ghost use Rattle.plan_text.specs.Items.{items_of, plan_items};
+ghost use Rattle.plan_text.specs.Items.{items_of, ticks_in, plan_items};
+ghost use Rattle.plan_text.specs.Frames.{head_said, frames_said};
 ghost use Rattle.plan_text.specs.Plans.{scenario_said, plan_said, packet_sent, line_said, fault_on, word_fault};
 ghost use Rattle.plan_text.specs.Worked.{plan, scenario, at_frame};
 
@@ -65,4 +66,13 @@ pub fn scenarios_have_their_lines()
 pub fn sent_lines_say()
     ensures { (cs : List Command) (epoch : ℕ) (ws : List (List ℕ)) (place : Place) (packet : List ℕ) → are_good cs ≡ true → is_in_frames place ≡ true
         → packet_sent cs epoch ws ≡ Ok packet → line_says place (line_bytes (sent_line packet)) ≡ Ok (Some (says.Send packet)) }
+{}
+
+/// A scenario that is made and is read without fault gives the plan's header and its frames: as many as it has ticks, each with exactly
+/// the items that the plan says where this frame has come, in their order.
+pub fn scenarios_give_their_frames()
+    ensures { (cs : List Command) (text : List ℕ) (lines : List (List (List ℕ))) → are_good cs ≡ true → plan_said cs text ≡ Ok lines
+        → (reading (record { bytes = text_of lines; closed = true })).ending ≡ Ended
+        → (reading (record { bytes = text_of lines; closed = true })).items
+        ≡ head_said [] lines ∷ frames_said (ticks_in lines) 0 (plan_items cs stages.Opening (kept_of 1 text)) }
 {}

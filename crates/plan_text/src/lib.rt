@@ -12,3 +12,6 @@ mod writing;
 
 pub use fault::{PlanError, PlanFault, PlanReason};
 pub use plan::make_scenario;
+
+#[cfg(test)]
+mod tests;
