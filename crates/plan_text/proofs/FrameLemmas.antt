@@ -14,9 +14,6 @@ use Rattle.scenario.specs.declared.sentence.Sentence.{Sentence}
 use Rattle.scenario.specs.declared.sentence.Sentence.TheVariants as says
 use Rattle.scenario.specs.Words.{words as scenario_words, hex, name_said, app_of, kind_of}
 use Rattle.scenario.specs.Sentences.{◌>>=◌, or_bad, largest, stands_at, placed, verb_of, verb_at, verb_said, packet_of, none, one, two, three, number_or_bad, epoch_line, region_line, send_line, app_line, upset_line, hold_line, activate_line, bare_line, sentence_of, said, line_says}
-use Rattle.packet_forms.specs.declared.name.Counter.{Counter}
-use Rattle.scenario.specs.declared.frame.App.{App}
-use Rattle.scenario.specs.declared.frame.Upset.{Upset}
 use Rattle.scenario.specs.FrameLists.{Frame, no_items}
 use Rattle.scenario.specs.Frames.{place_after, place_behind, epoch_of, regions_of, frame_of, with_item, is_started, refusal}
 use Rattle.scenario.specs.Texts.{Before, nothing, Given, Head, Whole, Reading, Ending, Bad, Ended, Unended, is_too_long, unless_refused, then_unless, reads, passed, given, read, read_bytes, reading}
@@ -389,58 +386,33 @@ in_frames (line ∷ more) n old all started ends =
 
 -- ---- before `start`
 
+abbrev is_of_frames : Sentence → Bool
+is_of_frames (says.Epoch n) = false
+is_of_frames (says.Region r) = false
+is_of_frames says.Start = false
+is_of_frames (says.Send p) = true
+is_of_frames (says.Count c) = true
+is_of_frames (says.Upset u) = true
+is_of_frames (says.Hold a) = true
+is_of_frames (says.Activate n) = true
+is_of_frames says.Tick = true
+is_of_frames says.End = true
+
 -- a sentence of the frames stands at no place before `start`
-abbrev IsLate : Sentence → Type 0
-IsLate s = (p : Place) → is_started p ≡ false → stands_at p (verb_said s) ≡ true → ⊥
-
-late_send : (p : List ℕ) → IsLate (says.Send p)
-late_send p places.Opening e h = false≢true h
-late_send p places.Header e h = false≢true h
-late_send p places.Between e h = false≢true (sym e)
-late_send p places.Inside e h = false≢true (sym e)
-late_send p places.Ended e h = false≢true (sym e)
-
-late_app : (c : Counter) → IsLate (says.Count c)
-late_app c places.Opening e h = false≢true h
-late_app c places.Header e h = false≢true h
-late_app c places.Between e h = false≢true (sym e)
-late_app c places.Inside e h = false≢true (sym e)
-late_app c places.Ended e h = false≢true (sym e)
-
-late_upset : (u : Upset) → IsLate (says.Upset u)
-late_upset u places.Opening e h = false≢true h
-late_upset u places.Header e h = false≢true h
-late_upset u places.Between e h = false≢true (sym e)
-late_upset u places.Inside e h = false≢true (sym e)
-late_upset u places.Ended e h = false≢true (sym e)
-
-late_hold : (a : App) → IsLate (says.Hold a)
-late_hold a places.Opening e h = false≢true h
-late_hold a places.Header e h = false≢true h
-late_hold a places.Between e h = false≢true (sym e)
-late_hold a places.Inside e h = false≢true (sym e)
-late_hold a places.Ended e h = false≢true (sym e)
-
-late_activate : (n : ℕ) → IsLate (says.Activate n)
-late_activate n places.Opening e h = false≢true h
-late_activate n places.Header e h = false≢true h
-late_activate n places.Between e h = false≢true (sym e)
-late_activate n places.Inside e h = false≢true (sym e)
-late_activate n places.Ended e h = false≢true (sym e)
-
-late_tick : IsLate says.Tick
-late_tick places.Opening e h = false≢true h
-late_tick places.Header e h = false≢true h
-late_tick places.Between e h = false≢true (sym e)
-late_tick places.Inside e h = false≢true (sym e)
-late_tick places.Ended e h = false≢true (sym e)
-
-late_end : IsLate says.End
-late_end places.Opening e h = false≢true h
-late_end places.Header e h = false≢true h
-late_end places.Between e h = false≢true (sym e)
-late_end places.Inside e h = false≢true (sym e)
-late_end places.Ended e h = false≢true (sym e)
+late : (s : Sentence) (p : Place) → is_of_frames s ≡ true → is_started p ≡ false → stands_at p (verb_said s) ≡ true → ⊥
+late (says.Epoch n) p f e h = false≢true f
+late (says.Region r) p f e h = false≢true f
+late says.Start p f e h = false≢true f
+late s places.Between f e h = false≢true (sym e)
+late s places.Inside f e h = false≢true (sym e)
+late s places.Ended f e h = false≢true (sym e)
+late (says.Send p) _ f e h = false≢true h
+late (says.Count c) _ f e h = false≢true h
+late (says.Upset u) _ f e h = false≢true h
+late (says.Hold a) _ f e h = false≢true h
+late (says.Activate n) _ f e h = false≢true h
+late says.Tick _ f e h = false≢true h
+late says.End _ f e h = false≢true h
 
 head_first : (old : List Sentence) (line : List (List ℕ)) (more : List (List (List ℕ))) (s : Sentence) → sentence_said line ≡ Ok s → head_said old (line ∷ more) ≡ head_behind old (Ok s) (λ old. head_said old more)
 unfolding head_said
@@ -465,13 +437,13 @@ header_step (says.Region r) old line more all fresh is ends behind = head_step o
 header_step says.Start old line more all fresh is ends behind =
     head_step old line more (Head (epoch_of old.sentences) (regions_of old.sentences)) _ plan_verbs.Start is.verb refl refl (head_first old.sentences line more says.Start is.says)
     (ap (λ (fs : List Given). Head (epoch_of old.sentences) (regions_of old.sentences) ∷ fs) (in_frames more 0 (passed old (as_line line) (Some says.Start)) all refl ends))
-header_step (says.Send p) old line more all fresh is ends behind = absurd (late_send p (place_after old.sentences) fresh is.place)
-header_step (says.Count c) old line more all fresh is ends behind = absurd (late_app c (place_after old.sentences) fresh is.place)
-header_step (says.Upset u) old line more all fresh is ends behind = absurd (late_upset u (place_after old.sentences) fresh is.place)
-header_step (says.Hold a) old line more all fresh is ends behind = absurd (late_hold a (place_after old.sentences) fresh is.place)
-header_step (says.Activate k) old line more all fresh is ends behind = absurd (late_activate k (place_after old.sentences) fresh is.place)
-header_step says.Tick old line more all fresh is ends behind = absurd (late_tick (place_after old.sentences) fresh is.place)
-header_step says.End old line more all fresh is ends behind = absurd (late_end (place_after old.sentences) fresh is.place)
+header_step (says.Send p) old line more all fresh is ends behind = absurd (late (says.Send p) (place_after old.sentences) refl fresh is.place)
+header_step (says.Count c) old line more all fresh is ends behind = absurd (late (says.Count c) (place_after old.sentences) refl fresh is.place)
+header_step (says.Upset u) old line more all fresh is ends behind = absurd (late (says.Upset u) (place_after old.sentences) refl fresh is.place)
+header_step (says.Hold a) old line more all fresh is ends behind = absurd (late (says.Hold a) (place_after old.sentences) refl fresh is.place)
+header_step (says.Activate k) old line more all fresh is ends behind = absurd (late (says.Activate k) (place_after old.sentences) refl fresh is.place)
+header_step says.Tick old line more all fresh is ends behind = absurd (late says.Tick (place_after old.sentences) refl fresh is.place)
+header_step says.End old line more all fresh is ends behind = absurd (late says.End (place_after old.sentences) refl fresh is.place)
 
 abbrev ending_by : Place → ℕ → Ending
 ending_by place lines = elim place [
