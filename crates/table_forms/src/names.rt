@@ -1,5 +1,6 @@
 //! The names of tables.
-ghost use Rattle.std.specs.Prelude.{◌≡◌, map};
+ghost use Rattle.std.specs.Prelude.{◌≡◌, map, IfSome};
+ghost use Rattle.table_files.specs.Kinds.{IsKnown};
 ghost use Rattle.table_forms.specs.Names.{kind_said, called, called_by, kinds};
 
 use table_files::TableKind;
@@ -113,7 +114,8 @@ fn table_names() -> &'static [TableName]
 
 /// The kind of the table of a name, where there is one.
 pub fn table_kind(name: &[u8]) -> Option<TableKind>
-    ensures { result ≡ kind_said name.now }
+    ensures kind { result ≡ kind_said name.now }
+    ensures known { IfSome result IsKnown }
 {
     let names = table_names();
     for table in names {
