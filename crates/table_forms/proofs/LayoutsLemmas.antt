@@ -1,5 +1,5 @@
 -- Lemmas on the layouts of tables.
-use Rattle.std.proofs.Common.{◌≡◌, ℕ, ◌*◌, true, arith}
+use Rattle.std.proofs.Common.{◌≡◌, ℕ, ◌*◌, true, arith, sym, ◌∙◌}
 use Rattle.std.specs.Prelude.{◌==◌, ◌&&◌}
 use Rattle.std.proofs.lemmas.Bool.Decides.{nat_tests}
 use Rattle.row_forms.proofs.TextLemmas.{and_both}
@@ -10,7 +10,8 @@ use Rattle.table_texts.specs.Entries.{is_layout}
 use Rattle.table_texts.specs.Fronts.{is_front}
 use Rattle.table_forms.specs.declared.layouts.Layouts.{Layouts}
 use Rattle.table_forms.specs.Layouts.{form_of, has_bytes, is_open, are_layouts}
-use Rattle.table_forms.specs.Payloads.{is_form}
+use Rattle.table_files.specs.Kinds.{fits_kind}
+use Rattle.table_forms.specs.Payloads.{is_form, FitsForm}
 
 pub record HasBytes (l : Layout) (n : ℕ) : Type 0 where
   pub layout : is_layout l ≡ true
@@ -76,3 +77,19 @@ form_is ls Eeprom are = are.checksums.layout
 form_is ls Memory are = are.checksums.layout
 form_is ls Wdt are = are.watchpoints.layout
 form_is ls Adt are = are.actionpoints.layout
+
+fits_entries : (l : Layout) (n size : ℕ) → HasBytes l n → (size == n) ≡ true → size ≡ l.count * l.size
+fits_entries l n size has e = let same : size ≡ n = grind (arith, nat_tests) in same ∙ sym has.size
+
+pub form_fits : (ls : Layouts) (kind : TableKind) (size : ℕ) → AreLayouts ls → fits_kind kind size ≡ true → FitsForm (form_of ls kind) size
+form_fits ls AppMon size are e = fits_entries ls.apps 768 size are.apps e
+form_fits ls EventMon size are e = fits_entries ls.events 384 size are.events e
+form_fits ls ExeCount size are e = fits_entries ls.counters 704 size are.counters e
+form_fits ls MsgActs size are e = fits_entries ls.actions 544 size are.actions e
+form_fits ls (Ats n) size are e = tt
+form_fits ls (Rts n) size are e = tt
+form_fits ls (Dwell n) size are e = let same : size ≡ 204 = grind (arith, nat_tests) in let long = are.dwells.size in omega (arith, same, long)
+form_fits ls Eeprom size are e = fits_entries ls.checksums 192 size are.checksums e
+form_fits ls Memory size are e = fits_entries ls.checksums 192 size are.checksums e
+form_fits ls Wdt size are e = fits_entries ls.watchpoints 512 size are.watchpoints e
+form_fits ls Adt size are e = fits_entries ls.actionpoints 640 size are.actionpoints e

@@ -4,3 +4,6 @@ pub mod PayloadLemmas
 pub mod HeaderLemmas
 pub mod ReadingLemmas
 pub mod LayoutsLemmas
+pub mod FileLemmas
+pub mod KnownLemmas
+pub mod BytesLemmas

@@ -1,5 +1,5 @@
 -- The payloads of tables, as their texts say them.
-use Rattle.std.specs.Prelude.{◌≡◌, ℕ, ◌+◌, Bool, true, false, if◌then◌else◌, List, [], ◌∷◌, ◌++◌, take, drop, codes, Result, Ok, Err}
+use Rattle.std.specs.Prelude.{◌≡◌, ℕ, ◌+◌, ◌*◌, Bool, true, false, if◌then◌else◌, List, [], ◌∷◌, ◌++◌, take, drop, codes, Result, Ok, Err}
 use Rattle.std.specs.Str.{bytes_eq}
 use Rattle.row_forms.specs.Rows.{with_front, row_said, row_shown}
 use Rattle.row_forms.specs.declared.fault.RowFault.{RowFault}
@@ -82,3 +82,9 @@ abbrev pub GivesTable : Result (List ℕ) TableFault → List ℕ → Result (Un
 GivesTable said new (Ok done) = said ≡ Ok new
 GivesTable said new (Err (errors.Memory e)) = Unit {0}
 GivesTable said new (Err (errors.Fault fault)) = said ≡ Err fault
+
+-- how many bytes a payload of a form has
+abbrev pub FitsForm : PayloadForm → ℕ → Type 0
+FitsForm (Entries l) size = size ≡ l.count * l.size
+FitsForm (Headed l) size = size ≡ 4 + l.count * l.size
+FitsForm (Sequence fs n) size = Unit {0}
