@@ -29,7 +29,7 @@ header_none fs n ws e = rw e refl
 pub header_zeros : (fs : List Field) (n : ℕ) (ws : List (List ℕ)) (old new : List ℕ) → ws ≡ [] → old ≡ [] → new ≡ old ++ replicate 60 0 → header_said fs n ws ≡ Ok new
 header_zeros fs n ws old new none empty e = header_none fs n ws none ∙ ap Ok (sym (e ∙ ap (λ (xs : List ℕ). xs ++ replicate 60 0) empty))
 
-header_row : (fs : List Field) (n : ℕ) (ws : List (List ℕ)) (w : List ℕ) (more : List (List ℕ)) → ws ≡ w ∷ more → header_said fs n ws ≡ whole_header n (row_said None 3 fs ws)
+pub header_row : (fs : List Field) (n : ℕ) (ws : List (List ℕ)) (w : List ℕ) (more : List (List ℕ)) → ws ≡ w ∷ more → header_said fs n ws ≡ whole_header n (row_said None 3 fs ws)
 unfolding header_said
 header_row fs n ws w more e = rw e refl
 
@@ -37,7 +37,7 @@ pub no_front : {E : Type 0} (old : List ℕ) (r : Result (List ℕ) E) → old �
 no_front old (Ok bytes) e = rw e refl
 no_front old (Err fault) e = refl
 
-whole_ok : (n : ℕ) (row : List ℕ) → length row ≡ 60 → whole_header n (Ok row) ≡ Ok row
+pub whole_ok : (n : ℕ) (row : List ℕ) → length row ≡ 60 → whole_header n (Ok row) ≡ Ok row
 whole_ok n row e = let is : (length row == 60) ≡ true = grind (arith, nat_tests) in rw is refl
 
 whole_other : (n : ℕ) (row : List ℕ) → (length row == 60) ≡ false → whole_header n (Ok row) ≡ Err (faults.Description n)

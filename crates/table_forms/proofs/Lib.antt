@@ -7,3 +7,5 @@ pub mod LayoutsLemmas
 pub mod FileLemmas
 pub mod KnownLemmas
 pub mod BytesLemmas
+pub mod RoundLemmas
+pub mod TakenLemmas

@@ -4,3 +4,4 @@ pub mod Judging
 pub mod Payloads
 pub mod Headers
 pub mod Reading
+pub mod Examples

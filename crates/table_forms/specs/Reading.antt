@@ -12,7 +12,7 @@ use Rattle.table_forms.specs.declared.fault.ReadError.TheVariants as errors
 use Rattle.table_forms.specs.declared.forms.TextForms.{TextForms}
 use Rattle.table_forms.specs.declared.reading.FirstLine.{FirstLine}
 use Rattle.table_forms.specs.Headers.{header_said, header_of, header_shown, table_file}
-use Rattle.table_forms.specs.Judging.{judged}
+use Rattle.table_forms.specs.Judging.{judged, IsTaken}
 use Rattle.table_forms.specs.Layouts.{form_of}
 use Rattle.table_forms.specs.Names.{name_of, kind_said}
 use Rattle.table_forms.specs.Payloads.{begins, payload_said, payload_text}
@@ -79,3 +79,8 @@ abbrev pub GivesFile : Result (List ℕ) TableFault → Result (Vec ℕ Global) 
 GivesFile said (Ok file) = said ≡ Ok file.items
 GivesFile said (Err (errors.Memory e)) = Unit {0}
 GivesFile said (Err (errors.Fault fault)) = said ≡ Err fault
+
+-- a file that is taken as the table that the text's first line names
+abbrev pub IsTakenAs : Result First TableFault → List ℕ → Type 0
+IsTakenAs (Ok first) file = IsTaken file first.kind
+IsTakenAs (Err fault) file = ⊥

@@ -1,10 +1,15 @@
 //! Laws of the definitions, as contracts of functions that do nothing.
-ghost use Rattle.std.specs.Prelude.{◌≡◌, ℕ, List, true, length, Some, None, ◌<◌};
+ghost use Rattle.std.specs.Prelude.{◌≡◌, ℕ, List, true, map, length, Some, None, Ok, ◌<◌};
 ghost use Rattle.table_files.specs.declared.kinds.TableKind.{TableKind};
 ghost use Rattle.table_files.specs.Kinds.{IsKnown, fits_kind, named_kind};
 ghost use Rattle.std.specs.List.{AllByRecursion};
 ghost use Rattle.table_files.specs.Headers.{kind_of_file, file_fault_of};
 ghost use Rattle.table_forms.specs.Headers.{table_file};
+ghost use Rattle.telecommands.specs.Commands.{are_good, are_distinct};
+ghost use Rattle.table_forms.specs.declared.forms.TextForms.{TextForms};
+ghost use Rattle.table_forms.specs.Examples.{placed_examples, command_examples, known_forms};
+ghost use Rattle.table_forms.specs.Judging.{IsTaken};
+ghost use Rattle.table_forms.specs.Reading.{file_said, table_said, file_text};
 ghost use Rattle.table_forms.specs.declared.layouts.Layouts.{Layouts};
 ghost use Rattle.table_forms.specs.Layouts.{are_layouts, form_of};
 ghost use Rattle.table_forms.specs.Names.{kind_said, name_of, name_field};
@@ -27,4 +32,23 @@ pub fn tables_have_forms()
 /// A file that is made of a header of 60 bytes and a payload is of its kind, where it has no fault.
 pub fn made_files_have_kinds()
     ensures { (kind : TableKind) (row payload : List ℕ) → IsKnown kind → length row ≡ 60 → file_fault_of (table_file kind row payload) ≡ None → kind_of_file (table_file kind row payload) ≡ Some kind }
+{}
+
+/// The text of a table's file says its bytes, those of its headers too, whatever the commands, the layouts and the epoch are; and where
+/// the table's loader takes it, so does `read_table`.
+pub fn files_read_back()
+    ensures said { (f : TextForms) (kind : TableKind) (file : List ℕ) → are_good f.commands.now ≡ true → are_distinct f.commands.now ≡ true → are_layouts f.layouts.now ≡ true → AllByRecursion (λ b. b < 256) file → kind_of_file file ≡ Some kind → file_said f (file_text f kind file) ≡ Ok file }
+    ensures taken { (f : TextForms) (kind : TableKind) (file : List ℕ) → are_good f.commands.now ≡ true → are_distinct f.commands.now ≡ true → are_layouts f.layouts.now ≡ true → AllByRecursion (λ b. b < 256) file → IsTaken file kind → table_said f (file_text f kind file) ≡ Ok file }
+{}
+
+/// The examples of docs/FILES.md that have no telecommand: their texts say their files, and their files are shown as their texts.
+pub fn placed_tables_in_words()
+    ensures said { map (λ e. file_said known_forms e.text) placed_examples ≡ map (λ e. Ok e.file) placed_examples }
+    ensures shown { map (λ e. file_text known_forms e.kind e.file) placed_examples ≡ map (λ e. e.text) placed_examples }
+{}
+
+/// The examples of docs/FILES.md that have a telecommand: their texts say their files, and their files are shown as their texts.
+pub fn command_tables_in_words()
+    ensures said { map (λ e. file_said known_forms e.text) command_examples ≡ map (λ e. Ok e.file) command_examples }
+    ensures shown { map (λ e. file_text known_forms e.kind e.file) command_examples ≡ map (λ e. e.text) command_examples }
 {}

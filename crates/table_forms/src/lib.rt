@@ -20,3 +20,6 @@ pub use layouts::{Layouts, PayloadForm, table_layouts};
 pub use names::table_kind;
 pub use reading::read_table;
 pub use showing::show_table;
+
+#[cfg(test)]
+mod tests;

@@ -4,7 +4,7 @@ ghost use Rattle.table_files.specs.Kinds.{IsKnown};
 ghost use Rattle.telecommands.specs.Commands.{are_good};
 ghost use Rattle.table_texts.specs.Lines.{kept_of};
 ghost use Rattle.table_forms.specs.Layouts.{are_layouts};
-ghost use Rattle.table_forms.specs.Reading.{first_said, first_of, first_filed, file_said, table_said, GivesFirst, GivesFile};
+ghost use Rattle.table_forms.specs.Reading.{first_said, first_of, first_filed, file_said, table_said, GivesFirst, GivesFile, IsTakenAs};
 ghost use Rattle.table_forms.specs.Payloads.{GivesTable};
 
 use crate::fault::{ReadError, TableFault};
@@ -62,7 +62,8 @@ pub fn read_table(alloc: Global, forms: &TextForms<'_>, text: &[u8]) -> Result<V
     requires commands { are_good forms.now.commands.now ≡ true }
     requires layouts { are_layouts forms.now.layouts.now ≡ true }
     requires short { 1 + length text.now < 2 ^ 32 }
-    ensures { GivesFile (table_said forms.now text.now) result }
+    ensures said { GivesFile (table_said forms.now text.now) result }
+    ensures accepted { IfOk result (λ file. IsTakenAs (first_said (kept_of 1 text.now)) file.items) }
 {
     let mut file = Vec::new(alloc);
     match read_file_of(alloc, forms, text, &mut file) {
