@@ -1,11 +1,17 @@
-//! groundkit: what a rehearsal wrote, in words.
+//! groundkit: what vigil reads and writes, in words.
 #![tactic(auto)]
 
+mod asks;
+mod files;
+mod making;
 mod words;
 
+use asks::command;
+use clap::ArgMatches;
 use clap::error::{Error, ErrorKind};
-use clap::{Arg, ArgMatches, Command, value_parser};
-use std::alloc::{AllocError, Global};
+use files::{get, put};
+use making::{Making, Refusal};
+use std::alloc::AllocError;
 use std::process::ExitCode;
 use std::rt::Files;
 use std::{env, fs, io};
@@ -16,35 +22,10 @@ use words::{Fault, Telling};
 enum Status {
     Done = 0,
     WordsRefused = 1,
-    LineRefused = 2,
+    FileRefused = 2,
     ReadFailed = 4,
     WriteFailed = 5,
     NoMemory = 6,
-}
-
-/// What the command line may ask for.
-fn command<'a>(alloc: Global) -> Result<Command<'a>, AllocError> {
-    let epoch = Arg::new(alloc, "epoch")
-        .long("epoch")
-        .value_name("SECONDS")
-        .value_parser(value_parser!(u32))
-        .help(
-            "The time of frame 0, as `epoch` gives it in the scenario [default: lines have frames]",
-        );
-    let log = Arg::new(alloc, "log")
-        .value_name("LOG")
-        .required(true)
-        .help("The file of a log that vigil wrote; - is standard input");
-    let words = Command::new(alloc, "words")
-        .about("Tells a log in words, a sentence a line")
-        .arg(epoch)?
-        .arg(log)?;
-    Command::new(alloc, "groundkit")
-        .version("1.0")
-        .about("Tells what vigil's rehearsals wrote")
-        .subcommand_required(true)
-        .arg_required_else_help(true)
-        .subcommand(words)
 }
 
 /// The status where the words are refused, or where they ask for help or the version.
@@ -65,14 +46,19 @@ fn status_of(fault: &Fault) -> Status {
     }
 }
 
+/// A file's name for people.
+fn name_of(file: &str) -> &str {
+    if file == "-" { "standard input" } else { file }
+}
+
 /// Tells the log that the words name.
 fn tell_log<R: Files + Input + Print + Eprint + AllocGlobal>(
     rt: &R,
     asked: &ArgMatches<'_>,
 ) -> Status {
-    let file = asked.get_str("log").unwrap_or("-");
+    let file = asked.get_str("input").unwrap_or("-");
     let epoch = asked.get_one::<u32>("epoch");
-    let name = if file == "-" { "standard input" } else { file };
+    let name = name_of(file);
     let telling = Telling {
         rt,
         alloc: rt.alloc(),
@@ -89,13 +75,74 @@ fn tell_log<R: Files + Input + Print + Eprint + AllocGlobal>(
     };
     match told {
         Ok(true) => Status::Done,
-        Ok(false) => Status::LineRefused,
+        Ok(false) => Status::FileRefused,
         Err(fault) => {
             // There is no other place to tell it.
             let _told = eprintln!(rt; "{name}: {fault}");
             status_of(&fault)
         }
     }
+}
+
+/// Makes a file into what is wanted, and writes that.
+fn make_file<R: Files + Input + Print + Eprint + AllocGlobal>(
+    rt: &R,
+    making: Making,
+    epoch: Option<u32>,
+    file: &str,
+    path: Option<&str>,
+) -> Status {
+    let name = name_of(file);
+    let bytes = match get(rt, file) {
+        Ok(bytes) => bytes,
+        Err(error) => {
+            let _told = eprintln!(rt; "{name}: it can't be read: {error}");
+            return Status::ReadFailed;
+        }
+    };
+    match making.make(rt.alloc(), epoch, bytes.as_slice()) {
+        Ok(made) => match put(rt, path, made.as_slice()) {
+            Ok(()) => Status::Done,
+            Err(error) => {
+                let place = path.unwrap_or("standard output");
+                let _told = eprintln!(rt; "{place}: it can't be written: {error}");
+                Status::WriteFailed
+            }
+        },
+        Err(refusal) => {
+            let _told = eprintln!(rt; "{name}: {refusal}");
+            match refusal {
+                Refusal::Memory => Status::NoMemory,
+                _ => Status::FileRefused,
+            }
+        }
+    }
+}
+
+/// Looks at files in their order, all of them. The first status that isn't `Done` stands.
+fn check_files<R: Files + Input + Print + Eprint + AllocGlobal>(
+    rt: &R,
+    asked: &ArgMatches<'_>,
+) -> Status {
+    let mut status = Status::Done;
+    for file in asked.get_strs("files").unwrap_or(&[]) {
+        let one = make_file(rt, Making::Check, None, file, None);
+        if status == Status::Done {
+            status = one;
+        }
+    }
+    status
+}
+
+/// Makes what a verb of one file makes.
+fn make_one<R: Files + Input + Print + Eprint + AllocGlobal>(
+    rt: &R,
+    making: Making,
+    asked: &ArgMatches<'_>,
+) -> Status {
+    let file = asked.get_str("input").unwrap_or("-");
+    let epoch = asked.get_one::<u32>("epoch");
+    make_file(rt, making, epoch, file, asked.get_str("output"))
 }
 
 /// Does what the words ask for.
@@ -106,6 +153,10 @@ fn groundkit<R: Files + Input + Print + Eprint + AllocGlobal>(
     let command = command(rt.alloc())?;
     match command.try_get_matches_from(given) {
         Ok(matches) => Ok(match matches.subcommand() {
+            Some(("table", asked)) => make_one(rt, Making::Table, asked),
+            Some(("scenario", asked)) => make_one(rt, Making::Scenario, asked),
+            Some(("show", asked)) => make_one(rt, Making::Text, asked),
+            Some(("check", asked)) => check_files(rt, asked),
             Some((_, asked)) => tell_log(rt, asked),
             None => Status::WordsRefused,
         }),
