@@ -1,7 +1,7 @@
 //! That tables are read and shown where there is memory: a call that gave up for want of it would be proved too.
 use crate::{TextForms, find_refusal, read_table, show_table, table_layouts};
 use std::test::Fail;
-use table_files::TableKind;
+use table_files::{FileImage, read_file};
 use telecommands::commands;
 
 #[test]
@@ -17,7 +17,9 @@ fn a_table_is_read_and_shown(rt: HostRuntime) -> Result<(), Fail> {
     assert_eq!(rt; file.len(), 308);
     assert!(rt; find_refusal(&file).is_none());
     let mut shown = Vec::new(rt.alloc());
-    show_table(rt.alloc(), &forms, TableKind::Memory, &file, &mut shown)?;
+    if let Ok(FileImage::Table { kind, payload: _ }) = read_file(&file) {
+        show_table(rt.alloc(), &forms, kind, &file, &mut shown)?;
+    }
     assert_eq!(rt; shown.as_slice(), text);
     Ok(())
 }
