@@ -1,12 +1,3 @@
-//! What no case of `rehearsals` can show: an outside that fails or moves a few bytes a call, applications and gates that are
-//! given, and generated scenarios against their text.
+//! What the program does with what it is given.
 
-mod crowds;
-mod drills;
-mod faults;
-mod frames;
 mod given;
-mod hostile;
-mod runs;
-mod tables;
-mod workers;

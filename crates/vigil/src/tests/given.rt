@@ -1,10 +1,9 @@
 //! What the program is given: its name and its words, or none; and the number that it ends with.
 
-use super::runs::assert_text;
-use super::tables::apps_file;
 use crate::program::{exit_number, run_program};
 use fsw_outside::{MemShelf, MemSink, OpenGate};
 use rehearsal::Status;
+use std::alloc::Global;
 use std::env::Args;
 use std::io::{self, ErrorKind};
 use std::process::Abort;
@@ -20,8 +19,24 @@ fn args_of<R: AllocGlobal>(rt: &R, texts: &[&str]) -> Result<Args, Fail> {
     Ok(given.into_iter())
 }
 
-/// Asserts how a program ends that is given this, over a shelf whose file `s` has a header and no frame, and whose file `a` has a
-/// table.
+/// Asserts that what was written is this text.
+fn assert_text<R: Abort>(rt: &R, name: &str, written: &[u8], text: &str) {
+    let shown = std::str::from_utf8(written).unwrap_or("no text");
+    assert!(rt; written == text.as_bytes(), "{name} wrote:\n{shown}and not:\n{text}");
+}
+
+/// A file of one byte to be loaded, which is 0, as its check is then.
+fn load_file(alloc: Global) -> Result<Vec<u8>, Fail> {
+    let mut bytes = Vec::new(alloc);
+    bytes.extend_from_slice(b"cFE1\x00\x00\x00\x64")?;
+    bytes.resize(64, 0)?;
+    bytes.extend_from_slice(b"\x00\x00\x10\x00\x00\x00\x00\x01")?;
+    bytes.resize(81, 0)?;
+    Ok(bytes)
+}
+
+/// Asserts how a program ends that is given this, over a shelf whose file `s` has a header and no frame, and whose file `a` is to be
+/// loaded.
 fn assert_end<R: Threads + Sync + AllocGlobal + Abort>(
     rt: &R,
     given: io::Result<Args>,
@@ -31,7 +46,7 @@ fn assert_end<R: Threads + Sync + AllocGlobal + Abort>(
     let alloc = rt.alloc();
     let mut shelf = MemShelf::new(alloc, &[])?;
     shelf.put("s", b"epoch 1000\nregion RAM 0x1000 256\nstart\nend\n")?;
-    shelf.put("a", &apps_file(alloc, &[(1, "LOAD", 3, 2)])?)?;
+    shelf.put("a", &load_file(alloc)?)?;
     let mut out = MemSink::new(alloc, &[], 256)?;
     let mut err = MemSink::new(alloc, &[], 256)?;
     let ended = run_program(rt, alloc, given, &mut shelf, &mut out, &mut err, &OpenGate);

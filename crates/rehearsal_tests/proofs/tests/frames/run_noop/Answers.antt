@@ -1,6 +1,6 @@
 use Rattle.std.proofs.Common.{[], ◌∷◌, arith}
 use Rattle.std.proofs.lemmas.Grind.{common_steps}
-use Rattle.vigil.proofs.tests.frames.run_noop.Goals as goal
+use Rattle.rehearsal_tests.proofs.tests.frames.run_noop.Goals as goal
 
 pub frame-answer-requires-clause-started : goal.frame-answer-requires-clause-started
 frame-answer-requires-clause-started g c = λ _ _.
