@@ -12,6 +12,3 @@ pub use event::{Event, EventKind, find_event, show_event};
 pub use event_rows::events;
 pub use refusal::{Refusal, find_reason, show_refusal};
 pub use refusal_rows::refusals;
-
-#[cfg(test)]
-mod tests;

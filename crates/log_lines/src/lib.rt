@@ -13,6 +13,3 @@ pub use fault::{LineFault, LogFault};
 pub use line::{LineItem, LogLine};
 pub use log_reader::{Answer, Fed, LogReader};
 pub use reading::read_line;
-
-#[cfg(test)]
-mod tests;

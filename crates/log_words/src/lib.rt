@@ -9,6 +9,3 @@ mod vocabulary;
 pub use packets::show_packet;
 pub use sentences::show_line;
 pub use vocabulary::Vocabulary;
-
-#[cfg(test)]
-mod tests;

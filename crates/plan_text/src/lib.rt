@@ -12,6 +12,3 @@ mod writing;
 
 pub use fault::{PlanError, PlanFault, PlanReason};
 pub use plan::make_scenario;
-
-#[cfg(test)]
-mod tests;

@@ -16,6 +16,3 @@ pub use parts::{push_decimal, push_hex, push_zeros};
 pub use rows::{behind_key, is_row, read_row, show_row};
 pub use values::read_block;
 pub use words::{number, split_word};
-
-#[cfg(test)]
-mod tests;

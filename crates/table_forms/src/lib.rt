@@ -20,6 +20,3 @@ pub use layouts::{Layouts, PayloadForm, table_layouts};
 pub use names::table_kind;
 pub use reading::read_table;
 pub use showing::show_table;
-
-#[cfg(test)]
-mod tests;

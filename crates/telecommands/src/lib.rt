@@ -13,6 +13,3 @@ pub use dictionary::commands;
 pub use fault::{CommandFault, ReadError};
 pub use reading::read_command;
 pub use showing::show_command;
-
-#[cfg(test)]
-mod tests;

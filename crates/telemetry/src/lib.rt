@@ -14,6 +14,3 @@ pub use fault::{ReadError, TelemetryFault};
 pub use reading::read_telemetry;
 pub use row::TelemetryRow;
 pub use showing::show_telemetry;
-
-#[cfg(test)]
-mod tests;

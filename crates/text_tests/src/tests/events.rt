@@ -1,5 +1,5 @@
 //! That sentences are shown where there is memory: a call that gave up for want of it would be proved too.
-use crate::{events, refusals, show_event, show_refusal};
+use events::{events, refusals, show_event, show_refusal};
 use std::test::Fail;
 
 #[test]

@@ -1,5 +1,5 @@
 //! That the plan of docs/PLANS.md is made its scenario where there is memory: a call that gave up for want of it would be proved too.
-use crate::make_scenario;
+use plan_text::make_scenario;
 use std::test::Fail;
 use telecommands::commands;
 

@@ -1,5 +1,5 @@
 //! That tables are read and shown where there is memory: a call that gave up for want of it would be proved too.
-use crate::{TextForms, find_refusal, read_table, show_table, table_layouts};
+use table_forms::{TextForms, find_refusal, read_table, show_table, table_layouts};
 use std::test::Fail;
 use table_files::{FileImage, read_file};
 use telecommands::commands;

@@ -1,5 +1,5 @@
 //! That telemetry is read and shown where there is memory: a call that gave up for want of it would be proved too.
-use crate::{read_telemetry, show_telemetry, telemetry_rows};
+use telemetry::{read_telemetry, show_telemetry, telemetry_rows};
 use std::test::Fail;
 
 #[test]

@@ -1,5 +1,5 @@
 //! That telecommands are read and shown where there is memory: a call that gave up for want of it would be proved too.
-use crate::{commands, read_command, show_command};
+use telecommands::{commands, read_command, show_command};
 use std::test::Fail;
 
 #[test]

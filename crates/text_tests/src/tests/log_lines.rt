@@ -1,5 +1,5 @@
 //! That logs are read in pieces of every size, and what the reader says of a fault.
-use crate::{Answer, LineFault, LineItem, LogFault, LogLine, LogReader, read_line};
+use log_lines::{Answer, LineFault, LineItem, LogFault, LogLine, LogReader, read_line};
 use packet_forms::{behind, front};
 use std::test::Fail;
 

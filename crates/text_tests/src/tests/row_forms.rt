@@ -1,5 +1,5 @@
 //! That rows are read and shown where there is memory: a call that gave up for want of it would be proved too.
-use crate::{Field, Kind, Spelling, Width, is_row, read_row, show_row};
+use row_forms::{Field, Kind, Spelling, Width, is_row, read_row, show_row};
 use std::test::Fail;
 
 const FIELDS: &[Field] = &[

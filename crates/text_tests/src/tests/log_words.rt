@@ -1,5 +1,5 @@
 //! That lines are told where there is memory.
-use crate::{Vocabulary, show_line};
+use log_words::{Vocabulary, show_line};
 use log_lines::{LineItem, LogLine, read_line};
 use std::test::Fail;
 

@@ -1,0 +1,10 @@
+//! One file a crate.
+
+mod events;
+mod log_lines;
+mod log_words;
+mod plan_text;
+mod row_forms;
+mod table_forms;
+mod telecommands;
+mod telemetry;
