@@ -4,7 +4,9 @@ ghost use Rattle.std.specs.List.{AllByRecursion};
 ghost use Rattle.packet_forms.specs.Built.{event_of};
 ghost use Rattle.packet_forms.specs.Names.{is_name};
 ghost use Rattle.hs_tables.specs.declared.actions.ActEntry.{ActEntry};
-ghost use Rattle.hs_actions.specs.Items.{event_base, event_out, message_items, report_items};
+ghost use Rattle.hs_tables.specs.declared.actions.ActRow.{ActRow as MessageRow};
+ghost use Rattle.hs_actions.specs.Items.{event_base, event_out, message_items, performed, report_items};
+ghost use Rattle.hs_actions.specs.declared.action.Action.{Action};
 ghost use Rattle.hs_actions.specs.declared.action.Source.{Source};
 ghost use Rattle.hs_actions.specs.declared.action.Source.TheVariants.{AppMonitor, EventMonitor};
 ghost use Rattle.hs_monitors.specs.Messages.{hs_codes};
@@ -25,15 +27,18 @@ ghost use Rattle.lc_watch.specs.Messages.{firing_event, lc_codes};
 ghost use Rattle.lc_watch.specs.Step.{firing_items};
 ghost use Rattle.lc_watch.specs.declared.actionpoints.ActRow.{ActRow};
 ghost use Rattle.lc_watch.specs.Verdicts.{lc_protocol};
+ghost use Rattle.app_suite.specs.Activations.{table_event};
+ghost use Rattle.app_suite.specs.declared.activations.Naming.{Naming};
 ghost use Rattle.telemetry_making.specs.Making.{Shows};
-ghost use Rattle.telemetry_making.specs.Told.{AreAnswersTold, AreToldItems, numbers_of};
+ghost use Rattle.telemetry_making.specs.Told.{AreAnswersTold, AreToldItems, IsToldItem, numbers_of};
 
 /// The event of any name, number and type is shown by its words, which say its number, its type, spacecraft 66 and processor 1.
 pub fn events_are_shown()
     ensures { (name : List ℕ) (number kind : ℕ) → is_name name ≡ true → AllByRecursion (λ b. b < 256) name → number < 2 ^ 16 → kind < 2 ^ 16 → Shows (codes "event") (number ∷ kind ∷ 66 ∷ 1 ∷ []) (λ time. event_of name number kind time) }
 {}
 
-/// Whatever packet an application reads, and whatever it has come to: the event that answers it stands in the table, with its type.
+/// Whatever packet an application reads, and whatever it has come to: the event that answers it stands in the table, with its type,
+/// and where the packet is refused, why it refuses a command of this code stands in the table of refusals.
 pub fn answers_are_told()
     ensures hs { AreAnswersTold (codes "HS") hs_protocol }
     ensures mm { AreAnswersTold (codes "MM") mm_protocol }
@@ -44,14 +49,17 @@ pub fn answers_are_told()
 {}
 
 /// The events that an application gives besides its answers stand in the table, with their type: those of the monitors and message
-/// actions, of a miscompare, of a sequence's head, and of an actionpoint that fires.
+/// actions, of a miscompare, of a sequence's head, of an actionpoint that fires, and of a line that names a file.
 pub fn own_events_are_told()
     ensures monitors { (time : ℕ) (source : Source) → AreToldItems (codes "HS") time (map (event_out time source) (1 ∷ 2 ∷ 3 ∷ 4 ∷ 5 ∷ [])) }
     ensures reports { (time : ℕ) (source : Source) (name : List ℕ) → AreToldItems (codes "HS") time (report_items time source name) }
     ensures messages { (time : ℕ) (source : Source) (entry : Option ActEntry) → AreToldItems (codes "HS") time (message_items time source entry) }
+    ensures acted { (time : ℕ) (acts : List MessageRow) (source : Source) (name : List ℕ) (action : Action) (went : Bool)
+        → AreToldItems (codes "HS") time (performed time acts source name action went) }
     ensures miscompares { (time : ℕ) (happened : List Happening) (slice : Option Slice) → AreToldItems (codes "CS") time (slice_items time happened slice) }
     ensures heads { (place time : ℕ) (right : Bool) (packet : List ℕ) (left : List TimedCommand) → AreToldItems (codes "SC") time (head_items place time right packet left) }
     ensures firings { (time : ℕ) (row : ActRow) → AreToldItems (codes "LC") time (firing_items time row) }
+    ensures namings { (time : ℕ) (naming : Naming) → IsToldItem (codes "TBL") time (table_event time naming) }
 {}
 
 /// The table's events of an application are those of its codes, of its refusals and its own, and no others.
@@ -68,4 +76,6 @@ pub fn tables_are_whole()
     ensures sc_wrong { numbers_of (codes "SC") 3 ≡ 1 ∷ 2 ∷ 3 ∷ 4 ∷ 5 ∷ 6 ∷ 7 ∷ 8 ∷ 9 ∷ wrong_in_ats ∷ wrong_in_rts ∷ [] }
     ensures lc_done { numbers_of (codes "LC") 2 ≡ map (λ row. 16 + row.0) lc_codes }
     ensures lc_wrong { numbers_of (codes "LC") 3 ≡ 1 ∷ 2 ∷ 3 ∷ 4 ∷ 5 ∷ firing_event ∷ [] }
+    ensures tables_done { numbers_of (codes "TBL") 2 ≡ 1 ∷ [] }
+    ensures tables_wrong { numbers_of (codes "TBL") 3 ≡ 2 ∷ 3 ∷ [] }
 {}

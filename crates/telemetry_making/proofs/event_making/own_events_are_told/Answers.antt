@@ -2,7 +2,10 @@ use Rattle.std.proofs.Common.{ℕ, true, false, List, [], ◌∷◌, Some, None,
 use Rattle.std.specs.Prelude.{◌==◌, codes}
 use Rattle.events.specs.Events.{event_row}
 use Rattle.events.specs.Tables.{event_table, hs_events, mm_events, md_events, cs_events, sc_events, lc_events, table_events}
+use Rattle.hs_tables.specs.Actions.{entry_of}
 use Rattle.hs_actions.specs.Items.{event_out, hs_name}
+use Rattle.hs_actions.specs.Outcomes.{act_at}
+use Rattle.hs_actions.specs.declared.action.Action.TheVariants.{Reset, Restart, Report, Message}
 use Rattle.hs_actions.specs.declared.action.Source.TheVariants.{AppMonitor, EventMonitor}
 use Rattle.cs_slices.specs.Messages.{cs_name}
 use Rattle.cs_slices.specs.Passes.{differs_behind}
@@ -11,6 +14,8 @@ use Rattle.sc_sequences.specs.Messages.{sc_name}
 use Rattle.sc_sequences.specs.Sequences.{is_relative}
 use Rattle.sc_sequences.specs.Turns.{ending_items, head_items}
 use Rattle.lc_watch.specs.Messages.{lc_name}
+use Rattle.app_suite.specs.Activations.{tables_name}
+use Rattle.app_suite.specs.declared.activations.Naming.TheVariants.{Accepted, Refused, Running}
 use Rattle.telemetry_making.specs.Told.{AreToldItems}
 use Rattle.telemetry_making.proofs.AnswerLemmas.{either}
 use Rattle.telemetry_making.proofs.event_making.own_events_are_told.Goals as goal
@@ -31,6 +36,18 @@ returns-clause-messages c time source None = tt
 returns-clause-messages c time AppMonitor (Some entry) = (tt, either (entry.state == 2) (λ e. rw e tt) (λ e. rw e ((104, 3, refl, refl), tt)))
 returns-clause-messages c time EventMonitor (Some entry) = (tt, either (entry.state == 2) (λ e. rw e tt) (λ e. rw e ((114, 3, refl, refl), tt)))
 
+pub returns-clause-acted : goal.returns-clause-acted
+unfolding event_row event_table hs_events mm_events md_events cs_events sc_events lc_events table_events event_out hs_name
+returns-clause-acted c time acts AppMonitor name Reset true = ((101, 3, refl, refl), (tt, tt))
+returns-clause-acted c time acts EventMonitor name Reset true = ((111, 3, refl, refl), (tt, tt))
+returns-clause-acted c time acts AppMonitor name Reset false = ((105, 3, refl, refl), tt)
+returns-clause-acted c time acts EventMonitor name Reset false = ((115, 3, refl, refl), tt)
+returns-clause-acted c time acts AppMonitor name Restart went = ((102, 3, refl, refl), (tt, tt))
+returns-clause-acted c time acts EventMonitor name Restart went = ((112, 3, refl, refl), (tt, tt))
+returns-clause-acted c time acts source name Report went = returns-clause-reports c time source name
+returns-clause-acted c time acts source name (Message place) true = returns-clause-messages c time source (entry_of (act_at acts place))
+returns-clause-acted c time acts source name (Message place) false = tt
+
 pub returns-clause-miscompares : goal.returns-clause-miscompares
 unfolding event_row event_table hs_events mm_events md_events cs_events sc_events lc_events table_events cs_name
 returns-clause-miscompares c time happened None = tt
@@ -50,3 +67,9 @@ returns-clause-heads c place time false packet left =
 pub returns-clause-firings : goal.returns-clause-firings
 unfolding event_row event_table hs_events mm_events md_events cs_events sc_events lc_events table_events lc_name
 returns-clause-firings c time row = (tt, ((101, 3, refl, refl), tt))
+
+pub returns-clause-namings : goal.returns-clause-namings
+unfolding event_row event_table hs_events mm_events md_events cs_events sc_events lc_events table_events tables_name
+returns-clause-namings c time Accepted = (1, 2, refl, refl)
+returns-clause-namings c time Refused = (2, 3, refl, refl)
+returns-clause-namings c time Running = (3, 3, refl, refl)

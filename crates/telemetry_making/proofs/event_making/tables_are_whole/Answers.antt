@@ -55,3 +55,11 @@ returns-clause-lc_done c = refl
 pub returns-clause-lc_wrong : goal.returns-clause-lc_wrong
 unfolding event_table hs_events mm_events md_events cs_events sc_events lc_events table_events hs_codes mm_codes md_codes cs_codes sc_codes lc_codes
 returns-clause-lc_wrong c = refl
+
+pub returns-clause-tables_done : goal.returns-clause-tables_done
+unfolding event_table hs_events mm_events md_events cs_events sc_events lc_events table_events
+returns-clause-tables_done c = refl
+
+pub returns-clause-tables_wrong : goal.returns-clause-tables_wrong
+unfolding event_table hs_events mm_events md_events cs_events sc_events lc_events table_events
+returns-clause-tables_wrong c = refl
