@@ -1,0 +1,4 @@
+pub mod Used
+pub mod Dwelling
+pub mod Commands
+pub mod Watched
