@@ -1,7 +1,6 @@
 """What the script writes of the cases, and what differs from it."""
 
 import pathlib
-import shutil
 
 from making.cases import cases_in
 from making.words import SENT, counted, usage
@@ -43,11 +42,16 @@ def unlisted(cases):
     return [line for line in lines if line not in document]
 
 
+def is_text(path):
+    """Whether a file is the text of a table, which examples/texts writes and compares."""
+    return path.suffix == ".text"
+
+
 def differences(cases):
     files = wanted(cases)
     told = [f"{path.relative_to(TOP)} isn't what this script writes" for path, data in files.items() if not path.is_file() or path.read_bytes() != data]
     for folder in PROGRAM / "data", FIRST:
-        told += [f"{path.relative_to(TOP)} isn't written by this script" for path in sorted(folder.rglob("*")) if path.is_file() and path not in files]
+        told += [f"{path.relative_to(TOP)} isn't written by this script" for path in sorted(folder.rglob("*")) if path.is_file() and path not in files and not is_text(path)]
     return told + [f"docs/COMMANDS.md lacks `{line}`" for line in unlisted(cases)]
 
 
@@ -63,10 +67,12 @@ def check(words):
 
 
 def write(_):
-    """Writes all files, in place of those that stand there."""
+    """Writes all files, in place of those that stand there. The texts of tables stay."""
     files = wanted(cases_in(PROGRAM / "cases"))
     for folder in PROGRAM / "data", FIRST:
-        shutil.rmtree(folder, ignore_errors=True)
+        for path in folder.rglob("*"):
+            if path.is_file() and not is_text(path):
+                path.unlink()
     for path, data in files.items():
         path.parent.mkdir(parents=True, exist_ok=True)
         path.write_bytes(data)
