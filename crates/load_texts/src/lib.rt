@@ -14,6 +14,3 @@ pub use headers::header_fields;
 pub use loaded::{NamedFile, asked_file};
 pub use reading::{is_load_text, read_load};
 pub use showing::show_load;
-
-#[cfg(test)]
-mod tests;

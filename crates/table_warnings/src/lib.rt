@@ -10,6 +10,3 @@ mod watched;
 
 pub use finding::find_warnings;
 pub use warning::{Place, Warning};
-
-#[cfg(test)]
-mod tests;

@@ -1,5 +1,5 @@
 //! That loads are read and shown where there is memory: a call that gave up for want of it would be proved too.
-use crate::{asked_file, header_fields, is_load_text, read_load, show_load};
+use load_texts::{asked_file, header_fields, is_load_text, read_load, show_load};
 use std::test::Fail;
 use table_files::{FileImage, read_file};
 

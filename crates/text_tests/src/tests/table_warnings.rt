@@ -1,5 +1,5 @@
 //! What is told of tables, by the rules of docs/FILES.md and docs/COMMANDS.md.
-use crate::{Place, Warning, find_warnings};
+use table_warnings::{Place, Warning, find_warnings};
 use std::test::Fail;
 use table_files::TableKind;
 
