@@ -41,6 +41,24 @@ over_beside old new lc crew room manned there told taken = record {
   memory = taken.memory;
 }
 
+-- the applications were woken in a bench that is the same but for the proofs of its facts
+pub steps_beside : (counters : List Counter) (old new : Bench) (room : old.drops.room ≡ DROPS) (manned : old.crew.jobs ≡ jobs_of old.bus.watched) (there : old.lc.there ≡ old.bus.watched) (told : old.activations.room ≡ LIST_ROOM)
+    → Steps counters (record old { drops_room = room; manned = manned; there = there; activations_room = told }) new → Steps counters old new
+steps_beside counters old new room manned there told steps = record {
+  run = record { waits = steps.run.waits; epoch = steps.run.epoch; number = steps.run.number; failed = steps.run.failed; tables = steps.run.tables };
+  told = steps.told;
+  hs = steps.hs;
+  cs = steps.cs;
+  sc = steps.sc;
+  mm = steps.mm;
+  md = steps.md;
+  lc = steps.lc;
+  operations = steps.operations;
+  pipes = steps.pipes;
+  log = steps.log;
+  memory = steps.memory;
+}
+
 module _ (counters : List Counter) (old middle new : Bench) (woken : AreWoken counters old middle) (taken : TakesOver middle new) where
   same_memory : new.ram ≡ old.ram
   same_memory = taken.memory ∙ woken.slots.memory

@@ -3,6 +3,7 @@
 
 mod bench;
 mod cut;
+mod in_place;
 mod opening;
 mod steps;
 

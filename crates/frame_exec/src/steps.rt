@@ -4,10 +4,25 @@ ghost use Rattle.std.specs.Prelude.{◌≡◌};
 ghost use Rattle.hs_monitors.specs.declared.step.TheConstants.{MOST_ITEMS};
 
 use crate::bench::Bench;
+use crate::in_place::wake_in_place;
 use app_suite::{Reads, Scene, wake_all};
 use fsw_outside::Gate;
 use packet_forms::Counter;
 use std::thread::Threads;
+
+/// Whether several of so many workers are of use for these applications, by whether each rests.
+#[inline(always)]
+fn are_shared(workers: u32, rests: [bool; 5]) -> bool {
+    if workers <= 1 {
+        return false;
+    }
+    let busy = u32::from(!rests[0])
+        + u32::from(!rests[1])
+        + u32::from(!rests[2])
+        + u32::from(!rests[3])
+        + u32::from(!rests[4]);
+    busy > 1
+}
 
 impl<'f> Bench<'f> {
     ghost use Rattle.std.specs.Prelude.{◌+◌, ◌<◌, ◌≤◌, [], length, slice_index_or, true, false};
@@ -17,7 +32,7 @@ impl<'f> Bench<'f> {
     ghost use Rattle.app_suite.specs.declared.left.Left.{Left};
 
     /// Wakes the applications that are there on what they took, on execution counters and on the frame's image, and tells whether no item
-    /// was given. Where all rest none is woken, but in the first frame: its jobs go over all workers, whatever there is to do.
+    /// was given. The jobs of the first frame go over all workers, whatever there is to do.
     #[inline(always)]
     pub(crate) fn step<R: Threads + Sync, G: Gate>(
         &mut self,
@@ -34,23 +49,29 @@ impl<'f> Bench<'f> {
         ensures ready { IsReady self.new }
         ensures none { result ≡ true → joined (items_in self.new) ≡ [] }
     {
-        if self.number > 0 && self.rests(counters) {
-            return true;
+        if self.number == 0 {
+            return self.step_on_crew(rt, gate, counters);
         }
-        let workers = self.useful_workers(counters);
-        if self.lc.there {
-            return self.step_watched(rt, gate, counters, workers);
-        }
-        self.wake(rt, gate, counters, workers, false);
-        self.take_over()
+        self.step_in_place(rt, gate, counters)
     }
 
-    /// Whether no application has anything to do in this frame.
+    /// Wakes those that have something to do where they are, one after another. Where several have and there are workers for them, or
+    /// where LC has, the crew wakes all.
     #[inline(always)]
-    fn rests(&self, counters: &[Counter]) -> bool
-        requires time { self.now.epoch + self.now.number < 4294967296 }
-        requires clear { IsClear self.now }
-        ensures { result ≡ true → Steps counters.now self.now self.now }
+    fn step_in_place<R: Threads + Sync, G: Gate>(
+        &mut self,
+        rt: &R,
+        gate: &G,
+        counters: &[Counter],
+    ) -> bool
+        requires time { self.old.epoch + self.old.number < 4294967296 }
+        requires clear { IsClear self.old }
+        requires ready { IsReady self.old }
+        ensures steps { Steps counters.now self.old self.new }
+        ensures can_send { CanSend self.new }
+        ensures few { length self.new.hs.out.items ≤ MOST_ITEMS }
+        ensures ready { IsReady self.new }
+        ensures none { result ≡ true → joined (items_in self.new) ≡ [] }
     {
         let reads = Reads {
             tables: &self.tables,
@@ -60,22 +81,51 @@ impl<'f> Bench<'f> {
             counters,
             time: self.epoch + self.number as u32,
         };
-        if !self.mm.rests(&reads) {
-            return false;
+        if !reads.lc.slot.rests(&reads) {
+            return self.step_on_crew(rt, gate, counters);
         }
-        if !self.hs.rests(&reads) {
-            return false;
+        let hs_rests = self.hs.rests(&reads);
+        let cs_rests = self.cs.rests(&reads);
+        let sc_rests = self.sc.rests(&reads);
+        let mm_rests = self.mm.rests(&reads);
+        let md_rests = self.md.rests(&reads);
+        if are_shared(
+            self.workers,
+            [hs_rests, cs_rests, sc_rests, mm_rests, md_rests],
+        ) {
+            return self.step_on_crew(rt, gate, counters);
         }
-        if !self.md.rests(&reads) {
-            return false;
+        let hs = wake_in_place(&mut self.hs, hs_rests, &reads, &mut ());
+        let cs = wake_in_place(&mut self.cs, cs_rests, &reads, &mut ());
+        let sc = wake_in_place(&mut self.sc, sc_rests, &reads, &mut ());
+        let mm = wake_in_place(&mut self.mm, mm_rests, &reads, &mut *self.ops);
+        let md = wake_in_place(&mut self.md, md_rests, &reads, &mut ());
+        hs & cs & sc & mm & md
+    }
+
+    /// Wakes each application that is there as a job of the crew, on as many workers as are of use, and tells whether no item was given.
+    #[inline(never)]
+    fn step_on_crew<R: Threads + Sync, G: Gate>(
+        &mut self,
+        rt: &R,
+        gate: &G,
+        counters: &[Counter],
+    ) -> bool
+        requires time { self.old.epoch + self.old.number < 4294967296 }
+        requires clear { IsClear self.old }
+        requires ready { IsReady self.old }
+        ensures steps { Steps counters.now self.old self.new }
+        ensures can_send { CanSend self.new }
+        ensures few { length self.new.hs.out.items ≤ MOST_ITEMS }
+        ensures ready { IsReady self.new }
+        ensures none { result ≡ true → joined (items_in self.new) ≡ [] }
+    {
+        let workers = self.useful_workers(counters);
+        if self.lc.there {
+            return self.step_watched(rt, gate, counters, workers);
         }
-        if !self.sc.rests(&reads) {
-            return false;
-        }
-        if !self.cs.rests(&reads) {
-            return false;
-        }
-        self.lc.slot.rests(&reads)
+        self.wake(rt, gate, counters, workers, false);
+        self.take_over()
     }
 
     /// How many workers are of use in this frame: as many as there are applications with something to do, and all in the first frame.

@@ -2,7 +2,7 @@ use Rattle.std.proofs.Common.{◌∙◌, ap, sym, arith}
 use Rattle.app_suite.specs.declared.lc_slot.LcSlot.{LcSlot}
 use Rattle.app_suite.proofs.Taking.{away_woken, none_sendable, five_or_six}
 use Rattle.frame_exec.proofs.Woken.{all_step, all_can_send, all_few, all_ready}
-use Rattle.frame_exec.proofs.bench.Bench.step.Goals as goal
+use Rattle.frame_exec.proofs.bench.Bench.step_on_crew.Goals as goal
 
 pub wake-requires-clause-watched : goal.wake-requires-clause-watched
 wake-requires-clause-watched g c = λ _ _. sym c.args.self.now.there ∙ c.if-self.false
