@@ -239,36 +239,36 @@ frames_behind : ℕ → ℕ → Frame → List FrameItem → List Given
 frames_behind zero n f items = []
 frames_behind (suc k) n f items = Whole (with_items_of n f items) ∷ frames_said k (n + 1) items
 
-items_none : (n : ℕ) (f : Frame) → with_items_of n f [] ≡ f
+pub items_none : (n : ℕ) (f : Frame) → with_items_of n f [] ≡ f
 unfolding with_items_of
 items_none n f = refl
 
-items_first : (n : ℕ) (f : Frame) (i : FrameItem) (more : List FrameItem) → with_items_of n f (i ∷ more) ≡ with_items_of n (if i.frame == n then with_said f (sentence_said i.line) else f) more
+pub items_first : (n : ℕ) (f : Frame) (i : FrameItem) (more : List FrameItem) → with_items_of n f (i ∷ more) ≡ with_items_of n (if i.frame == n then with_said f (sentence_said i.line) else f) more
 unfolding with_items_of
 items_first n f i more = refl
 
 -- an item of another frame
-item_of_other : (n m : ℕ) (f : Frame) (line : List (List ℕ)) (more : List FrameItem) → (m == n) ≡ false → with_items_of n f (record { frame = m; line = line } ∷ more) ≡ with_items_of n f more
+pub item_of_other : (n m : ℕ) (f : Frame) (line : List (List ℕ)) (more : List FrameItem) → (m == n) ≡ false → with_items_of n f (record { frame = m; line = line } ∷ more) ≡ with_items_of n f more
 item_of_other n m f line more other = items_first n f (record { frame = m; line = line }) more ∙ ap (λ (b : Bool). with_items_of n (if b then with_said f (sentence_said line) else f) more) other
 
 -- an item of the frame that has begun
-item_of_own : (n : ℕ) (f : Frame) (line : List (List ℕ)) (s : Sentence) (more : List FrameItem) → sentence_said line ≡ Ok s → with_items_of n f (record { frame = n; line = line } ∷ more) ≡ with_items_of n (with_item f s) more
+pub item_of_own : (n : ℕ) (f : Frame) (line : List (List ℕ)) (s : Sentence) (more : List FrameItem) → sentence_said line ≡ Ok s → with_items_of n f (record { frame = n; line = line } ∷ more) ≡ with_items_of n (with_item f s) more
 item_of_own n f line s more is =
     let own : (n == n) ≡ true = grind (arith, nat_tests) in
     items_first n f (record { frame = n; line = line }) more
     ∙ ap (λ (b : Bool). with_items_of n (if b then with_said f (sentence_said line) else f) more) own
     ∙ ap (λ (r : Result Sentence Reason). with_items_of n (with_said f r) more) is
 
-frames_zero : (n : ℕ) (items : List FrameItem) → frames_said 0 n items ≡ []
+pub frames_zero : (n : ℕ) (items : List FrameItem) → frames_said 0 n items ≡ []
 unfolding frames_said
 frames_zero n items = refl
 
-frames_more : (k n : ℕ) (items : List FrameItem) → frames_said (suc k) n items ≡ Whole (with_items_of n no_items items) ∷ frames_said k (n + 1) items
+pub frames_more : (k n : ℕ) (items : List FrameItem) → frames_said (suc k) n items ≡ Whole (with_items_of n no_items items) ∷ frames_said k (n + 1) items
 unfolding frames_said
 frames_more k n items = refl
 
 -- an item of a frame before these
-frames_past : (k m n : ℕ) (line : List (List ℕ)) (more : List FrameItem) → n < m → frames_said k m (record { frame = n; line = line } ∷ more) ≡ frames_said k m more
+pub frames_past : (k m n : ℕ) (line : List (List ℕ)) (more : List FrameItem) → n < m → frames_said k m (record { frame = n; line = line } ∷ more) ≡ frames_said k m more
 frames_past zero m n line more before = frames_zero m (record { frame = n; line = line } ∷ more) ∙ sym (frames_zero m more)
 frames_past (suc k) m n line more before =
     let other : (n == m) ≡ false = grind (arith, nat_tests) in
@@ -474,13 +474,18 @@ reading_is : (lines : List (List (List ℕ))) → AllByRecursion IsTextLine line
 unfolding reading read_bytes
 reading_is lines all = ap (read true nothing) (whole_text lines all)
 
--- a scenario that is made gives its plan's header and frames, where it ends well
-pub plan_given : (cs : List Command) (text : List ℕ) (lines : List (List (List ℕ))) → are_good cs ≡ true → plan_said cs text ≡ Ok lines → (reading (record { bytes = text_of lines; closed = true })).ending ≡ Ended
-    → (reading (record { bytes = text_of lines; closed = true })).items ≡ head_said [] lines ∷ frames_said (ticks_in lines) 0 (plan_items cs stages.Opening (kept_of 1 text))
-plan_given cs text lines good e ends =
-    let all = made_lines cs text lines good e in
+-- a text of such lines gives its header and frames, where it ends well
+pub lines_given : (lines : List (List (List ℕ))) → AllByRecursion IsTextLine lines → (reading (record { bytes = text_of lines; closed = true })).ending ≡ Ended
+    → (reading (record { bytes = text_of lines; closed = true })).items ≡ head_said [] lines ∷ frames_said (ticks_in lines) 0 (items_of 0 lines)
+lines_given lines all ends =
     let same = reading_is lines all in
     ap (λ (r : Reading). r.items) same
     ∙ in_header lines nothing all refl (sym (ap (λ (r : Reading). r.ending) same) ∙ ends)
     ∙ ap (λ (fs : List Given). head_said [] lines ∷ fs) (sym (frames_begun (ticks_in lines) 0 (items_of 0 lines)))
+
+-- a scenario that is made gives its plan's header and frames, where it ends well
+pub plan_given : (cs : List Command) (text : List ℕ) (lines : List (List (List ℕ))) → are_good cs ≡ true → plan_said cs text ≡ Ok lines → (reading (record { bytes = text_of lines; closed = true })).ending ≡ Ended
+    → (reading (record { bytes = text_of lines; closed = true })).items ≡ head_said [] lines ∷ frames_said (ticks_in lines) 0 (plan_items cs stages.Opening (kept_of 1 text))
+plan_given cs text lines good e ends =
+    lines_given lines (made_lines cs text lines good e) ends
     ∙ ap (λ (is : List FrameItem). head_said [] lines ∷ frames_said (ticks_in lines) 0 is) (items_keep cs text lines e)

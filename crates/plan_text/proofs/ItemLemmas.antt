@@ -41,7 +41,7 @@ unfolding ticks_in
 ticks_nil = refl
 
 -- the items of lines, and of those behind them
-items_append : (n : ℕ) (xs ys : List (List (List ℕ))) → items_of n (xs ++ ys) ≡ items_of n xs ++ items_of (n + ticks_in xs) ys
+pub items_append : (n : ℕ) (xs ys : List (List (List ℕ))) → items_of n (xs ++ ys) ≡ items_of n xs ++ items_of (n + ticks_in xs) ys
 items_append n [] ys = ap (λ (k : ℕ). items_of k ys) (let z = ticks_nil in let e : n ≡ n + ticks_in [] = omega (arith, z) in e) ∙ ap (λ (t : List FrameItem). t ++ items_of (n + ticks_in []) ys) (sym (items_nil n))
 items_append n (x ∷ xs) ys =
     let t = ticks_by (verb_in x) in
@@ -53,27 +53,27 @@ items_append n (x ∷ xs) ys =
     ∙ ap (λ (is : List FrameItem). is ++ items_of (n + t + ticks_in xs) ys) (sym (items_cons n x xs))
     ∙ ap (λ (k : ℕ). items_of n (x ∷ xs) ++ items_of k ys) e
 
-tick_verb : verb_in tick ≡ Some verbs.Tick
+pub tick_verb : verb_in tick ≡ Some verbs.Tick
 unfolding verb_of
 tick_verb = refl
 
-end_verb : verb_in end ≡ Some verbs.End
+pub end_verb : verb_in end ≡ Some verbs.End
 unfolding verb_of
 end_verb = refl
 
-sent_verb : (packet : List ℕ) → verb_in (sent_line packet) ≡ Some verbs.Send
+pub sent_verb : (packet : List ℕ) → verb_in (sent_line packet) ≡ Some verbs.Send
 unfolding verb_of
 sent_verb packet = refl
 
 -- ticks are no items, and end as many frames
-no_items : (n k : ℕ) → items_of n (replicate k tick) ≡ []
+pub no_items : (n k : ℕ) → items_of n (replicate k tick) ≡ []
 no_items n zero = items_nil n
 no_items n (suc k) =
     items_cons n tick (replicate k tick)
     ∙ ap (λ (v : Option Verb). items_by n v tick ++ items_of (n + ticks_by v) (replicate k tick)) tick_verb
     ∙ no_items (n + 1) k
 
-all_ticks : (k : ℕ) → ticks_in (replicate k tick) ≡ k
+pub all_ticks : (k : ℕ) → ticks_in (replicate k tick) ≡ k
 all_ticks zero = ticks_nil
 all_ticks (suc k) =
     let more = all_ticks k in

@@ -99,33 +99,33 @@ sent_is_packet cs epoch (w ∷ ws) good = by_faultless cs epoch (hex_said w) w w
 plain_no : (c b : ℕ) → c < 33 → IsPlain b → (b == c) ≡ false
 plain_no c b low plain = grind (arith, nat_tests)
 
-plain_word : (w : List ℕ) → 0 < length w → AllByRecursion IsPlain w → IsTextWord w
+pub plain_word : (w : List ℕ) → 0 < length w → AllByRecursion IsPlain w → IsTextWord w
 plain_word w some all = (some, all_map IsPlain (λ b. (b == 32) ≡ false) (λ b p. plain_no 32 b (omega arith) p) w all, all_map IsPlain (λ b. (b == 10) ≡ false) (λ b p. plain_no 10 b (omega arith) p) w all)
 
-tick_line_is : IsTextLine tick
+pub tick_line_is : IsTextLine tick
 tick_line_is = ((omega arith, (refl, (refl, (refl, (refl, tt)))), (refl, (refl, (refl, (refl, tt))))), refl, tt)
 
-end_line_is : IsTextLine end
+pub end_line_is : IsTextLine end
 end_line_is = ((omega arith, (refl, (refl, (refl, tt))), (refl, (refl, (refl, tt)))), refl, tt)
 
-sent_line_is : (packet : List ℕ) → fault_of packet ≡ None → IsTextLine (sent_line packet)
+pub sent_line_is : (packet : List ℕ) → fault_of packet ≡ None → IsTextLine (sent_line packet)
 sent_line_is packet good =
     let long = (packet_of_none packet good).long in
     let size = hex_length packet in
     ((omega arith, (refl, (refl, (refl, (refl, tt)))), (refl, (refl, (refl, (refl, tt))))), refl, (plain_word (hex packet) (omega (arith, long, size)) (hex_is_plain packet), tt))
 
-abbrev AreTextLines : List (List (List ℕ)) → Type 0
+abbrev pub AreTextLines : List (List (List ℕ)) → Type 0
 AreTextLines lines = AllByRecursion IsTextLine lines
 
 abbrev MakesLines : Result Made PlanReason → Type 0
 MakesLines (Ok made) = AreTextLines made.lines
 MakesLines (Err reason) = Unit {0}
 
-lines_append : (xs ys : List (List (List ℕ))) → AreTextLines xs → AreTextLines ys → AreTextLines (xs ++ ys)
+pub lines_append : (xs ys : List (List (List ℕ))) → AreTextLines xs → AreTextLines ys → AreTextLines (xs ++ ys)
 lines_append [] ys first second = second
 lines_append (x ∷ xs) ys first second = (first.0, lines_append xs ys first.1 second)
 
-ticks_are : (k : ℕ) → AreTextLines (replicate k tick)
+pub ticks_are : (k : ℕ) → AreTextLines (replicate k tick)
 ticks_are zero = tt
 ticks_are (suc k) = (tick_line_is, ticks_are k)
 

@@ -5,6 +5,25 @@ use std::alloc::AllocError;
 use telecommands::CommandFault;
 use thiserror::Error;
 
+/// What a scenario's reader finds wrong with a line.
+#[derive(Clone, Copy, Debug, PartialEq, Eq, Error)]
+pub enum LineReason {
+    #[error("it has too few words or too many, or a kind, an application or a name isn't in its form")]
+    Words,
+    #[error("a number isn't in its form or is too large")]
+    Number,
+    #[error("the bytes are no packet")]
+    Packet,
+    #[error("the regions are no map, or the address lies in none of them")]
+    Map,
+    #[error("it is the 65th item of its frame")]
+    Items,
+    #[error("the line, the scenario or the number of frames is too large")]
+    Long,
+    #[error("the scenario doesn't end")]
+    Unended,
+}
+
 /// What is wrong with a line of a plan.
 #[derive(Clone, Copy, Debug, PartialEq, Eq, Error)]
 pub enum PlanReason {
@@ -44,6 +63,27 @@ pub enum PlanReason {
     /// Something is said behind `end`.
     #[error("behind `end` nothing may stand")]
     Behind,
+    /// A span in another form.
+    #[error("it is `from TIME to TIME`, or `every 10s from TIME to TIME`")]
+    Span,
+    /// The period of `every` is out of form, or too long.
+    #[error("the period is no number of seconds from 1s to 100000s")]
+    Period,
+    /// The span has no frame.
+    #[error("the span ends before it begins, or where it begins")]
+    Backward,
+    /// A hold in another form.
+    #[error("it is `hold APP`, or `hold APP for N` with N from 1 to 100000")]
+    Hold,
+    /// A counter in another form.
+    #[error("it is `counter NAME counts`, `counter NAME stays` or `counter NAME = N`")]
+    Counter,
+    /// More lines than a scenario of this size can have.
+    #[error("a scenario has at most 16777216 bytes")]
+    Long,
+    /// What the reader of the scenario that is made finds at the line.
+    #[error("{0}")]
+    Line(LineReason),
 }
 
 /// The first fault of a plan: its line, counted from 1, and what is wrong there.
@@ -56,7 +96,7 @@ pub struct PlanFault {
 
 /// Why a line wasn't read.
 #[derive(Clone, Copy, Debug, PartialEq, Eq)]
-pub(crate) enum LineError {
+pub enum LineError {
     Memory(AllocError),
     Because(PlanReason),
 }

@@ -10,5 +10,8 @@ mod times;
 mod verb;
 mod writing;
 
-pub use fault::{PlanError, PlanFault, PlanReason};
-pub use plan::make_scenario;
+pub use fault::{LineError, LineReason, PlanError, PlanFault, PlanReason};
+pub use line::{last_word, no_word, read_sent, word_fault};
+pub use plan::{error_on, make_scenario};
+pub use times::{frame_of_time, read_time};
+pub use writing::{put_line, put_sent};

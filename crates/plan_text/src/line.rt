@@ -24,14 +24,14 @@ const MOST_ITEMS: u32 = 64;
 const LAST_EPOCH: u32 = 4_294_000_000;
 
 /// A fault of the word of this number.
-pub(crate) fn word_fault(word: usize, reason: Reason) -> PlanReason
+pub fn word_fault(word: usize, reason: Reason) -> PlanReason
     ensures { result ≡ word_fault word reason }
 {
     PlanReason::Row(RowFault { word, reason })
 }
 
 /// The word of this number, which is the line's last one.
-pub(crate) fn last_word(word: usize, line: &[u8]) -> Result<&[u8], PlanReason>
+pub fn last_word(word: usize, line: &[u8]) -> Result<&[u8], PlanReason>
     requires { word < 2 ^ 16 }
     ensures { GivesWord word (words line.now) result }
 {
@@ -45,7 +45,7 @@ pub(crate) fn last_word(word: usize, line: &[u8]) -> Result<&[u8], PlanReason>
 }
 
 /// No word stands where the second would.
-fn no_word(line: &[u8]) -> Result<(), PlanReason>
+pub fn no_word(line: &[u8]) -> Result<(), PlanReason>
     ensures { result ≡ none 2 (words line.now) }
 {
     match split_word(line) {
@@ -273,7 +273,7 @@ fn put_item(course: &Course, packet: &Packet, out: &mut Vec<u8>) -> Result<Stage
 
 /// The packet that the words behind `send` say: its bytes, or a telecommand.
 #[tactic(auto, unfolding(crate::specs::Plans::packet_sent))]
-fn read_sent(
+pub fn read_sent(
     commands: &[Command],
     epoch: u32,
     line: &[u8],

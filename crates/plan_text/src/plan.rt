@@ -56,7 +56,7 @@ fn finish(stage: &Stage, line: u32) -> Result<(), PlanFault>
 }
 
 /// Why the line of this number wasn't read.
-fn error_on(line: u32, error: LineError) -> PlanError
+pub fn error_on(line: u32, error: LineError) -> PlanError
     ensures { result ≡ error_on line error }
 {
     match error {

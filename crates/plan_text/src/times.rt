@@ -75,7 +75,7 @@ fn second_of(epoch: u32, text: &[u8]) -> Option<u32>
 
 /// The frame of the time that the word of this number says.
 #[tactic(auto, unfolding(crate::specs::Plans::frame_of_time))]
-fn frame_of_time(epoch: u32, word: usize, text: &[u8]) -> Result<u32, PlanReason>
+pub fn frame_of_time(epoch: u32, word: usize, text: &[u8]) -> Result<u32, PlanReason>
     ensures { result ≡ frame_of_time epoch word text.now }
 {
     let Some(second) = second_of(epoch, text) else {
@@ -91,7 +91,7 @@ fn frame_of_time(epoch: u32, word: usize, text: &[u8]) -> Result<u32, PlanReason
 }
 
 /// The frame of the time that is the word of this number and the line's last one.
-pub(crate) fn read_time(epoch: u32, word: usize, line: &[u8]) -> Result<u32, PlanReason>
+pub fn read_time(epoch: u32, word: usize, line: &[u8]) -> Result<u32, PlanReason>
     requires { word < 2 ^ 16 }
     ensures { result ≡ time_line epoch word (words line.now) }
 {

@@ -23,7 +23,7 @@ fn put_words(line: &[u8], out: &mut Vec<u8>) -> Result<(), AllocError>
 }
 
 /// Appends a line of a word and those of `others`.
-pub(crate) fn put_line(word: &[u8], others: &[u8], out: &mut Vec<u8>) -> Result<(), AllocError>
+pub fn put_line(word: &[u8], others: &[u8], out: &mut Vec<u8>) -> Result<(), AllocError>
     ensures { OnOk result (out.new.items ≡ out.old.items ++ line_text (word.now ∷ words others.now)) }
 {
     out.extend_from_slice(word)?;
@@ -34,7 +34,7 @@ pub(crate) fn put_line(word: &[u8], others: &[u8], out: &mut Vec<u8>) -> Result<
 
 /// Appends the line that sends a packet.
 #[tactic(auto, unfolding(row_forms::specs::Rows::spaced))]
-pub(crate) fn put_sent(packet: &Packet, out: &mut Vec<u8>) -> Result<(), AllocError>
+pub fn put_sent(packet: &Packet, out: &mut Vec<u8>) -> Result<(), AllocError>
     ensures { OnOk result (out.new.items ≡ out.old.items ++ line_text (sent_line packet.now)) }
 {
     out.extend_from_slice(b"send ")?;
