@@ -1,0 +1,47 @@
+//! Laws of plans, as contracts of functions that do nothing.
+ghost use Rattle.std.specs.Prelude.{◌≡◌, ◌∷◌, [], ℕ, List, Ok, Err, codes, true, Some, None};
+ghost use Rattle.telecommands.specs.declared.command.Command.{Command};
+ghost use Rattle.telecommands.specs.Commands.{are_good};
+ghost use Rattle.telecommands.specs.Dictionary.{dictionary};
+ghost use Rattle.scenario.specs.Texts.{Ended, reading};
+ghost use Rattle.plan_text.specs.declared.fault.PlanReason.TheVariants as reasons;
+ghost use Rattle.plan_text.specs.Frames.{head_said, frames_said};
+ghost use Rattle.plan_text.specs.Plans.{fault_on};
+ghost use Rattle.timed_plans.specs.Schedules.{Schedule, scenario_lines, words_of, timed_items};
+ghost use Rattle.timed_plans.specs.Plans.{schedule_said, period_said};
+ghost use Rattle.timed_plans.specs.Checks.{scenario_said, IsSaid};
+ghost use Rattle.timed_plans.specs.Worked.{plan, scenario};
+
+/// A plan with items in any order of time, spans, a period, a hold of two frames and counters, and its scenario's text.
+pub fn worked_plan()
+    ensures { IsSaid (schedule_said dictionary plan) scenario }
+{}
+
+/// A scenario that is made is read without fault, and gives the plan's header and its frames: as many as the plan has, each with exactly
+/// the items that the plan says for its number, in the text's order.
+pub fn scenarios_give_their_frames()
+    ensures ends { (cs : List Command) (text made : List ℕ) → scenario_said cs text ≡ Ok made
+        → (reading (record { bytes = made; closed = true })).ending ≡ Ended }
+    ensures items { (cs : List Command) (text made : List ℕ) (s : Schedule) → are_good cs ≡ true → scenario_said cs text ≡ Ok made → schedule_said cs text ≡ Ok s
+        → (reading (record { bytes = made; closed = true })).items ≡ head_said [] (words_of (scenario_lines s)) ∷ frames_said s.frames 0 (timed_items s.lines) }
+{}
+
+/// Faults with their lines: spans that are empty or out of form, a period of nothing, items out of their forms, an end before an item, and
+/// frames behind the last one that a scenario can have.
+pub fn worked_faults()
+    ensures place { schedule_said [] (codes "epoch 5\nhold MM\n") ≡ Err (fault_on 2 reasons.Place) }
+    ensures word { schedule_said [] (codes "epoch 5\n\nplay\n") ≡ Err (fault_on 3 reasons.Word) }
+    ensures early { schedule_said [] (codes "epoch 5\nstart\nat 4\nend\n") ≡ Err (fault_on 3 reasons.Early) }
+    ensures backward { schedule_said [] (codes "epoch 5\nstart\nfrom +0:00:02 to 7\nend\n") ≡ Err (fault_on 3 reasons.Backward) }
+    ensures span { schedule_said [] (codes "epoch 5\nstart\nfrom 5 until 7\nend\n") ≡ Err (fault_on 3 reasons.Span) }
+    ensures period { schedule_said [] (codes "epoch 5\nstart\nevery 0s from 5 to 7\nend\n") ≡ Err (fault_on 3 reasons.Period) }
+    ensures hold { schedule_said [] (codes "epoch 5\nstart\nhold MM for 0\nend\n") ≡ Err (fault_on 3 reasons.Hold) }
+    ensures counter { schedule_said [] (codes "epoch 5\nstart\ncounter NAV runs\nend\n") ≡ Err (fault_on 3 reasons.Counter) }
+    ensures past { schedule_said [] (codes "epoch 5\nstart\nat 8\nhold MM\nend at 8\n") ≡ Err (fault_on 5 reasons.Past) }
+    ensures end { schedule_said [] (codes "epoch 5\nstart\ntick\n") ≡ Err (fault_on 4 reasons.End) }
+    ensures behind { schedule_said [] (codes "epoch 5\nstart\nend\n# late\ntick\n") ≡ Err (fault_on 5 reasons.Behind) }
+    ensures frames { schedule_said [] (codes "epoch 5\nstart\nframe 100000\nhold MM\nend\n") ≡ Err (fault_on 4 reasons.Frames) }
+    ensures held { schedule_said [] (codes "epoch 5\nstart\nat 100003\nhold MM for 3\nend\n") ≡ Err (fault_on 4 reasons.Frames) }
+    ensures seconds { period_said (codes "10s") ≡ Some 10 }
+    ensures minutes { period_said (codes "10m") ≡ None }
+{}
