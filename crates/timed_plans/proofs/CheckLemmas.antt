@@ -1,17 +1,15 @@
 -- Lemmas on what a scenario's reader answers.
-use Rattle.std.proofs.Common.{◌≡◌, ℕ, suc, ◌+◌, ◌*◌, ◌<◌, ◌≤◌, Bool, true, false, List, [], ◌∷◌, ◌++◌, length, take, drop, refl, ap, sym, ◌∙◌, arith, append_assoc, append-nil, subst, inl, inr}
-use Rattle.std.specs.Prelude.{◌⊎◌, ◌==◌, Result, Ok, Err, cond}
+use Rattle.std.proofs.Common.{◌≡◌, ℕ, suc, ◌+◌, ◌*◌, ◌≤◌, Bool, true, false, List, [], ◌∷◌, ◌++◌, length, take, drop, refl, ap, sym, ◌∙◌, arith, append_assoc, append-nil, subst, inl, inr}
+use Rattle.std.specs.Prelude.{◌==◌, Ok, cond}
 use Rattle.std.proofs.lemmas.Bool.{false≢true}
 use Rattle.std.proofs.lemmas.Bool.Decides.{nat_tests}
 use Rattle.scenario.specs.declared.reader.Reader.{Reader}
-use Rattle.scenario.specs.declared.reason.Reason.{Reason}
 use Rattle.scenario.specs.declared.item.Item.{Item as Answer}
 use Rattle.scenario.specs.declared.item.Item.TheVariants as answers
 use Rattle.scenario.specs.Texts.{Text, Given, Reading, Ending, Bad, Ended, Unended, Open, Grows, reading}
 use Rattle.scenario.specs.Answers.{answer_at_end}
 use Rattle.scenario.specs.Standing.{Stands, is_finished, left, fed, closed}
 use Rattle.scenario.specs.TextLaws.{texts_grow}
-use Rattle.plan_text.specs.declared.fault.PlanFault.{PlanFault}
 use Rattle.timed_plans.specs.Schedules.{PageText}
 use Rattle.timed_plans.specs.Checks.{checked, answered, read_page}
 

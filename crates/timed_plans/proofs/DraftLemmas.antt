@@ -1,5 +1,5 @@
 -- Lemmas on drafts.
-use Rattle.std.proofs.Common.{◌≡◌, ℕ, ◌+◌, List, [], ◌∷◌, ◌++◌, map, refl, ap, sym, ◌∙◌, append_assoc, append-nil}
+use Rattle.std.proofs.Common.{◌≡◌, ℕ, ◌+◌, List, [], ◌∷◌, ◌++◌, map, refl, ap, sym, ◌∙◌, append_assoc}
 use Rattle.std.specs.Prelude.{Result, Ok, Err}
 use Rattle.std.proofs.lemmas.List.{map-append}
 use Rattle.telecommands.specs.declared.command.Command.{Command}
@@ -15,7 +15,7 @@ use Rattle.timed_plans.specs.declared.stage.Stage.TheVariants as stages
 use Rattle.timed_plans.specs.declared.plan.Draft.{Draft}
 use Rattle.timed_plans.specs.Schedules.{Timed, timed, spread, counted_in, Schedule, LineText, shown}
 use Rattle.timed_plans.specs.Plans.{Made, Scheduled, scheduled, extended, item_line, counts_line, passed, with_head, with_front, then_head, then_front, staged, finished, lines_said, schedule_said}
-use Rattle.timed_plans.specs.Drafts.{Texts, texts_of, shown_of, put_front, behind, GivesRead, GivesDraft, GivesSchedule}
+use Rattle.timed_plans.specs.Drafts.{Texts, shown_of, put_front, behind, GivesDraft, GivesSchedule}
 
 -- ---- one line
 

@@ -1,5 +1,5 @@
 -- Lemmas on the frames that a scenario's reader gives.
-use Rattle.std.proofs.Common.{◌≡◌, ℕ, zero, suc, ◌+◌, ◌<◌, ◌≤◌, Bool, true, false, List, [], ◌∷◌, ◌++◌, map, Option, Some, None, refl, ap, sym, ◌∙◌, arith, append_assoc, append-nil, subst}
+use Rattle.std.proofs.Common.{◌≡◌, ℕ, zero, suc, ◌+◌, ◌<◌, Bool, true, false, List, [], ◌∷◌, ◌++◌, map, Option, refl, ap, sym, ◌∙◌, arith, append-nil, subst}
 use Rattle.std.specs.Prelude.{◌==◌, if◌then◌else◌, Result, Ok, Err}
 use Rattle.std.specs.List.{AllByRecursion}
 use Rattle.std.proofs.lemmas.Bool.Decides.{nat_tests}
@@ -11,8 +11,7 @@ use Rattle.telecommands.specs.Commands.{are_good}
 use Rattle.table_texts.specs.Lines.{Numbered}
 use Rattle.plan_text.specs.declared.fault.PlanFault.{PlanFault}
 use Rattle.plan_text.specs.Lines.{text_of, tick, end}
-use Rattle.plan_text.specs.Items.{FrameItem, item_at, verb_in, items_by, ticks_by, ticks_in, items_of as line_items}
-use Rattle.plan_text.specs.Readings.{IsTextLine}
+use Rattle.plan_text.specs.Items.{FrameItem, verb_in, items_by, ticks_by, ticks_in, items_of as line_items}
 use Rattle.plan_text.specs.Frames.{sentence_said, with_said, with_items_of, frames_said, head_said}
 use Rattle.plan_text.proofs.ItemLemmas.{items_nil, items_cons, ticks_nil, ticks_cons, items_append, tick_verb, end_verb}
 use Rattle.plan_text.proofs.MadeLemmas.{AreTextLines, tick_line_is, end_line_is, lines_append}

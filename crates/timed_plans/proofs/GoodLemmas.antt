@@ -1,12 +1,12 @@
 -- Lemmas on the lines that a plan says: each is a line of words, of the header or of a frame.
-use Rattle.std.proofs.Common.{◌≡◌, ℕ, zero, suc, ◌+◌, ◌-◌, ◌*◌, ◌/◌, ◌<◌, ◌≤◌, Bool, true, false, List, [], ◌∷◌, ◌++◌, map, max, Option, Some, None, refl, ap, sym, ◌∙◌, arith, subst}
+use Rattle.std.proofs.Common.{◌≡◌, ℕ, zero, suc, ◌+◌, ◌-◌, ◌*◌, ◌<◌, ◌≤◌, Bool, true, false, List, [], ◌∷◌, ◌++◌, map, max, Option, Some, None, refl, sym, arith, subst}
 use Rattle.std.specs.Prelude.{if◌then◌else◌, nat_lt, nat_le, codes, decimal, option_and_then, Result, Ok, Err}
 use Rattle.std.specs.List.{AllByRecursion}
 use Rattle.std.specs.Str.{bytes_eq}
 use Rattle.std.proofs.lemmas.Bool.Decides.{nat_tests}
 use Rattle.row_forms.specs.Words.{number, any_number, at_most}
 use Rattle.row_forms.specs.declared.fault.Reason.TheVariants as words
-use Rattle.row_forms.proofs.TextLemmas.{IsPlain, marks_are_plain, some_digits, decimal_marks}
+use Rattle.row_forms.proofs.TextLemmas.{marks_are_plain, some_digits, decimal_marks}
 use Rattle.telecommands.specs.declared.command.Command.{Command}
 use Rattle.telecommands.specs.declared.fault.CommandFault.{CommandFault}
 use Rattle.telecommands.specs.Commands.{are_good}
@@ -18,7 +18,7 @@ use Rattle.plan_text.specs.declared.fault.PlanFault.{PlanFault}
 use Rattle.plan_text.specs.Verbs.{verb_of}
 use Rattle.plan_text.specs.Lines.{sent_line}
 use Rattle.plan_text.specs.Plans.{◌>>=◌, or_else, word_fault, none, one, frame_of_time, time_line, packet_sent, as_plan}
-use Rattle.plan_text.specs.Items.{FrameItem, item_at, verb_in, items_by, ticks_by}
+use Rattle.plan_text.specs.Items.{item_at, verb_in, items_by, ticks_by}
 use Rattle.plan_text.specs.Readings.{IsTextWord, IsTextLine}
 use Rattle.plan_text.proofs.WordLemmas.{text_lines}
 use Rattle.plan_text.proofs.MadeLemmas.{IsFaultless, sent_is_packet, sent_line_is, plain_word}
@@ -32,7 +32,7 @@ use Rattle.timed_plans.specs.declared.kind.LineKind.TheVariants as kinds
 use Rattle.timed_plans.specs.Kinds.{kind_of}
 use Rattle.timed_plans.specs.Headings.{stepped, frames_in, frame_alone, frames_between}
 use Rattle.timed_plans.specs.Schedules.{Timed, timed, lines_in, spread, app_line, counted_in, Schedule}
-use Rattle.timed_plans.specs.Plans.{Made, turned, turned_to, at_line, frame_line, tick_line, spanned, span_line, period_said, every_line, extended, item_line, send_line, positive, held_for, hold_line, counts_line, counter_line, closed, end_line, course_line, passed, epoch_line, start_line, opening_line, header_line, with_head, with_front, then_head, then_front, opening_said, header_said, course_said, ended_said, staged, finished, lines_said, schedule_said}
+use Rattle.timed_plans.specs.Plans.{Made, turned, turned_to, spanned, span_line, period_said, every_line, extended, item_line, held_for, hold_line, counts_line, counter_line, closed, end_line, course_line, passed, opening_line, header_line, with_head, with_front, then_head, then_front, opening_said, header_said, course_said, ended_said, staged, finished, lines_said, schedule_said}
 use Rattle.timed_plans.specs.Drafts.{AreWithin}
 
 -- ---- what a kind of line is to a scenario

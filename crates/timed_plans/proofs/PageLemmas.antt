@@ -1,12 +1,12 @@
 -- Lemmas on lines that are written.
-use Rattle.std.proofs.Common.{◌≡◌, ℕ, zero, suc, ◌+◌, ◌-◌, ◌<◌, ◌≤◌, List, [], ◌∷◌, ◌++◌, map, refl, ap, sym, ◌∙◌, arith, length, get_or, drop, drop-cons, add-one, append_assoc, append-nil}
-use Rattle.std.specs.Prelude.{replicate, codes}
+use Rattle.std.proofs.Common.{◌≡◌, ℕ, zero, suc, ◌+◌, ◌-◌, ◌<◌, ◌≤◌, List, [], ◌∷◌, ◌++◌, map, refl, ap, sym, ◌∙◌, arith, length, get_or, drop, drop-cons, append_assoc, append-nil}
+use Rattle.std.specs.Prelude.{replicate}
 use Rattle.std.specs.List.{flat_map}
 use Rattle.std.proofs.lemmas.List.{map-append}
 use Rattle.std.proofs.lemmas.List.Concat.{flat_map-append}
 use Rattle.timed_plans.specs.declared.scheduled.ScheduledLine.{ScheduledLine}
 use Rattle.timed_plans.specs.Schedules.{LineText, PageText, held, held_in}
-use Rattle.timed_plans.specs.Pages.{Row, row, with_rows, tick_row, end_row, row_of, rows_of, merged}
+use Rattle.timed_plans.specs.Pages.{Row, row, with_rows, tick_row, end_row, row_of, merged}
 
 texts : List Row → List ℕ
 texts rows = flat_map (λ (r : Row). r.text) rows

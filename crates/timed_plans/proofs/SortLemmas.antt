@@ -1,7 +1,7 @@
 -- Lemmas on lines in the order of their frames.
-use Rattle.std.proofs.Common.{◌≡◌, ℕ, zero, suc, ◌+◌, ◌-◌, ◌<◌, ◌≤◌, Bool, true, false, List, [], ◌∷◌, ◌++◌, map, filter, length, get_or, nat_cmp, is_lt, refl, ap, sym, ◌∙◌, arith, append_assoc, append-nil, suc-le-suc, zero-le, subst}
-use Rattle.std.specs.Prelude.{◌==◌, if◌then◌else◌, replicate, codes}
-use Rattle.std.specs.List.{All, AllByRecursion, flat_map}
+use Rattle.std.proofs.Common.{◌≡◌, ℕ, zero, suc, ◌+◌, ◌-◌, ◌<◌, ◌≤◌, Bool, true, false, List, [], ◌∷◌, ◌++◌, map, filter, length, get_or, nat_cmp, is_lt, refl, ap, sym, ◌∙◌, arith, append_assoc, suc-le-suc, zero-le, subst}
+use Rattle.std.specs.Prelude.{◌==◌, if◌then◌else◌, replicate}
+use Rattle.std.specs.List.{AllByRecursion, flat_map}
 use Rattle.std.specs.List.Sorted.{ties, IsNonDecreasingBy, IsStableByKey, IsPermutation}
 use Rattle.std.proofs.lemmas.Bool.Decides.{nat_tests}
 use Rattle.std.proofs.lemmas.List.{map-append}
@@ -12,10 +12,9 @@ use Rattle.table_texts.specs.Lines.{Numbered}
 use Rattle.plan_text.specs.Lines.{line_text, text_of, tick, end}
 use Rattle.plan_text.proofs.WritingLemmas.{text_nil, text_cons}
 use Rattle.timed_plans.specs.declared.scheduled.ScheduledLine.{ScheduledLine}
-use Rattle.timed_plans.specs.declared.page.Page.{Page}
 use Rattle.timed_plans.specs.declared.plan.HeldSchedule.{HeldSchedule}
 use Rattle.timed_plans.specs.Schedules.{Timed, Schedule, LineText, PageText, numbered, lines_at, frames_from, scenario_lines, words_of, numbers_of, shown, held, held_in}
-use Rattle.timed_plans.specs.Pages.{Row, row, with_rows, tick_row, end_row, row_of, rows_of, numbered_row, merged}
+use Rattle.timed_plans.specs.Pages.{Row, with_rows, tick_row, end_row, row_of, rows_of, numbered_row, merged}
 use Rattle.timed_plans.specs.Checks.{page_of}
 use Rattle.timed_plans.specs.Drafts.{Texts, texts_of, held_texts, AreWithin}
 use Rattle.timed_plans.proofs.PageLemmas.{rows_then, merged_nil, merged_cons}

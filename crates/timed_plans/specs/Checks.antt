@@ -1,11 +1,10 @@
 -- What a scenario's reader finds in the lines that are made.
-use Rattle.std.specs.Prelude.{◌≡◌, ℕ, ◌-◌, ◌==◌, if◌then◌else◌, true, List, [], slice_index, Result, Ok, Err}
-use Rattle.scenario.specs.Texts.{Ending, reading}
+use Rattle.std.specs.Prelude.{◌≡◌, ℕ, ◌-◌, ◌==◌, if◌then◌else◌, true, List, slice_index, Result, Ok, Err}
+use Rattle.scenario.specs.Texts.{reading}
 use Rattle.scenario.specs.Answers.{answer_at_end}
 use Rattle.scenario.specs.declared.item.Item.{Item as Answer}
 use Rattle.scenario.specs.declared.item.Item.TheVariants as answers
 use Rattle.telecommands.specs.declared.command.Command.{Command}
-use Rattle.table_texts.specs.Lines.{Numbered}
 use Rattle.plan_text.specs.declared.fault.LineReason.{LineReason}
 use Rattle.plan_text.specs.declared.fault.LineReason.TheVariants as line_reasons
 use Rattle.plan_text.specs.declared.fault.PlanReason.TheVariants as reasons

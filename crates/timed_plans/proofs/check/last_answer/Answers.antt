@@ -2,7 +2,7 @@ use Rattle.std.proofs.Common.{refl}
 use Rattle.std.proofs.lemmas.List.{take-append-drop}
 use Rattle.scenario.specs.declared.item.Item.TheVariants as answers
 use Rattle.scenario.specs.Standing.{is_finished}
-use Rattle.timed_plans.proofs.CheckLemmas.{Feeding, feeding_looked, feeding_fed, feeding_closed, empty_rest, answer_last}
+use Rattle.timed_plans.proofs.CheckLemmas.{feeding_looked, feeding_fed, feeding_closed, empty_rest, answer_last}
 use Rattle.timed_plans.proofs.check.last_answer.Goals as goal
 
 pub items-preserved-in-Header : goal.items-preserved-in-Header

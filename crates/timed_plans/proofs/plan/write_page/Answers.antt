@@ -1,4 +1,4 @@
-use Rattle.std.proofs.Common.{◌≡◌, List, ◌∷◌, [], ◌++◌, ap, ◌∙◌}
+use Rattle.std.proofs.Common.{List, ◌∷◌, [], ◌++◌, ap, ◌∙◌}
 use Rattle.timed_plans.specs.declared.scheduled.ScheduledLine.{ScheduledLine}
 use Rattle.timed_plans.specs.Schedules.{held_in}
 use Rattle.timed_plans.specs.Pages.{written_on, with_rows, rows_of, end_row, merged}

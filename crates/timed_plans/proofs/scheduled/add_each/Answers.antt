@@ -1,6 +1,6 @@
-use Rattle.std.proofs.Common.{◌≡◌, ℕ, ◌+◌, ◌-◌, ◌<◌, ◌≤◌, List, [], ◌∷◌, ◌++◌, map, ap, ◌∙◌, arith}
+use Rattle.std.proofs.Common.{ℕ, ◌+◌, ◌-◌, ◌<◌, ◌≤◌, [], ◌∷◌, ◌++◌, map, ap, ◌∙◌, arith}
 use Rattle.timed_plans.specs.Headings.{stepped}
-use Rattle.timed_plans.specs.Schedules.{LineText, held_in}
+use Rattle.timed_plans.specs.Schedules.{held_in}
 use Rattle.timed_plans.proofs.HoldLemmas.{as_text, each_more, each_past, each_done}
 use Rattle.timed_plans.proofs.scheduled.add_each.Goals as goal
 

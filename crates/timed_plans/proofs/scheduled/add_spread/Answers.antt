@@ -1,4 +1,3 @@
-use Rattle.std.proofs.Common.{◌∙◌}
 use Rattle.timed_plans.proofs.HoldLemmas.{spread_none, spread_next}
 use Rattle.timed_plans.specs.Schedules.{held_in}
 use Rattle.timed_plans.proofs.scheduled.add_spread.Goals as goal
