@@ -6,4 +6,5 @@ mod crews;
 mod crowds;
 mod outside;
 mod scenarios;
+mod steps;
 mod threads;

@@ -10,3 +10,4 @@ mod table_forms;
 mod table_warnings;
 mod telecommands;
 mod telemetry;
+mod timed_plans;

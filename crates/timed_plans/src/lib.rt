@@ -15,6 +15,3 @@ mod stage;
 mod words;
 
 pub use plan::schedule_plan;
-
-#[cfg(test)]
-mod tests;

@@ -1,6 +1,7 @@
 //! Public calls that neither a program nor another test makes.
 
 use bus_pipes::{Bus, Dropped, Drops, Offer, Out, Pipe, PipeName};
+use crew_board::laws::claim_law;
 use fsw_outside::{Failed, MemSink, Sink};
 use hs_tables::{load_appmon, load_eventmon, load_execount, load_msgacts};
 use packet_forms::{Name, Packet, be16, be32, command, event, telemetry};
@@ -70,14 +71,21 @@ fn lines_of_the_log(rt: HostRuntime) -> Result<(), Fail> {
     Ok(())
 }
 
+/// A pipe of two places that takes one packet of an id.
 #[test]
-fn packets_wait_in_pipes(rt: HostRuntime) -> Result<(), Fail> {
+fn a_pipe_keeps_as_many_of_an_id_as_its_limit_says(rt: HostRuntime) -> Result<(), Fail> {
     let packet = noop()?;
     let mut pipe = Pipe::open(rt.alloc(), 2, 1)?;
     assert_eq!(rt; pipe.offer(&packet), Offer::Kept);
     assert_eq!(rt; pipe.offer(&packet), Offer::Limit);
     assert_eq!(rt; pipe.take(), Some(packet));
     assert_eq!(rt; pipe.take(), None);
+    Ok(())
+}
+
+#[test]
+fn a_packet_waits_in_the_pipe_of_its_id(rt: HostRuntime) -> Result<(), Fail> {
+    let packet = noop()?;
     let mut bus = Bus::open(rt.alloc(), false)?;
     let mut drops = Drops::open(rt.alloc(), 1)?;
     bus.route(&packet, &mut drops);
@@ -113,4 +121,10 @@ fn sequences_load(rt: HostRuntime) -> Result<(), Fail> {
     let rts = load_rts(relative).ok().ok_or("refused")?;
     assert_eq!(rt; rts.len(), 1);
     Ok(())
+}
+
+/// A law is a call that does nothing: its contract is what counts.
+#[test]
+fn claim_law_is_called(_rt: HostRuntime) {
+    claim_law();
 }

@@ -1,5 +1,5 @@
 //! That a plan is made its scenario where there is memory: a call that gave up for want of it would be proved too.
-use crate::schedule_plan;
+use timed_plans::schedule_plan;
 use std::test::Fail;
 use telecommands::commands;
 
