@@ -4,7 +4,7 @@ ghost use Rattle.std.specs.Prelude.{◌≡◌, true};
 ghost use Rattle.telecommands.specs.Commands.{are_good};
 ghost use Rattle.table_forms.specs.Layouts.{are_layouts};
 
-use plan_text::{PlanError, PlanFault, make_scenario};
+use plan_text::{PlanError, PlanFault};
 use std::alloc::{AllocError, Global};
 use table_files::{FileFault, FileImage, read_file};
 use table_forms::{
@@ -12,6 +12,7 @@ use table_forms::{
 };
 use telecommands::commands;
 use thiserror::Error;
+use timed_plans::schedule_plan;
 
 /// What a file is made into.
 #[derive(Clone, Copy, Debug, PartialEq, Eq)]
@@ -101,12 +102,7 @@ impl Making {
         match self {
             Making::Table => Ok(read_table(alloc, &forms(epoch), bytes)?),
             Making::Text => text_of(alloc, epoch, bytes),
-            Making::Scenario => {
-                let mut scratch = Vec::new(alloc);
-                let mut scenario = Vec::new(alloc);
-                make_scenario(commands(), bytes, &mut scratch, &mut scenario)?;
-                Ok(scenario)
-            }
+            Making::Scenario => Ok(schedule_plan(alloc, commands(), bytes)?),
             Making::Check => match find_refusal(bytes) {
                 Some(fault) => Err(Refusal::Text(fault)),
                 None => Ok(Vec::new(alloc)),
