@@ -1,5 +1,5 @@
 -- Captures of packets in the format of libpcap, the most significant byte of each number first. The link type is 252, in which each packet
--- stands behind the name of the dissector that shows it (docs/GROUNDKIT.md).
+-- stands behind the name of the dissector that shows it.
 use Rattle.std.specs.Prelude.{◌≡◌, ℕ, ◌+◌, ◌-◌, ◌<◌, ◌≤◌, ◌==◌, ◌&&◌, nat_le, List, [], ◌∷◌, ◌++◌, length, take, drop, Option, Some, None, if◌then◌else◌}
 use Rattle.std.specs.Str.{bytes_eq}
 use Rattle.packet_forms.specs.Numbers.{be32_at, be32_bytes}
