@@ -1,13 +1,13 @@
 //! One file a crate.
 
-mod events;
-mod load_texts;
-mod log_lines;
-mod log_words;
-mod plan_text;
-mod row_forms;
-mod table_forms;
-mod table_warnings;
-mod telecommands;
-mod telemetry;
-mod timed_plans;
+mod command_words;
+mod lines;
+mod loads;
+mod plans;
+mod rows;
+mod sentences;
+mod tables;
+mod telemetry_words;
+mod timed;
+mod told_lines;
+mod warnings;
