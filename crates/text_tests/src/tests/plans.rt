@@ -1,4 +1,4 @@
-//! That the plan of docs/PLANS.md is made its scenario where there is memory: a call that gave up for want of it would be proved too.
+//! That a plan of two patches is made its scenario where there is memory: a call that gave up for want of it would be proved too.
 use plan_text::make_scenario;
 use std::test::Fail;
 use telecommands::commands;
