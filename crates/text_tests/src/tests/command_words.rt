@@ -1,6 +1,6 @@
 //! That telecommands are read and shown where there is memory: a call that gave up for want of it would be proved too.
-use telecommands::{commands, read_command, show_command};
 use std::test::Fail;
+use telecommands::{commands, read_command, show_command};
 
 #[test]
 fn a_command_is_read_and_shown(rt: HostRuntime) -> Result<(), Fail> {

@@ -1,7 +1,7 @@
 //! That tables are read and shown where there is memory: a call that gave up for want of it would be proved too.
-use table_forms::{TextForms, find_refusal, read_table, show_table, table_layouts};
 use std::test::Fail;
 use table_files::{FileImage, read_file};
+use table_forms::{TextForms, find_refusal, read_table, show_table, table_layouts};
 use telecommands::commands;
 
 #[test]

@@ -1,6 +1,6 @@
 //! That telemetry is read and shown where there is memory: a call that gave up for want of it would be proved too.
-use telemetry::{read_telemetry, show_telemetry, telemetry_rows};
 use std::test::Fail;
+use telemetry::{read_telemetry, show_telemetry, telemetry_rows};
 
 #[test]
 fn telemetry_is_read_and_shown(rt: HostRuntime) -> Result<(), Fail> {

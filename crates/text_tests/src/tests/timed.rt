@@ -1,7 +1,7 @@
 //! That a plan is made its scenario where there is memory: a call that gave up for want of it would be proved too.
-use timed_plans::schedule_plan;
 use std::test::Fail;
 use telecommands::commands;
+use timed_plans::schedule_plan;
 
 /// Lines in any order of time, a span, a period, a hold of two frames and counters.
 const PLAN: &[u8] = b"# NAV hangs for two seconds.\n\

@@ -1,6 +1,6 @@
 //! That lines are told where there is memory.
-use log_words::{Vocabulary, show_line};
 use log_lines::{LineItem, LogLine, read_line};
+use log_words::{Vocabulary, show_line};
 use std::test::Fail;
 
 #[test]

@@ -1,7 +1,7 @@
 //! What is told of tables, by the rules of docs/FILES.md and docs/COMMANDS.md.
-use table_warnings::{Place, Warning, find_warnings};
 use std::test::Fail;
 use table_files::TableKind;
+use table_warnings::{Place, Warning, find_warnings};
 
 /// A packet of Stored Command of this code and number, behind the seconds of a relative sequence.
 fn started(seconds: u8, code: u8, number: u8) -> [u8; 12] {

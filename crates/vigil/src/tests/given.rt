@@ -22,7 +22,10 @@ fn args_of<R: AllocGlobal>(rt: &R, texts: &[&str]) -> Result<Args, Fail> {
 /// Asserts that what was written is this text.
 fn assert_text<R: Abort>(rt: &R, name: &str, written: &[u8], text: &str) {
     let shown = std::str::from_utf8(written).unwrap_or("no text");
-    assert!(rt; written == text.as_bytes(), "{name} wrote:\n{shown}and not:\n{text}");
+    assert!(rt;
+        written == text.as_bytes(),
+        "{name} wrote:\n{shown}and not:\n{text}"
+    );
 }
 
 /// A file of one byte to be loaded, which is 0, as its check is then.
