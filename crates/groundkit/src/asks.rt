@@ -3,6 +3,9 @@
 use clap::{Arg, ArgAction, Command, value_parser};
 use std::alloc::{AllocError, Global};
 
+/// The shells that have completions.
+static SHELLS: [&str; 2] = ["bash", "zsh"];
+
 /// `--epoch SECONDS`.
 fn epoch<'a>(alloc: Global, help: &'a str) -> Arg<'a> {
     Arg::new(alloc, "epoch")
@@ -12,12 +15,30 @@ fn epoch<'a>(alloc: Global, help: &'a str) -> Arg<'a> {
         .help(help)
 }
 
+/// The time of frame 0, by which lines are told.
+fn time_of_frame_0<'a>(alloc: Global) -> Arg<'a> {
+    epoch(
+        alloc,
+        "The time of frame 0, as `epoch` gives it in the scenario [default: lines have frames]",
+    )
+}
+
 /// The file that is read.
-fn input<'a>(alloc: Global, name: &'a str, help: &'a str) -> Arg<'a> {
-    Arg::new(alloc, "input")
+fn input<'a>(alloc: Global, id: &'a str, name: &'a str, help: &'a str) -> Arg<'a> {
+    Arg::new(alloc, id)
         .value_name(name)
         .required(true)
         .help(help)
+}
+
+/// A log that vigil wrote.
+fn log<'a>(alloc: Global, id: &'a str) -> Arg<'a> {
+    input(
+        alloc,
+        id,
+        "LOG",
+        "The file of a log that vigil wrote; - is standard input",
+    )
 }
 
 /// `-o FILE`.
@@ -32,15 +53,43 @@ fn output<'a>(alloc: Global) -> Arg<'a> {
 fn words<'a>(alloc: Global) -> Result<Command<'a>, AllocError> {
     Command::new(alloc, "words")
         .about("Tells a log in words, a sentence a line")
+        .arg(time_of_frame_0(alloc))?
+        .arg(output(alloc))?
+        .arg(log(alloc, "input"))
+}
+
+fn csv<'a>(alloc: Global) -> Result<Command<'a>, AllocError> {
+    Command::new(alloc, "csv")
+        .about(
+            "Makes a log comma-separated rows: one a line of the log, with a column for each field",
+        )
+        .arg(output(alloc))?
+        .arg(log(alloc, "input"))
+}
+
+fn pcap<'a>(alloc: Global) -> Result<Command<'a>, AllocError> {
+    Command::new(alloc, "pcap")
+        .about(
+            "Makes the packets of a log a capture, which Wireshark and tshark open with no setting",
+        )
         .arg(epoch(
             alloc,
-            "The time of frame 0, as `epoch` gives it in the scenario [default: lines have frames]",
-        ))?
-        .arg(input(
-            alloc,
-            "LOG",
-            "The file of a log that vigil wrote; - is standard input",
-        ))
+            "The time of frame 0 in seconds since 1970; a packet's time is its frame behind it",
+        )
+        .required(true))?
+        .arg(output(alloc))?
+        .arg(log(alloc, "input"))
+}
+
+fn diff<'a>(alloc: Global) -> Result<Command<'a>, AllocError> {
+    Command::new(alloc, "diff")
+        .about(
+            "Tells the lines in which two logs differ in more than sequence counts; status 10 where there are some",
+        )
+        .arg(time_of_frame_0(alloc))?
+        .arg(output(alloc))?
+        .arg(log(alloc, "one"))?
+        .arg(log(alloc, "other"))
 }
 
 fn table<'a>(alloc: Global) -> Result<Command<'a>, AllocError> {
@@ -48,7 +97,12 @@ fn table<'a>(alloc: Global) -> Result<Command<'a>, AllocError> {
         .about("Makes the file of a table from its text")
         .arg(epoch(alloc, "What times such as +0:01:00 are counted from"))?
         .arg(output(alloc))?
-        .arg(input(alloc, "TEXT", "The text of a table; - is standard input"))
+        .arg(input(
+            alloc,
+            "input",
+            "TEXT",
+            "The text of a table; - is standard input",
+        ))
 }
 
 fn show<'a>(alloc: Global) -> Result<Command<'a>, AllocError> {
@@ -56,39 +110,134 @@ fn show<'a>(alloc: Global) -> Result<Command<'a>, AllocError> {
         .about("Shows the file of a table as text, from which `table` makes that file")
         .arg(epoch(alloc, "What times are shown from, such as +0:01:00"))?
         .arg(output(alloc))?
-        .arg(input(alloc, "FILE", "The file of a table; - is standard input"))
+        .arg(input(
+            alloc,
+            "input",
+            "FILE",
+            "The file of a table; - is standard input",
+        ))
 }
 
 fn scenario<'a>(alloc: Global) -> Result<Command<'a>, AllocError> {
     Command::new(alloc, "scenario")
         .about("Makes a scenario from a plan, whose commands are words")
         .arg(output(alloc))?
-        .arg(input(alloc, "PLAN", "The text of a plan; - is standard input"))
+        .arg(input(
+            alloc,
+            "input",
+            "PLAN",
+            "The text of a plan; - is standard input",
+        ))
+}
+
+/// Files of tables, and files to be loaded.
+fn files<'a>(alloc: Global) -> Arg<'a> {
+    Arg::new(alloc, "files")
+        .value_name("FILE")
+        .num_args(1..)
+        .action(ArgAction::Append)
+        .help("Files of tables, and files to be loaded")
 }
 
 fn check<'a>(alloc: Global) -> Result<Command<'a>, AllocError> {
     Command::new(alloc, "check")
         .about("Looks at files as vigil does, and tells of each that is refused why it is")
+        .arg(files(alloc).required(true))
+}
+
+/// How a rehearsal is run.
+fn run_options<'a>(alloc: Global) -> Result<Command<'a>, AllocError> {
+    Command::new(alloc, "run")
+        .about("Rehearses a scenario as vigil does, and tells its log in words as it comes")
         .arg(
-            Arg::new(alloc, "files")
+            Arg::new(alloc, "workers")
+                .long("workers")
+                .value_name("N")
+                .help(
+                    "How many threads share the work, from 1 to 16; the log is the same [default: 1]",
+                ),
+        )?
+        .arg(
+            Arg::new(alloc, "subjects")
+                .long("subjects")
+                .action(ArgAction::SetTrue)
+                .help(
+                    "Simulated applications give the execution counters, in place of the scenario",
+                ),
+        )?
+        .arg(time_of_frame_0(alloc))
+}
+
+fn run<'a>(alloc: Global) -> Result<Command<'a>, AllocError> {
+    run_options(alloc)?
+        .arg(
+            Arg::new(alloc, "log")
+                .long("log")
                 .value_name("FILE")
-                .required(true)
-                .num_args(1..)
+                .help("Keeps the log itself, as vigil writes it"),
+        )?
+        .arg(output(alloc))?
+        .arg(
+            Arg::new(alloc, "strict")
+                .long("strict")
+                .action(ArgAction::SetTrue)
+                .help(
+                    "Ends with status 10 where an error, a drop or a request came that no --allow names",
+                ),
+        )?
+        .arg(
+            Arg::new(alloc, "allow")
+                .long("allow")
+                .value_name("WHAT")
                 .action(ArgAction::Append)
-                .help("Files of tables, and files to be loaded"),
+                .help(
+                    "What may come, as 'CS 101', 'CS miscompare', 'CS any', 'drop MM', 'drop any', 'restart NAV' or reset",
+                ),
+        )?
+        .arg(input(
+            alloc,
+            "scenario",
+            "SCENARIO",
+            "The file of a scenario, or drill:K; - is standard input",
+        ))?
+        .arg(files(alloc))
+}
+
+fn completions<'a>(alloc: Global) -> Result<Command<'a>, AllocError> {
+    Command::new(alloc, "completions")
+        .about("Writes the completions of these words for a shell")
+        .arg(output(alloc))?
+        .arg(
+            Arg::new(alloc, "shell")
+                .value_name("SHELL")
+                .required(true)
+                .value_parser(SHELLS.as_slice())
+                .help("The shell"),
         )
+}
+
+fn man<'a>(alloc: Global) -> Result<Command<'a>, AllocError> {
+    Command::new(alloc, "man")
+        .about("Writes the page of the manual")
+        .arg(output(alloc))
 }
 
 /// What the command line may ask for.
 pub fn command<'a>(alloc: Global) -> Result<Command<'a>, AllocError> {
     Command::new(alloc, "groundkit")
         .version("1.0")
-        .about("Writes what vigil reads, and tells what it wrote, in words")
+        .about("Writes what vigil reads, rehearses, and tells what vigil wrote, in words")
         .subcommand_required(true)
         .arg_required_else_help(true)
         .subcommand(table(alloc)?)?
         .subcommand(scenario(alloc)?)?
         .subcommand(check(alloc)?)?
         .subcommand(show(alloc)?)?
-        .subcommand(words(alloc)?)
+        .subcommand(run(alloc)?)?
+        .subcommand(words(alloc)?)?
+        .subcommand(csv(alloc)?)?
+        .subcommand(pcap(alloc)?)?
+        .subcommand(diff(alloc)?)?
+        .subcommand(completions(alloc)?)?
+        .subcommand(man(alloc)?)
 }

@@ -9,12 +9,12 @@ use thiserror::Error;
 /// How many bytes of a log are read at once.
 const PIECE: usize = 16_384;
 
-/// Why nothing more is told.
+/// Why nothing more is made of a log.
 #[derive(Debug, Drop, Error)]
 pub enum Fault {
     #[error("it can't be read: {0}")]
     Read(io::Error),
-    #[error("standard output can't be written: {0}")]
+    #[error("it can't be written: {0}")]
     Write(io::Error),
     #[error("memory ran out")]
     Memory(#[from] AllocError),
