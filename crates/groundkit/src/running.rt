@@ -154,7 +154,9 @@ fn tell_end<R: Files + Eprint + AllocGlobal>(rt: &R, run: &Run<'_>, report: &Rep
         End::Done => (Status::Done, Ok(())),
         End::WordsRefused => (
             Status::WordsRefused,
-            eprintln!(rt; "the words are refused: at most 100 files may follow the scenario"),
+            eprintln!(rt;
+                "the words are refused: `--workers` takes 1 to 16, and at most 100 files may follow"
+            ),
         ),
         End::FileRefused => (Status::FileRefused, tell_file(rt, path, report)),
         End::ScenarioRefused => (Status::ScenarioRefused, tell_line(rt, path, report)),
