@@ -177,6 +177,31 @@ pub fn settle<R: Files + AllocGlobal>(
     Ok(())
 }
 
+/// Whether an output is a file that is read: it would be replaced by what is made of it.
+pub fn would_replace<R: Files + AllocGlobal>(rt: &R, output: Option<&str>, input: &str) -> bool {
+    let path = output.unwrap_or("-");
+    if path == "-" || input == "-" {
+        return false;
+    }
+    let is_file = match fs::metadata(rt, path) {
+        Ok(known) => known.is_file(),
+        Err(_) => false,
+    };
+    if !is_file {
+        return false;
+    }
+    match (place_of(rt, path), place_of(rt, input)) {
+        (Ok(place), Ok(read)) => place.as_str() == read.as_str(),
+        _ => false,
+    }
+}
+
+/// Tells that an output is a file that is read.
+pub fn tell_replaced<R: Eprint>(rt: &R, output: Option<&str>) {
+    let name = output_name(output);
+    let _told = eprintln!(rt; "{name}: it is read here, and isn't written over");
+}
+
 /// An input's name for people.
 pub fn input_name(file: &str) -> &str {
     if file == "-" { "standard input" } else { file }

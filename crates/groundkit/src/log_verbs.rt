@@ -1,7 +1,9 @@
 //! The verbs that make something of a log.
 
 use crate::differences::{Compared, Found, compare};
-use crate::files::{Source, input_name, open_input, open_output, output_name, settle};
+use crate::files::{
+    Source, input_name, open_input, open_output, output_name, settle, tell_replaced, would_replace,
+};
 use crate::status::{Status, status_of};
 use crate::words::{Fault, Telling};
 use clap::ArgMatches;
@@ -67,6 +69,10 @@ pub fn export_log<R: Files + Input + Print + Eprint + AllocGlobal>(
     let file = asked.get_str("input").unwrap_or("-");
     let path = asked.get_str("output");
     let epoch = asked.get_one::<u32>("epoch");
+    if would_replace(rt, path, file) {
+        tell_replaced(rt, path);
+        return Status::WordsRefused;
+    }
     let (input, output) = (input_name(file), output_name(path));
     let (part, mut out) = match open_output(rt, path) {
         Ok(opened) => opened,
@@ -135,6 +141,10 @@ pub fn compare_logs<R: Files + Input + Print + Eprint + AllocGlobal>(
     let output = output_name(path);
     if one == "-" && other == "-" {
         let _told = eprintln!(rt; "standard input can be one log alone");
+        return Status::WordsRefused;
+    }
+    if would_replace(rt, path, one) || would_replace(rt, path, other) {
+        tell_replaced(rt, path);
         return Status::WordsRefused;
     }
     let ones = match open_compared(rt, one) {

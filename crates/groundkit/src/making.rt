@@ -6,7 +6,7 @@ ghost use Rattle.table_forms.specs.Layouts.{are_layouts};
 
 use plan_text::{PlanError, PlanFault};
 use std::alloc::{AllocError, Global};
-use table_files::{FileFault, FileImage, read_file};
+use table_files::{EntryFault, FileFault, FileImage, read_file};
 use table_forms::{
     ReadError, TableFault, TextForms, find_refusal, read_table, show_table, table_layouts,
 };
@@ -32,6 +32,9 @@ pub enum Making {
 pub enum Refusal {
     #[error("{0}")]
     Text(TableFault),
+    /// An entry of a table, by the number that the program has for its reason.
+    #[error("entry {entry}: reason {reason} (docs/FILES.md)")]
+    Entry { entry: u32, reason: u32 },
     #[error("{0}")]
     Plan(PlanFault),
     #[error("{0}")]
@@ -44,6 +47,20 @@ pub enum Refusal {
     Memory,
 }
 
+/// What the program's number for a reason of an entry is over its loader's.
+const ENTRY_REASONS: u32 = 10;
+
+/// Why a table or its text is refused.
+fn refused(fault: TableFault) -> Refusal {
+    match fault {
+        TableFault::Entry(_, EntryFault { entry, reason }) => Refusal::Entry {
+            entry,
+            reason: u32::from(reason).saturating_add(ENTRY_REASONS),
+        },
+        other => Refusal::Text(other),
+    }
+}
+
 impl From<AllocError> for Refusal {
     fn from(_: AllocError) -> Refusal {
         Refusal::Memory
@@ -54,7 +71,7 @@ impl From<ReadError> for Refusal {
     fn from(error: ReadError) -> Refusal {
         match error {
             ReadError::Memory(_) => Refusal::Memory,
-            ReadError::Fault(fault) => Refusal::Text(fault),
+            ReadError::Fault(fault) => refused(fault),
         }
     }
 }
@@ -104,7 +121,7 @@ impl Making {
             Making::Text => text_of(alloc, epoch, bytes),
             Making::Scenario => Ok(schedule_plan(alloc, commands(), bytes)?),
             Making::Check => match find_refusal(bytes) {
-                Some(fault) => Err(Refusal::Text(fault)),
+                Some(fault) => Err(refused(fault)),
                 None => Ok(Vec::new(alloc)),
             },
         }

@@ -1,6 +1,6 @@
 //! The verbs that make a file of another.
 
-use crate::files::{get, input_name, output_name, put};
+use crate::files::{get, input_name, output_name, put, tell_replaced, would_replace};
 use crate::making::{Making, Refusal};
 use crate::status::Status;
 use clap::ArgMatches;
@@ -64,5 +64,10 @@ pub fn make_one<R: Files + Input + Print + Eprint + AllocGlobal>(
 ) -> Status {
     let file = asked.get_str("input").unwrap_or("-");
     let epoch = asked.get_one::<u32>("epoch");
-    make_file(rt, making, epoch, file, asked.get_str("output"))
+    let path = asked.get_str("output");
+    if would_replace(rt, path, file) {
+        tell_replaced(rt, path);
+        return Status::WordsRefused;
+    }
+    make_file(rt, making, epoch, file, path)
 }

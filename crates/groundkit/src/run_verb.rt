@@ -1,5 +1,6 @@
 //! The verb that rehearses.
 
+use crate::files::{tell_replaced, would_replace};
 use crate::running::{Run, carry_out};
 use crate::status::Status;
 use clap::ArgMatches;
@@ -30,5 +31,17 @@ where
         is_strict: asked.get_flag("strict"),
         allowed: asked.get_strs("allow").unwrap_or(&[]),
     };
+    if run.is_drill() && (log.is_some() || run.is_strict) {
+        let _told = eprintln!(rt;
+            "a generated scenario has four lines in place of a log: --log and --strict aren't for it"
+        );
+        return Status::WordsRefused;
+    }
+    for output in [log, path] {
+        if run.would_replace(rt, output) {
+            tell_replaced(rt, output);
+            return Status::WordsRefused;
+        }
+    }
     carry_out(rt, &run, log, path)
 }

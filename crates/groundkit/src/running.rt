@@ -1,7 +1,7 @@
 //! Rehearsals, by the call that the program vigil makes, with their log in words.
 
 use crate::causes::{find_line, line_cause};
-use crate::files::{Output, open_output, output_name, settle};
+use crate::files::{Output, open_output, output_name, settle, would_replace};
 use crate::status::Status;
 use crate::summary::{summary_of, unwanted_of};
 use fsw_outside::{FileShelf, NoMemory, OpenGate, StdSink};
@@ -13,7 +13,7 @@ use std::io::{self, Read, Write};
 use std::rt::Files;
 use std::thread::Threads;
 use subjects::own_subjects;
-use table_forms::find_refusal;
+use table_forms::{TableFault, find_refusal};
 
 /// The reason of a file that is longer than any that is read.
 const TOO_LONG: u8 = 9;
@@ -54,6 +54,16 @@ impl<'a> Run<'a> {
         }
     }
 
+    /// Whether an output is the scenario or one of the files.
+    pub fn would_replace<R: Files + AllocGlobal>(&self, rt: &R, output: Option<&str>) -> bool {
+        for file in self.files {
+            if would_replace(rt, output, file) {
+                return true;
+            }
+        }
+        would_replace(rt, output, self.scenario)
+    }
+
     /// The words for the rehearsal.
     fn words(&self, alloc: Global) -> Result<Words, NoMemory> {
         let mut words = Words::open(alloc)?;
@@ -92,7 +102,7 @@ fn line_of<R: Files + AllocGlobal>(rt: &R, path: &str, number: u32) -> Vec<u8> {
     line
 }
 
-/// Tells why a file is refused: the sentence of its fault, where it can be read again, and else the numbers alone.
+/// Tells why a file is refused: the sentence of its fault, where it can be read again and no entry is refused, and else the numbers.
 fn tell_file<R: Files + Eprint + AllocGlobal>(
     rt: &R,
     path: &str,
@@ -109,12 +119,14 @@ fn tell_file<R: Files + Eprint + AllocGlobal>(
     }
     if path != "-" {
         if let Ok(bytes) = fs::read(rt, path) {
-            if let Some(fault) = find_refusal(bytes.as_slice()) {
-                return eprintln!(rt; "{path}: {fault} (for vigil entry {entry}, reason {reason})");
+            match find_refusal(bytes.as_slice()) {
+                Some(TableFault::Entry(_, _)) => {}
+                Some(fault) => return eprintln!(rt; "{path}: {fault} (reason {reason})"),
+                None => {}
             }
         }
     }
-    eprintln!(rt; "{path}: it is refused: entry {entry}, reason {reason}")
+    eprintln!(rt; "{path}: entry {entry}: reason {reason} (docs/FILES.md)")
 }
 
 /// Tells why a scenario is refused, and shows the line.
@@ -290,23 +302,37 @@ where
     }
 }
 
-/// Rehearses a generated scenario into the words' output, and answers the status.
-fn run_drill<R, W>(rt: &R, run: &Run<'_>, names: &Names<'_>, out: W) -> Status
+/// How a rehearsal ended, and of how many frames the log was written.
+#[derive(Clone, Copy)]
+struct Ending {
+    status: Status,
+    frames: u32,
+}
+
+/// Rehearses a generated scenario into the words' output.
+fn run_drill<R, W>(rt: &R, run: &Run<'_>, names: &Names<'_>, out: W) -> Ending
 where
     R: Threads + Sync + Files + Eprint + AllocGlobal,
     W: Write + Drop,
 {
     match rehearse_drill(rt, run, out) {
-        Ok(report) if report.status == End::WriteFailed => {
-            tell_trouble(rt, None, names.words, names.words)
-        }
-        Ok(report) => tell_end(rt, run, &report),
-        Err(_) => tell_trouble(rt, Some(Trouble::Memory), names.log, names.words),
+        Ok(report) if report.status == End::WriteFailed => Ending {
+            status: tell_trouble(rt, None, names.words, names.words),
+            frames: report.frames,
+        },
+        Ok(report) => Ending {
+            status: tell_end(rt, run, &report),
+            frames: report.frames,
+        },
+        Err(_) => Ending {
+            status: tell_trouble(rt, Some(Trouble::Memory), names.log, names.words),
+            frames: 0,
+        },
     }
 }
 
-/// Rehearses into both outputs, and answers the status.
-fn run_scenario<R, L, W>(rt: &R, run: &Run<'_>, names: &Names<'_>, log: L, words: W) -> Status
+/// Rehearses into both outputs.
+fn run_scenario<R, L, W>(rt: &R, run: &Run<'_>, names: &Names<'_>, log: L, words: W) -> Ending
 where
     R: Threads + Sync + Files + Eprint + AllocGlobal,
     L: Write + Drop,
@@ -319,15 +345,22 @@ where
         StdSink::new(words),
     );
     match rehearse(rt, run, &mut told) {
-        Ok(report) => end_run(rt, run, names, &report, &mut told),
-        Err(_) => tell_trouble(rt, Some(Trouble::Memory), names.log, names.words),
+        Ok(report) => Ending {
+            status: end_run(rt, run, names, &report, &mut told),
+            frames: report.frames,
+        },
+        Err(_) => Ending {
+            status: tell_trouble(rt, Some(Trouble::Memory), names.log, names.words),
+            frames: 0,
+        },
     }
 }
 
-/// Whether an output is whole where a rehearsal ends so: nothing is missing at its end but what the scenario or a file didn't give.
-fn is_whole(status: Status) -> bool {
-    match status {
-        Status::Done | Status::ScenarioRefused | Status::ReadFailed | Status::Unwanted => true,
+/// Whether an output is whole where a rehearsal ends so: it has all frames, or all that the scenario gave before its fault.
+fn is_whole(ending: Ending) -> bool {
+    match ending.status {
+        Status::Done | Status::Unwanted => true,
+        Status::ScenarioRefused | Status::ReadFailed => ending.frames > 0,
         Status::WordsRefused | Status::FileRefused | Status::WriteFailed | Status::NoMemory => {
             false
         }
@@ -365,16 +398,16 @@ where
             return tell_unwritten(rt, names.log, &error);
         }
     };
-    let status = if run.is_drill() {
+    let ending = if run.is_drill() {
         run_drill(rt, run, &names, words)
     } else {
         run_scenario(rt, run, &names, log, words)
     };
-    if let Err(error) = settle(log_part, is_whole(status)) {
+    if let Err(error) = settle(log_part, is_whole(ending)) {
         return tell_unwritten(rt, names.log, &error);
     }
-    if let Err(error) = settle(words_part, is_whole(status)) {
+    if let Err(error) = settle(words_part, is_whole(ending)) {
         return tell_unwritten(rt, names.words, &error);
     }
-    status
+    ending.status
 }
