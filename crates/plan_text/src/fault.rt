@@ -1,5 +1,6 @@
 //! Why a text is no plan.
 
+use calendar_dates::DateFault;
 use row_forms::RowFault;
 use std::alloc::AllocError;
 use telecommands::CommandFault;
@@ -42,6 +43,9 @@ pub enum PlanReason {
     /// The epoch is no number, or too large.
     #[error("the epoch is no number from 0 to 4294000000")]
     Epoch,
+    /// A date or a time of day, by the number of its word.
+    #[error("word {0}: {1}")]
+    Date(usize, DateFault),
     /// The time lies before the epoch.
     #[error("the time is before the epoch")]
     Early,

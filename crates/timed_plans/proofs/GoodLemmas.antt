@@ -17,12 +17,13 @@ use Rattle.plan_text.specs.declared.fault.PlanReason.TheVariants as reasons
 use Rattle.plan_text.specs.declared.fault.PlanFault.{PlanFault}
 use Rattle.plan_text.specs.Verbs.{verb_of}
 use Rattle.plan_text.specs.Lines.{sent_line}
-use Rattle.plan_text.specs.Plans.{◌>>=◌, or_else, word_fault, none, one, frame_of_time, time_line, packet_sent, as_plan}
+use Rattle.plan_text.specs.Plans.{◌>>=◌, or_else, word_fault, none, one, packet_sent, as_plan}
 use Rattle.plan_text.specs.Items.{item_at, verb_in, items_by, ticks_by}
 use Rattle.plan_text.specs.Readings.{IsTextWord, IsTextLine}
 use Rattle.plan_text.proofs.WordLemmas.{text_lines}
 use Rattle.plan_text.proofs.MadeLemmas.{IsFaultless, sent_is_packet, sent_line_is, plain_word}
 use Rattle.packet_forms.specs.Hex.{hex}
+use Rattle.calendar_dates.specs.declared.epoch.Epoch.{Epoch}
 use Rattle.timed_plans.specs.declared.heading.Heading.{Heading}
 use Rattle.timed_plans.specs.declared.stage.Course.{Course}
 use Rattle.timed_plans.specs.declared.stage.Stage.{Stage}
@@ -30,9 +31,10 @@ use Rattle.timed_plans.specs.declared.stage.Stage.TheVariants as stages
 use Rattle.timed_plans.specs.declared.kind.LineKind.{LineKind}
 use Rattle.timed_plans.specs.declared.kind.LineKind.TheVariants as kinds
 use Rattle.timed_plans.specs.Kinds.{kind_of}
+use Rattle.timed_plans.specs.Times.{frame_of_word, timed_line, dated_words, binding_line}
 use Rattle.timed_plans.specs.Headings.{stepped, frames_in, frame_alone, frames_between}
 use Rattle.timed_plans.specs.Schedules.{Timed, timed, lines_in, spread, app_line, counted_in, Schedule}
-use Rattle.timed_plans.specs.Plans.{Made, turned, turned_to, spanned, span_line, period_said, every_line, extended, item_line, held_for, hold_line, counts_line, counter_line, closed, end_line, course_line, passed, opening_line, header_line, with_head, with_front, then_head, then_front, opening_said, header_said, course_said, ended_said, staged, finished, lines_said, schedule_said}
+use Rattle.timed_plans.specs.Plans.{Made, turned, turned_to, spanned, span_line, period_said, every_line, extended, item_line, held_for, hold_line, counts_line, counter_line, closed, end_line, course_line, passed, epoch_line, opening_line, header_line, with_head, with_front, then_head, then_front, opening_said, header_said, course_said, ended_said, staged, finished, lines_said, schedule_said}
 use Rattle.timed_plans.specs.Drafts.{AreWithin}
 
 -- ---- what a kind of line is to a scenario
@@ -221,8 +223,8 @@ span_makes c p n [] = tt
 span_makes c p n (a ∷ []) = tt
 span_makes c p n (a ∷ to ∷ []) = tt
 span_makes c p n (a ∷ to ∷ b ∷ []) = by (bytes_eq to (codes "to")) where
-  by : (x : Bool) → MakesItems c (if x then frame_of_time c.epoch n a >>= (λ first. frame_of_time c.epoch (n + 2) b >>= (λ behind. spanned c p first behind)) else Err reasons.Span)
-  by true = then_makes c (frame_of_time c.epoch n a) (λ first. frame_of_time c.epoch (n + 2) b >>= (λ behind. spanned c p first behind)) (λ first. then_makes c (frame_of_time c.epoch (n + 2) b) (λ behind. spanned c p first behind) (λ behind. spans c p first behind))
+  by : (x : Bool) → MakesItems c (if x then frame_of_word c.epoch n a >>= (λ first. frame_of_word c.epoch (n + 2) b >>= (λ behind. spanned c p first behind)) else Err reasons.Span)
+  by true = then_makes c (frame_of_word c.epoch n a) (λ first. frame_of_word c.epoch (n + 2) b >>= (λ behind. spanned c p first behind)) (λ first. then_makes c (frame_of_word c.epoch (n + 2) b) (λ behind. spanned c p first behind) (λ behind. spans c p first behind))
   by false = tt
 span_makes c p n (a ∷ to ∷ b ∷ w ∷ ws) = tt
 
@@ -347,8 +349,8 @@ close_makes c number n = by (nat_lt n c.frames) refl (nat_lt 100000 n) where
 end_makes : (c : Course) (number : ℕ) (others : List (List ℕ)) → MakesItems c (end_line c number others)
 end_makes c number [] = close_makes c number c.frames
 end_makes c number (word ∷ others) = by (bytes_eq word (codes "at")) where
-  by : (x : Bool) → MakesItems c (if x then time_line c.epoch 3 others >>= (λ n. closed c number n) else Err (word_fault 2 words.Extra))
-  by true = then_makes c (time_line c.epoch 3 others) (λ n. closed c number n) (λ n. close_makes c number n)
+  by : (x : Bool) → MakesItems c (if x then timed_line c.epoch 3 others >>= (λ n. closed c number n) else Err (word_fault 2 words.Extra))
+  by true = then_makes c (timed_line c.epoch 3 others) (λ n. closed c number n) (λ n. close_makes c number n)
   by false = tt
 
 course_makes : (cs : List Command) (c : Course) (n : ℕ) (kind : Option LineKind) (first : List ℕ) (others : List (List ℕ)) → are_good cs ≡ true → c.heading.first ≤ c.heading.last → IsTextLine (first ∷ others) → IsVerb first kind → MakesItems c (course_line cs c n kind first others)
@@ -356,12 +358,14 @@ course_makes cs c n None first others good low is verb = tt
 course_makes cs c n (Some kinds.Epoch) first others good low is verb = tt
 course_makes cs c n (Some kinds.Region) first others good low is verb = tt
 course_makes cs c n (Some kinds.Start) first others good low is verb = tt
-course_makes cs c n (Some kinds.Send) first others good low is verb = send_makes c n (packet_sent cs c.epoch others) low (sent_is_packet cs c.epoch others good)
+course_makes cs c n (Some kinds.Send) first others good low is verb = 
+    then_makes c (dated_words c.epoch 2 others) (λ dated. as_plan (packet_sent cs c.epoch.second dated) >>= (λ packet. item_line c 1 n (sent_line packet))) (λ dated.
+    send_makes c n (packet_sent cs c.epoch.second dated) low (sent_is_packet cs c.epoch.second dated good))
 course_makes cs c n (Some kinds.Item) first others good low is verb = item_makes c 1 n (first ∷ others) low (item_is first others is verb)
 course_makes cs c n (Some kinds.Hold) first others good low is verb = hold_makes c n first others low verb is
 course_makes cs c n (Some kinds.Counter) first others good low is verb = counter_makes c n others low is.2
 course_makes cs c n (Some kinds.Frame) first others good low is verb = then_makes c (one 2 others) (λ word. or_else (word_fault 2 words.Number32) (number 4294967295 word) >>= (λ n. turned_to c n)) (λ word. then_makes c (or_else (word_fault 2 words.Number32) (number 4294967295 word)) (λ n. turned_to c n) (λ n. turns_to c n))
-course_makes cs c n (Some kinds.At) first others good low is verb = then_makes c (time_line c.epoch 2 others) (λ n. turned_to c n) (λ n. turns_to c n)
+course_makes cs c n (Some kinds.At) first others good low is verb = then_makes c (timed_line c.epoch 2 others) (λ n. turned_to c n) (λ n. turns_to c n)
 course_makes cs c n (Some kinds.From) first others good low is verb = span_makes c 1 2 others
 course_makes cs c n (Some kinds.Every) first others good low is verb = every_makes c others
 course_makes cs c n (Some kinds.Tick) first others good low is verb = then_makes c (none 2 others) (λ u. turned_to c (c.heading.last + 1)) (λ u. turns_to c (c.heading.last + 1))
@@ -384,12 +388,20 @@ then_opens (Err reason) f makes = tt
 passes : (n : ℕ) (stage : Stage) (line : List (List ℕ)) → IsStage stage → IsHead (timed n line 0) → MakesHead (passed n stage line)
 passes n stage line good is = record { lines = (is, tt); stage = good }
 
+abbrev bound_at : ℕ → Option ℕ → Stage
+bound_at second instant = stages.Header (record { second = second; instant = instant })
+
+epoch_makes : (n : ℕ) (first : List ℕ) (others : List (List ℕ)) → IsTextLine (first ∷ others) → IsHeadWord first → MakesHead (epoch_line n first others)
+epoch_makes n first [] is verb = tt
+epoch_makes n first (word ∷ others) is verb =
+    then_opens (or_else reasons.Epoch (number 4294000000 word)) (λ second. binding_line others >>= (λ instant. passed n (bound_at second instant) (first ∷ word ∷ []))) (λ second.
+    then_opens (binding_line others) (λ instant. passed n (bound_at second instant) (first ∷ word ∷ [])) (λ instant.
+    passes n (bound_at second instant) (first ∷ word ∷ []) tt (head_is n first (word ∷ []) (is.0, is.1, (is.2.0, tt)) verb)))
+
 opening_makes : (n : ℕ) (kind : Option LineKind) (first : List ℕ) (others : List (List ℕ)) → IsTextLine (first ∷ others) → IsVerb first kind → MakesHead (opening_line n kind first others)
 opening_makes n None first others is verb = tt
 opening_makes n (Some kinds.Epoch) first others is verb =
-    then_opens (one 2 others) (λ word. or_else reasons.Epoch (number 4294000000 word) >>= (λ epoch. passed n (stages.Header epoch) (first ∷ others))) (λ word.
-    then_opens (or_else reasons.Epoch (number 4294000000 word)) (λ epoch. passed n (stages.Header epoch) (first ∷ others)) (λ epoch.
-    passes n (stages.Header epoch) (first ∷ others) tt (head_is n first others is verb)))
+    epoch_makes n first others is verb
 opening_makes n (Some kinds.Region) first others is verb = tt
 opening_makes n (Some kinds.Start) first others is verb = tt
 opening_makes n (Some kinds.Send) first others is verb = tt
@@ -403,7 +415,7 @@ opening_makes n (Some kinds.Every) first others is verb = tt
 opening_makes n (Some kinds.Tick) first others is verb = tt
 opening_makes n (Some kinds.End) first others is verb = tt
 
-header_makes : (n epoch : ℕ) (kind : Option LineKind) (first : List ℕ) (others : List (List ℕ)) → IsTextLine (first ∷ others) → IsVerb first kind → MakesHead (header_line n epoch kind first others)
+header_makes : (n : ℕ) (epoch : Epoch) (kind : Option LineKind) (first : List ℕ) (others : List (List ℕ)) → IsTextLine (first ∷ others) → IsVerb first kind → MakesHead (header_line n epoch kind first others)
 header_makes n epoch None first others is verb = tt
 header_makes n epoch (Some kinds.Epoch) first others is verb = tt
 header_makes n epoch (Some kinds.Region) first others is verb = passes n (stages.Header epoch) (first ∷ others) tt (head_is n first others is verb)
@@ -463,7 +475,7 @@ opening_good : (n : ℕ) (ws : List (List ℕ)) → IsTextLine ws → MakesHead 
 opening_good n [] is = tt
 opening_good n (first ∷ others) is = opening_makes n (kind_of first) first others is (verb_is first)
 
-header_good : (n epoch : ℕ) (ws : List (List ℕ)) → IsTextLine ws → MakesHead (header_said n epoch ws)
+header_good : (n : ℕ) (epoch : Epoch) (ws : List (List ℕ)) → IsTextLine ws → MakesHead (header_said n epoch ws)
 header_good n epoch [] is = tt
 header_good n epoch (first ∷ others) is = header_makes n epoch (kind_of first) first others is (verb_is first)
 

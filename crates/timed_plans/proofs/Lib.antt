@@ -1,3 +1,4 @@
+pub mod DatedLemmas
 pub mod HoldLemmas
 pub mod PageLemmas
 pub mod DraftLemmas

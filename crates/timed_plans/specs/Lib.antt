@@ -2,6 +2,7 @@ pub mod Kinds
 pub mod Headings
 pub mod Schedules
 pub mod Pages
+pub mod Times
 pub mod Plans
 pub mod Checks
 pub mod Drafts

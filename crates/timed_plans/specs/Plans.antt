@@ -11,7 +11,8 @@ use Rattle.plan_text.specs.declared.fault.PlanFault.{PlanFault}
 use Rattle.plan_text.specs.declared.fault.LineError.{LineError}
 use Rattle.plan_text.specs.declared.fault.LineError.TheVariants as line_errors
 use Rattle.plan_text.specs.Lines.{sent_line}
-use Rattle.plan_text.specs.Plans.{◌>>=◌, or_else, word_fault, none, one, frame_of_time, time_line, packet_sent, as_plan, fault_on}
+use Rattle.plan_text.specs.Plans.{◌>>=◌, or_else, word_fault, none, one, packet_sent, as_plan, fault_on}
+use Rattle.calendar_dates.specs.declared.epoch.Epoch.{Epoch}
 use Rattle.timed_plans.specs.declared.heading.Heading.{Heading}
 use Rattle.timed_plans.specs.declared.stage.Course.{Course}
 use Rattle.timed_plans.specs.declared.stage.Stage.{Stage}
@@ -19,6 +20,7 @@ use Rattle.timed_plans.specs.declared.stage.Stage.TheVariants as stages
 use Rattle.timed_plans.specs.declared.kind.LineKind.{LineKind}
 use Rattle.timed_plans.specs.declared.kind.LineKind.TheVariants as kinds
 use Rattle.timed_plans.specs.Kinds.{kind_of}
+use Rattle.timed_plans.specs.Times.{frame_of_word, timed_line, dated_words, binding_line}
 use Rattle.timed_plans.specs.Headings.{frame_alone, frames_between}
 use Rattle.timed_plans.specs.Schedules.{Timed, timed, spread, app_line, counted_in, Schedule, LineText, shown}
 
@@ -40,7 +42,7 @@ turned_to c n = if nat_lt 100000 n then Err reasons.Frames else turned c (frame_
 -- `at TIME`
 abbrev pub at_line : Course → List (List ℕ) → Result Made PlanReason
 at_line c others = do
-  n ← time_line c.epoch 2 others
+  n ← timed_line c.epoch 2 others
   turned_to c n
 
 -- `frame N`
@@ -69,7 +71,7 @@ span_line c p n [] = Err reasons.Span
 span_line c p n (a ∷ []) = Err reasons.Span
 span_line c p n (a ∷ to ∷ []) = Err reasons.Span
 span_line c p n (a ∷ to ∷ b ∷ []) =
-    if bytes_eq to (codes "to") then frame_of_time c.epoch n a >>= (λ first. frame_of_time c.epoch (n + 2) b >>= (λ behind. spanned c p first behind))
+    if bytes_eq to (codes "to") then frame_of_word c.epoch n a >>= (λ first. frame_of_word c.epoch (n + 2) b >>= (λ behind. spanned c p first behind))
     else Err reasons.Span
 span_line c p n (a ∷ to ∷ b ∷ w ∷ ws) = Err reasons.Span
 
@@ -117,7 +119,8 @@ item_line c span number line = do
 -- `send HEX`, or `send TELECOMMAND`
 abbrev pub send_line : List Command → Course → ℕ → List (List ℕ) → Result Made PlanReason
 send_line cs c number others = do
-  packet ← as_plan (packet_sent cs c.epoch others)
+  dated ← dated_words c.epoch 2 others
+  packet ← as_plan (packet_sent cs c.epoch.second dated)
   item_line c 1 number (sent_line packet)
 
 -- the frames of `for N`
@@ -164,7 +167,7 @@ closed c number n =
 abbrev pub end_line : Course → ℕ → List (List ℕ) → Result Made PlanReason
 end_line c number [] = closed c number c.frames
 end_line c number (word ∷ others) =
-    if bytes_eq word (codes "at") then time_line c.epoch 3 others >>= (λ n. closed c number n)
+    if bytes_eq word (codes "at") then timed_line c.epoch 3 others >>= (λ n. closed c number n)
     else Err (word_fault 2 words.Extra)
 
 -- a line behind `start`, which has this number
@@ -190,15 +193,16 @@ course_line cs c n (Some kinds.End) first others = end_line c n others
 abbrev pub passed : ℕ → Stage → List (List ℕ) → Result Made PlanReason
 passed n stage line = Ok (record { lines = timed n line 0 ∷ []; stage = stage })
 
--- `epoch N`
+-- `epoch N`, or `epoch N is DATE`: the scenario has `epoch N`
 abbrev pub epoch_line : ℕ → List ℕ → List (List ℕ) → Result Made PlanReason
-epoch_line n first others = do
-  word ← one 2 others
-  epoch ← or_else reasons.Epoch (number 4294000000 word)
-  passed n (stages.Header epoch) (first ∷ others)
+epoch_line n first [] = Err (word_fault 2 words.Missing)
+epoch_line n first (word ∷ others) = do
+  second ← or_else reasons.Epoch (number 4294000000 word)
+  instant ← binding_line others
+  passed n (stages.Header (record { second = second; instant = instant })) (first ∷ word ∷ [])
 
 -- `start`
-abbrev pub start_line : ℕ → ℕ → List ℕ → List (List ℕ) → Result Made PlanReason
+abbrev pub start_line : ℕ → Epoch → List ℕ → List (List ℕ) → Result Made PlanReason
 start_line n epoch first others = do
   _ ← none 2 others
   passed n (stages.Frames (record { epoch = epoch; heading = frame_alone 0; frames = 0; items = 0 })) (first ∷ others)
@@ -221,7 +225,7 @@ opening_line n (Some kinds.Tick) first others = Err reasons.Place
 opening_line n (Some kinds.End) first others = Err reasons.Place
 
 -- a line behind `epoch` and before `start`
-abbrev pub header_line : ℕ → ℕ → Option LineKind → List ℕ → List (List ℕ) → Result Made PlanReason
+abbrev pub header_line : ℕ → Epoch → Option LineKind → List ℕ → List (List ℕ) → Result Made PlanReason
 header_line n epoch None first others = Err reasons.Word
 header_line n epoch (Some kinds.Epoch) first others = Err reasons.Place
 header_line n epoch (Some kinds.Region) first others = passed n (stages.Header epoch) (first ∷ others)
@@ -261,7 +265,7 @@ abbrev pub opening_said : ℕ → List (List ℕ) → Result Made PlanReason
 opening_said n [] = Err reasons.Word
 opening_said n (first ∷ others) = opening_line n (kind_of first) first others
 
-abbrev pub header_said : ℕ → ℕ → List (List ℕ) → Result Made PlanReason
+abbrev pub header_said : ℕ → Epoch → List (List ℕ) → Result Made PlanReason
 header_said n epoch [] = Err reasons.Word
 header_said n epoch (first ∷ others) = header_line n epoch (kind_of first) first others
 

@@ -5,8 +5,9 @@ ghost use Rattle.timed_plans.specs.Plans.{stage_of, turned, turned_to, at_line, 
 
 use crate::heading::{Heading, frame_alone, frames_between};
 use crate::stage::{Course, Stage};
+use crate::times::{frame_of_word, read_time};
 use crate::words::read_period;
-use plan_text::{PlanReason, frame_of_time, last_word, no_word, read_time, word_fault};
+use plan_text::{PlanReason, last_word, no_word, word_fault};
 use row_forms::{Reason, number, split_word};
 
 /// How many frames a scenario has at most.
@@ -41,7 +42,7 @@ fn turn_to(course: &Course, frame: u32) -> Result<Stage, PlanReason>
 pub(crate) fn read_at(course: &Course, line: &[u8]) -> Result<Stage, PlanReason>
     ensures { result ≡ stage_of (at_line course.now (words line.now)) }
 {
-    match read_time(course.epoch, 2, line) {
+    match read_time(&course.epoch, 2, line) {
         Ok(frame) => turn_to(course, frame),
         Err(reason) => Err(reason),
     }
@@ -114,8 +115,8 @@ pub(crate) fn read_span(
     if to != b"to".as_slice() {
         return Err(PlanReason::Span);
     }
-    match frame_of_time(course.epoch, word, begin) {
-        Ok(first) => match frame_of_time(course.epoch, word + 2, end) {
+    match frame_of_word(&course.epoch, word, begin) {
+        Ok(first) => match frame_of_word(&course.epoch, word + 2, end) {
             Ok(behind) => read_frames(course, period, first, behind),
             Err(reason) => Err(reason),
         },
@@ -189,7 +190,7 @@ pub(crate) fn read_end(course: &Course, number: u32, line: &[u8]) -> Result<Stag
     if word != b"at".as_slice() {
         return Err(word_fault(2, Reason::Extra));
     }
-    match read_time(course.epoch, 3, rest) {
+    match read_time(&course.epoch, 3, rest) {
         Ok(frame) => close(course, number, frame),
         Err(reason) => Err(reason),
     }

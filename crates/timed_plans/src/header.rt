@@ -8,8 +8,10 @@ use crate::heading::frame_alone;
 use crate::kind::LineKind;
 use crate::scheduled::{ScheduledLine, add_line};
 use crate::stage::{Course, Stage};
-use plan_text::{LineError, PlanReason, last_word, no_word, put_line};
-use row_forms::number;
+use crate::times::read_binding;
+use calendar_dates::Epoch;
+use plan_text::{LineError, PlanReason, no_word, put_line, word_fault};
+use row_forms::{Reason, number, split_word};
 use std::alloc::Global;
 
 /// The latest epoch.
@@ -42,7 +44,7 @@ fn pass(
     }
 }
 
-/// `epoch N`.
+/// `epoch N`, or `epoch N is DATE`.
 fn read_epoch(
     alloc: Global,
     line: &PlanLine<'_>,
@@ -50,19 +52,28 @@ fn read_epoch(
 ) -> Result<Stage, LineError>
     ensures { GivesStage (scheduled (held_in head.old.items) (epoch_line line.now.number line.now.first.now (words line.now.rest.now))) (held_in head.new.items) result }
 {
-    match last_word(2, line.rest) {
-        Ok(text) => match number(LAST_EPOCH, text) {
-            Some(epoch) => pass(alloc, Stage::Header(epoch), line, head),
-            None => Err(LineError::Because(PlanReason::Epoch)),
-        },
-        Err(reason) => Err(LineError::Because(reason)),
-    }
+    let Some((text, rest)) = split_word(line.rest) else {
+        return Err(LineError::Because(word_fault(2, Reason::Missing)));
+    };
+    let Some(second) = number(LAST_EPOCH, text) else {
+        return Err(LineError::Because(PlanReason::Epoch));
+    };
+    let instant = match read_binding(rest) {
+        Ok(instant) => instant,
+        Err(reason) => return Err(LineError::Because(reason)),
+    };
+    let alone = PlanLine {
+        number: line.number,
+        first: line.first,
+        rest: text,
+    };
+    pass(alloc, Stage::Header(Epoch { second, instant }), &alone, head)
 }
 
 /// `start`.
 fn read_start(
     alloc: Global,
-    epoch: u32,
+    epoch: Epoch,
     line: &PlanLine<'_>,
     head: &mut Vec<ScheduledLine>,
 ) -> Result<Stage, LineError>
@@ -112,7 +123,7 @@ pub(crate) fn read_opening(
 /// A line behind `epoch` and before `start`.
 pub(crate) fn read_header(
     alloc: Global,
-    epoch: u32,
+    epoch: Epoch,
     kind: Option<LineKind>,
     line: &PlanLine<'_>,
     head: &mut Vec<ScheduledLine>,

@@ -3,6 +3,7 @@
 
 mod check;
 mod course;
+mod dated;
 mod header;
 mod heading;
 mod kind;
@@ -12,6 +13,7 @@ mod page;
 mod plan;
 mod scheduled;
 mod stage;
+mod times;
 mod words;
 
 pub use plan::schedule_plan;

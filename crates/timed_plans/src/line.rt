@@ -8,6 +8,7 @@ ghost use Rattle.timed_plans.specs.Schedules.{held_in, app_line};
 ghost use Rattle.timed_plans.specs.Plans.{scheduled, item_line, send_line, hold_line, counts_line, counter_line, course_line, GivesStage};
 
 use crate::course::{extended, read_at, read_end, read_every, read_frame, read_span, read_tick};
+use crate::dated::put_dated;
 use crate::header::PlanLine;
 use crate::kind::LineKind;
 use crate::scheduled::{ScheduledLine, add_counts, add_spread, put_app};
@@ -70,8 +71,12 @@ fn read_send(
     requires { are_good commands.now ≡ true }
     ensures { GivesStage (scheduled (held_in lines.old.items) (send_line commands.now course.now line.now.number (words line.now.rest.now))) (held_in lines.new.items) result }
 {
+    let mut words = Vec::new(alloc);
+    if let Err(error) = put_dated(&course.epoch, line.rest, &mut words) {
+        return Err(error);
+    }
     let mut text = Vec::new(alloc);
-    match read_sent(commands, course.epoch, line.rest, &mut text) {
+    match read_sent(commands, course.epoch.second, words.as_slice(), &mut text) {
         Ok(packet) => {
             text.clear();
             match put_sent(&packet, &mut text) {

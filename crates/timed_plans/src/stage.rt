@@ -1,14 +1,15 @@
 //! How far a plan has come.
 
 use crate::heading::Heading;
+use calendar_dates::Epoch;
 
 /// How far a plan has come.
 #[derive(Clone, Copy, Debug, PartialEq, Eq)]
 pub(crate) enum Stage {
     /// Nothing was said.
     Opening,
-    /// Behind `epoch N` and before `start`.
-    Header(u32),
+    /// Behind `epoch` and before `start`.
+    Header(Epoch),
     /// Behind `start`.
     Frames(Course),
     /// Behind `end`: how many frames there are, and the number of that line.
@@ -18,8 +19,8 @@ pub(crate) enum Stage {
 /// The heading below which the plan has come.
 #[derive(Clone, Copy, Debug, PartialEq, Eq)]
 pub(crate) struct Course {
-    /// The second of frame 0.
-    pub(crate) epoch: u32,
+    /// The second of frame 0, and its date where there is one.
+    pub(crate) epoch: Epoch,
     /// Where the next lines stand.
     pub(crate) heading: Heading,
     /// How many frames the lines so far take.

@@ -14,6 +14,8 @@ use Rattle.row_forms.specs.Rows.{behind_key, field_said, row_said, row_words, sp
 use Rattle.telecommands.specs.Commands.{named, command_said, shows, showing, command_shown}
 use Rattle.telecommands.specs.Dictionary.{dictionary, hs_rows, mm_rows, md_rows, cs_rows, sc_rows, lc_rows}
 use Rattle.table_texts.specs.Lines.{lines_of, kept}
+use Rattle.calendar_dates.specs.Instants.{date_said, time_of_day_said, instant_at, instant_said, second_behind, gap_to, second_said}
+use Rattle.timed_plans.specs.Times.{frame_of_word, dated_second, dated_word, dated_words}
 use Rattle.timed_plans.specs.Kinds.{kind_of}
 use Rattle.timed_plans.specs.Headings.{stepped}
 use Rattle.timed_plans.specs.Schedules.{spread, lines_at, frames_from}
@@ -24,5 +26,5 @@ use Rattle.timed_plans.specs.Worked.{plan, scenario}
 use Rattle.timed_plans.proofs.laws.worked_plan.Goals as goal
 
 pub returns : goal.returns
-unfolding version_of sequence_flags length_field words digits number hex_said choice_said bits_said mask_said span_said time_said listed bits_of mask_shown choice_shown value_said can_show value_shown is_kind behind_key field_said row_said row_words spaced is_row crc_of low_bits crc_bit be16_at be32_at be16_bytes be32_bytes hex command_of primary_header with_checksum checksum_of message_id is_command function_code payload_of fault_of named command_said shows showing command_shown dictionary hs_rows mm_rows md_rows cs_rows sc_rows lc_rows written lines_of kept kind_of stepped spread lines_at frames_from period_said extended text_of frame_of_time packet_sent lines_said schedule_said plan scenario
+unfolding date_said time_of_day_said instant_at instant_said second_behind gap_to second_said frame_of_word dated_second dated_word dated_words version_of sequence_flags length_field words digits number hex_said choice_said bits_said mask_said span_said time_said listed bits_of mask_shown choice_shown value_said can_show value_shown is_kind behind_key field_said row_said row_words spaced is_row crc_of low_bits crc_bit be16_at be32_at be16_bytes be32_bytes hex command_of primary_header with_checksum checksum_of message_id is_command function_code payload_of fault_of named command_said shows showing command_shown dictionary hs_rows mm_rows md_rows cs_rows sc_rows lc_rows written lines_of kept kind_of stepped spread lines_at frames_from period_said extended text_of frame_of_time packet_sent lines_said schedule_said plan scenario
 returns c = refl
