@@ -7,3 +7,10 @@ plan = codes "# NAV hangs for two seconds.\nepoch 1000\nregion  RAM 0x1000 256\n
 
 unfoldable pub scenario : List ℕ
 scenario = codes "epoch 1000\nregion RAM 0x1000 256\nstart\nsend 1888C000000602330800001080\napp NAV 1\ntick\napp NAV 2\nupset 0x1080 0x5A\nsend 1888C000000602330800001080\ntick\nsend 1888C000000602330800001080\napp NAV 2\ntick\napp NAV 2\nhold MM\ntick\nsend 1888C000000602330800001080\nhold MM\napp NAV 7\ntick\napp NAV 7\ntick\nend\n"
+
+-- dates and times of day
+unfoldable pub dated_plan : List ℕ
+dated_plan = codes "epoch 1000 is 2026-11-29T18:00:00Z\nstart\nat 2026-11-29T18:00:01Z\nhold MM\nfrom 18:00:02 to 18:00:04\nhold CS\nat +0:00:04\nsend sc.jump_ats time=18:03:05\nend at 2026-11-29T18:00:06Z\n"
+
+unfoldable pub dated_scenario : List ℕ
+dated_scenario = codes "epoch 1000\nstart\ntick\nhold MM\ntick\nhold CS\ntick\nhold CS\ntick\nsend 18A9C00000050927000004A1\ntick\ntick\nend\n"

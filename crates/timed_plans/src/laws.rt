@@ -3,6 +3,7 @@ ghost use Rattle.std.specs.Prelude.{◌≡◌, ◌∷◌, [], ℕ, List, Ok, Err
 ghost use Rattle.telecommands.specs.declared.command.Command.{Command};
 ghost use Rattle.telecommands.specs.Commands.{are_good};
 ghost use Rattle.telecommands.specs.Dictionary.{dictionary};
+ghost use Rattle.calendar_dates.specs.declared.fault.DateFault.TheVariants as dates;
 ghost use Rattle.scenario.specs.Texts.{Ended, reading};
 ghost use Rattle.plan_text.specs.declared.fault.PlanReason.TheVariants as reasons;
 ghost use Rattle.plan_text.specs.Frames.{head_said, frames_said};
@@ -10,7 +11,7 @@ ghost use Rattle.plan_text.specs.Plans.{fault_on};
 ghost use Rattle.timed_plans.specs.Schedules.{Schedule, scenario_lines, words_of, timed_items};
 ghost use Rattle.timed_plans.specs.Plans.{schedule_said, period_said};
 ghost use Rattle.timed_plans.specs.Checks.{scenario_said, IsSaid};
-ghost use Rattle.timed_plans.specs.Worked.{plan, scenario};
+ghost use Rattle.timed_plans.specs.Worked.{plan, scenario, dated_plan, dated_scenario};
 
 /// A plan with items in any order of time, spans, a period, a hold of two frames and counters, and its scenario's text.
 pub fn worked_plan()
@@ -44,4 +45,20 @@ pub fn worked_faults()
     ensures held { schedule_said [] (codes "epoch 5\nstart\nat 100003\nhold MM for 3\nend\n") ≡ Err (fault_on 4 reasons.Frames) }
     ensures seconds { period_said (codes "10s") ≡ Some 10 }
     ensures minutes { period_said (codes "10m") ≡ None }
+{}
+
+/// A plan with dates and times of day, also within a telecommand, and its scenario's text, whose epoch has no date.
+pub fn worked_dates()
+    ensures { IsSaid (schedule_said dictionary dated_plan) dated_scenario }
+{}
+
+/// Faults of dates with their lines and words.
+pub fn worked_date_faults()
+    ensures form { schedule_said [] (codes "epoch 5 is today\n") ≡ Err (fault_on 1 (reasons.Date 4 dates.Form)) }
+    ensures day { schedule_said [] (codes "epoch 5 is 2026-02-30T18:00:00Z\n") ≡ Err (fault_on 1 (reasons.Date 4 dates.Day)) }
+    ensures clock { schedule_said [] (codes "epoch 5 is 2026-11-29T18:00:00Z\nstart\nat 24:00:00\n") ≡ Err (fault_on 3 (reasons.Date 2 dates.Clock)) }
+    ensures unbound { schedule_said [] (codes "epoch 5\nstart\nat 2026-11-29T18:00:00Z\n") ≡ Err (fault_on 3 (reasons.Date 2 dates.Unbound)) }
+    ensures early { schedule_said [] (codes "epoch 5 is 2026-11-29T18:00:00Z\nstart\nfrom 18:00:00 to 2026-11-29T17:59:59Z\n") ≡ Err (fault_on 3 (reasons.Date 4 dates.Early)) }
+    ensures late { schedule_said [] (codes "epoch 5 is 2026-11-29T18:00:00Z\nstart\nsend sc.jump_ats time=2199-01-01T00:00:00Z\n") ≡ Err (fault_on 3 (reasons.Date 3 dates.Late)) }
+    ensures frames { schedule_said [] (codes "epoch 5 is 2026-11-29T18:00:00Z\nstart\nat 2026-12-31T18:00:00Z\n") ≡ Err (fault_on 3 reasons.Frames) }
 {}
