@@ -1,5 +1,5 @@
 -- Lemmas on shown plans.
-use Rattle.std.proofs.Common.{◌≡◌, ℕ, ◌+◌, List, [], ◌∷◌, ◌++◌, refl, ap, sym, ◌∙◌, append_assoc, append-nil}
+use Rattle.std.proofs.Common.{◌≡◌, ℕ, List, [], ◌∷◌, ◌++◌, refl, ap, sym, ◌∙◌, append_assoc, append-nil}
 use Rattle.telecommands.specs.declared.command.Command.{Command}
 use Rattle.table_texts.specs.Lines.{Numbered, kept_of}
 use Rattle.shown_plans.specs.Shown.{shown_first, lines_shown, plan_shown, plain_words, plain_lines}

@@ -19,12 +19,7 @@ fn put_bytes(first: &[u8], rest: &[u8], bytes: &[u8], out: &mut Vec<u8>) -> Resu
 }
 
 /// Appends the line of a `send`.
-fn put_send(
-    alloc: Global,
-    first: &[u8],
-    rest: &[u8],
-    out: &mut Vec<u8>,
-) -> Result<(), AllocError>
+fn put_send(alloc: Global, first: &[u8], rest: &[u8], out: &mut Vec<u8>) -> Result<(), AllocError>
     ensures { OnOk result (out.new.items ≡ out.old.items ++ plain_sent (first.now ∷ words rest.now) (words rest.now)) }
 {
     let Some((word, more)) = split_word(rest) else {

@@ -1,11 +1,13 @@
 //! One file a crate.
 
 mod command_words;
+mod dated;
 mod lines;
 mod loads;
 mod plans;
 mod rows;
 mod sentences;
+mod shown;
 mod tables;
 mod telemetry_words;
 mod timed;

@@ -358,7 +358,7 @@ course_makes cs c n None first others good low is verb = tt
 course_makes cs c n (Some kinds.Epoch) first others good low is verb = tt
 course_makes cs c n (Some kinds.Region) first others good low is verb = tt
 course_makes cs c n (Some kinds.Start) first others good low is verb = tt
-course_makes cs c n (Some kinds.Send) first others good low is verb = 
+course_makes cs c n (Some kinds.Send) first others good low is verb =
     then_makes c (dated_words c.epoch 2 others) (λ dated. as_plan (packet_sent cs c.epoch.second dated) >>= (λ packet. item_line c 1 n (sent_line packet))) (λ dated.
     send_makes c n (packet_sent cs c.epoch.second dated) low (sent_is_packet cs c.epoch.second dated good))
 course_makes cs c n (Some kinds.Item) first others good low is verb = item_makes c 1 n (first ∷ others) low (item_is first others is verb)

@@ -67,7 +67,12 @@ fn read_epoch(
         first: line.first,
         rest: text,
     };
-    pass(alloc, Stage::Header(Epoch { second, instant }), &alone, head)
+    pass(
+        alloc,
+        Stage::Header(Epoch { second, instant }),
+        &alone,
+        head,
+    )
 }
 
 /// `start`.
