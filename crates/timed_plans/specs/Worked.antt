@@ -10,7 +10,7 @@ scenario = codes "epoch 1000\nregion RAM 0x1000 256\nstart\nsend 1888C0000006023
 
 -- dates and times of day
 unfoldable pub dated_plan : List ℕ
-dated_plan = codes "epoch 1000 is 2026-11-29T18:00:00Z\nstart\nat 2026-11-29T18:00:01Z\nhold MM\nfrom 18:00:02 to 18:00:04\nhold CS\nat +0:00:04\nsend sc.jump_ats time=18:03:05\nend at 2026-11-29T18:00:06Z\n"
+dated_plan = codes "epoch 1000 is 2026-11-29T18:00:00Z\nregion RAM 0x1000 256\nstart\nat 2026-11-29T18:00:01Z\nhold MM\nfrom 18:00:02 to 18:00:04\nhold CS\nat +0:00:04\nsend sc.jump_ats time=18:03:05\nend at 2026-11-29T18:00:06Z\n"
 
 unfoldable pub dated_scenario : List ℕ
-dated_scenario = codes "epoch 1000\nstart\ntick\nhold MM\ntick\nhold CS\ntick\nhold CS\ntick\nsend 18A9C00000050927000004A1\ntick\ntick\nend\n"
+dated_scenario = codes "epoch 1000\nregion RAM 0x1000 256\nstart\ntick\nhold MM\ntick\nhold CS\ntick\nhold CS\ntick\nsend 18A9C00000050927000004A1\ntick\ntick\nend\n"

@@ -5,6 +5,7 @@ use timed_plans::schedule_plan;
 
 /// Dates, times of day, and one within a telecommand.
 const PLAN: &[u8] = b"epoch 1000 is 2026-11-29T18:00:00Z\n\
+        region RAM 0x1000 256\n\
         start\n\
         at 2026-11-29T18:00:01Z\n\
         hold MM\n\
@@ -16,6 +17,7 @@ const PLAN: &[u8] = b"epoch 1000 is 2026-11-29T18:00:00Z\n\
 
 /// Its scenario, whose epoch has no date.
 const SCENARIO: &[u8] = b"epoch 1000\n\
+        region RAM 0x1000 256\n\
         start\n\
         tick\n\
         hold MM\n\
