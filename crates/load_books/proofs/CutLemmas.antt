@@ -8,7 +8,7 @@ use Rattle.std.proofs.lemmas.Bool.Decides.{nat_tests}
 use Rattle.std.proofs.Math.Seq.{take-add, drop-length}
 use Rattle.row_forms.specs.Words.{words}
 use Rattle.row_forms.proofs.WordsLemmas.{position_is, position_none}
-use Rattle.load_books.specs.Cuts.{onto_line, whole_lines, bare, words_in, begins_part, behind_first, part_of, Part, Cut, put_line, cut, cut_of, with_front}
+use Rattle.load_books.specs.Cuts.{onto_line, whole_lines, bare, words_in, begins, behind_first, part_of, Part, Cut, put_line, cut, cut_of, with_front}
 
 abbrev is_end : ℕ → Bool
 is_end b = b == 10
@@ -97,7 +97,7 @@ cut_cons n line more = refl
 cut_first : (n k : ℕ) (text bytes rest : List ℕ) → whole_lines text ≡ take k text ∷ whole_lines rest → bare (take k text) ≡ bytes → cut_of n text ≡ put_line n (take k text) (words bytes) (cut_of (n + 1) rest)
 cut_first n k text bytes rest line is = ap (cut n) line ∙ cut_cons n (take k text) (whole_lines rest) ∙ ap (λ (l : List ℕ). put_line n (take k text) (words l) (cut_of (n + 1) rest)) is
 
-put_other : (n : ℕ) (line : List ℕ) (ws : List (List ℕ)) (c : Cut) → begins_part ws ≡ false → put_line n line ws c ≡ with_front line c
+put_other : (n : ℕ) (line : List ℕ) (ws : List (List ℕ)) (c : Cut) → begins (codes "part") ws ≡ false → put_line n line ws c ≡ with_front line c
 put_other n line ws c other = rw other refl
 
 put_title : (n : ℕ) (line : List ℕ) (ws title : List (List ℕ)) (c : Cut) → ws ≡ codes "part" ∷ title → put_line n line ws c ≡ record { front = []; parts = part_of n title c.front ∷ c.parts }
@@ -109,7 +109,7 @@ fronts_join a b c = ap (λ (f : List ℕ). record { front = f; parts = c.parts }
 -- ---- the lines in front of a part
 
 -- one line more stands in front
-pub line_passed : (n m k j : ℕ) (text left bytes rest : List ℕ) → cut_of n text ≡ with_front (take k text) (cut_of m left) → left ≡ drop k text → whole_lines left ≡ take j left ∷ whole_lines rest → bare (take j left) ≡ bytes → begins_part (words bytes) ≡ false → cut_of n text ≡ with_front (take (k + j) text) (cut_of (m + 1) rest)
+pub line_passed : (n m k j : ℕ) (text left bytes rest : List ℕ) → cut_of n text ≡ with_front (take k text) (cut_of m left) → left ≡ drop k text → whole_lines left ≡ take j left ∷ whole_lines rest → bare (take j left) ≡ bytes → begins (codes "part") (words bytes) ≡ false → cut_of n text ≡ with_front (take (k + j) text) (cut_of (m + 1) rest)
 line_passed n m k j text left bytes rest so_far here line is other =
     so_far
     ∙ ap (with_front (take k text)) (cut_first m j left bytes rest line is ∙ put_other m (take j left) (words bytes) (cut_of (m + 1) rest) other)
@@ -134,7 +134,7 @@ parts_found n m k j text left bytes rest title so_far line is part = ap (λ (c :
 pub cut_begins : (n : ℕ) (text : List ℕ) → cut_of n text ≡ with_front (take 0 text) (cut_of n text)
 cut_begins n text = refl
 
-empty : (left : List ℕ) → (length left == 0) ≡ true → left ≡ []
+pub empty : (left : List ℕ) → (length left == 0) ≡ true → left ≡ []
 empty [] e = refl
 empty (b ∷ more) e = let h : length (b ∷ more) ≡ 0 = grind (arith, nat_tests) in absurd (omega (arith, h))
 

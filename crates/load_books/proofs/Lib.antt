@@ -1,2 +1,4 @@
 mod CutLemmas
 mod ContentsLemmas
+mod NamingLemmas
+mod FilesLemmas

@@ -36,10 +36,10 @@ pub record Cut : Type 0 where
 abbrev pub part_of : ℕ → List (List ℕ) → List ℕ → Part
 part_of n title text = record { number = n; title = title; text = text }
 
--- whether a line begins a part
-abbrev pub begins_part : List (List ℕ) → Bool
-begins_part [] = false
-begins_part (w ∷ ws) = bytes_eq w (codes "part")
+-- whether a line begins with a word
+abbrev pub begins : List ℕ → List (List ℕ) → Bool
+begins wanted [] = false
+begins wanted (w ∷ ws) = bytes_eq w wanted
 
 -- the words behind the first one
 abbrev pub behind_first : List (List ℕ) → List (List ℕ)
@@ -49,7 +49,7 @@ behind_first (w ∷ ws) = ws
 -- line n, of these words, in front of a text that is cut
 abbrev pub put_line : ℕ → List ℕ → List (List ℕ) → Cut → Cut
 put_line n line ws c =
-    if begins_part ws then record { front = []; parts = part_of n (behind_first ws) c.front ∷ c.parts }
+    if begins (codes "part") ws then record { front = []; parts = part_of n (behind_first ws) c.front ∷ c.parts }
     else record { front = line ++ c.front; parts = c.parts }
 
 -- lines, of which the first has number n

@@ -1,8 +1,8 @@
 //! A book's text, cut in front of the lines that begin its parts.
-ghost use Rattle.std.specs.Prelude.{◌≡◌, ◌<◌, ◌≤◌, ◌+◌, ◌^◌, ◌∷◌, ◌==◌, [], ℕ, length, take, drop, false, codes, IfSome, MatchOption};
+ghost use Rattle.std.specs.Prelude.{◌≡◌, ◌<◌, ◌≤◌, ◌+◌, ◌^◌, ◌∷◌, ◌==◌, [], ℕ, length, take, drop, false, IfSome, MatchOption};
 ghost use Rattle.std.specs.List.{position};
 ghost use Rattle.row_forms.specs.Words.{words};
-ghost use Rattle.load_books.specs.Cuts.{whole_lines, bare, begins_part, cut_of, parts_from};
+ghost use Rattle.load_books.specs.Cuts.{whole_lines, bare, begins, cut_of, parts_from};
 
 use packet_forms::{behind, front};
 use row_forms::split_word;
@@ -60,14 +60,14 @@ pub(crate) fn split_line(text: &[u8]) -> TextLine<'_>
     }
 }
 
-/// What stands behind the word `part`, where a line begins with it.
-fn part_title(line: &[u8]) -> Option<&[u8]>
+/// What stands behind a word, where a line begins with it.
+pub(crate) fn behind_word<'a>(wanted: &[u8], line: &'a [u8]) -> Option<&'a [u8]>
     ensures { MatchOption result
-        (begins_part (words line.now) ≡ false)
-        (λ title. words line.now ≡ codes "part" ∷ words title.now) }
+        (begins wanted.now (words line.now) ≡ false)
+        (λ behind. words line.now ≡ wanted.now ∷ words behind.now) }
 {
     match split_word(line) {
-        Some((word, title)) if word == b"part".as_slice() => Some(title),
+        Some((word, behind)) if word == wanted => Some(behind),
         _ => None,
     }
 }
@@ -78,6 +78,7 @@ pub(crate) fn cut_front(text: &[u8], number: u32) -> Front<'_>
     ensures front { (cut_of number text.now).front ≡ result.text.now }
     ensures parts { (cut_of number text.now).parts ≡ parts_from result.part }
     ensures room { IfSome result.part (λ part. part.number + 1 + length part.rest.now ≤ number + length text.now) }
+    ensures small { length result.text.now ≤ length text.now }
     ensures shorter { IfSome result.part (λ part. length part.rest.now < length text.now) }
 {
     let mut size = 0;
@@ -85,7 +86,7 @@ pub(crate) fn cut_front(text: &[u8], number: u32) -> Front<'_>
     let mut next = number;
     'lines: while !rest.is_empty() {
         let line = split_line(rest);
-        if let Some(title) = part_title(line.bytes) {
+        if let Some(title) = behind_word(b"part", line.bytes) {
             let part = PartLine {
                 number: next,
                 title,

@@ -1,6 +1,9 @@
 //! Why a text is no book.
 
+use load_texts::LoadFault;
+use plan_text::PlanFault;
 use std::alloc::AllocError;
+use table_forms::TableFault;
 use thiserror::Error;
 
 /// What is wrong with a line of a book that is no part's own.
@@ -39,8 +42,8 @@ pub enum BookReason {
     /// The plan loads a table.
     #[error("`mm.load_file` takes the name of a load, and this is the name of a table")]
     Loads,
-    /// The plan is too long.
-    #[error("a plan has at most 16777216 bytes")]
+    /// The part is too long.
+    #[error("a part has at most 16777216 bytes")]
     Long,
 }
 
@@ -51,12 +54,22 @@ pub(crate) enum LineError {
     Because(BookReason),
 }
 
-/// The first fault of a book, with the number of its line, counted from 1.
+/// The first fault of a book, with the number of its line in the book, counted from 1. A fault of a whole file has the line of its part
+/// alone.
 #[derive(Clone, Copy, Debug, PartialEq, Eq, Error)]
 pub enum BookFault {
-    /// A line of the book's own.
+    /// A line of the book's own, or one that it says of a part.
     #[error("line {0}: {1}")]
     Line(u32, BookReason),
+    /// The table whose part begins at this line.
+    #[error("part of line {0}: {1}")]
+    Table(u32, TableFault),
+    /// The load whose part begins at this line.
+    #[error("part of line {0}: {1}")]
+    Load(u32, LoadFault),
+    /// The plan, whose part begins at this line.
+    #[error("part of line {0}: {1}")]
+    Plan(u32, PlanFault),
 }
 
 /// Why a book wasn't read.

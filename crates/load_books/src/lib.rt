@@ -4,7 +4,16 @@
 mod contents;
 mod cuts;
 mod fault;
+mod files;
+mod forms;
+mod lines;
+mod naming;
+mod reading;
+mod scenarios;
 mod titles;
 
 pub use fault::{BookError, BookFault, BookReason};
+pub use files::BookFile;
+pub use forms::{BookForms, book_forms};
+pub use reading::{Book, is_book_text, read_book};
 pub use titles::FileKind;
