@@ -2,3 +2,5 @@ mod CutLemmas
 mod ContentsLemmas
 mod NamingLemmas
 mod FilesLemmas
+mod BooksLemmas
+mod ManifestLemmas

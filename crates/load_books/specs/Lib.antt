@@ -6,3 +6,4 @@ pub mod Naming
 pub mod Files
 pub mod Scenarios
 pub mod Books
+pub mod Manifests

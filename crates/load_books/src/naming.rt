@@ -60,7 +60,7 @@ fn name_number(
 }
 
 /// Appends the decimal digits of a file's number.
-fn push_number(number: usize, out: &mut Vec<u8>) -> Result<(), AllocError>
+pub(crate) fn push_number(number: usize, out: &mut Vec<u8>) -> Result<(), AllocError>
     ensures { OnOk result (out.new.items ≡ out.old.items ++ decimal number) }
 {
     let mut buffer = Buffer::new();

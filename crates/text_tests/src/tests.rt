@@ -1,5 +1,6 @@
 //! One file a crate.
 
+mod books;
 mod command_words;
 mod dated;
 mod lines;

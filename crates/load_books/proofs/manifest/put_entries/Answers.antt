@@ -1,0 +1,8 @@
+use Rattle.load_books.proofs.ManifestLemmas.{entry_put, entries_end}
+use Rattle.load_books.proofs.manifest.put_entries.Goals as goal
+
+pub loop-file-preserved : goal.loop-file-preserved
+loop-file-preserved c = ?
+
+pub returns : goal.returns
+returns c = entries_end c.args.files.now c.loop-file.file-index c.args.out.now.items c.loop-file.out.items c.loop-file-test.false c.loop-file.invariant
