@@ -10,6 +10,10 @@ four_put old a b c d one two three four e1 e2 e3 e4 =
     e4 ∙ ap (λ (t : List ℕ). t ++ d) (e3 ∙ ap (λ (t : List ℕ). t ++ c) (e2 ∙ ap (λ (t : List ℕ). t ++ b) e1))
     ∙ append_assoc ((old ++ a) ++ b) c d ∙ append_assoc (old ++ a) b (c ++ d) ∙ append_assoc old a (b ++ (c ++ d))
 
+-- three texts
+pub three_put : (old a b c one two three : List ℕ) → one ≡ old ++ a → two ≡ one ++ b → three ≡ two ++ c → three ≡ old ++ (a ++ (b ++ c))
+three_put old a b c one two three e1 e2 e3 = e3 ∙ ap (λ (t : List ℕ). t ++ c) (e2 ∙ ap (λ (t : List ℕ). t ++ b) e1) ∙ append_assoc (old ++ a) b c ∙ append_assoc old a (b ++ c)
+
 entries_cons : (m : FileMade) (more : List FileMade) → entries (m ∷ more) ≡ entry (kind_word m.kind) m.name m.bytes ++ entries more
 unfolding entries
 entries_cons m more = refl
@@ -24,13 +28,13 @@ entries_next (f ∷ fs) zero d h = entries_cons (file_made f) (map file_made fs)
 entries_next (f ∷ fs) (suc i) d h = entries_next fs i d (omega (arith, h))
 
 -- a line was put
-pub entry_put : (fs : List BookFile) (i : ℕ) (d : BookFile) (first old new kind : List ℕ) → i < length fs → kind ≡ kind_word (get_or fs i d).kind → new ≡ old ++ entry kind (get_or fs i d).name.now (get_or fs i d).bytes.items → first ++ entries (map file_made fs) ≡ old ++ entries (map file_made (drop i fs)) → first ++ entries (map file_made fs) ≡ new ++ entries (map file_made (drop (i + 1) fs))
-entry_put fs i d first old new kind h is put so_far =
+pub entry_put : (fs : List BookFile) (i : ℕ) (d f : BookFile) (first old new : List ℕ) → i < length fs → f ≡ get_or fs i d → new ≡ old ++ entry (kind_word f.kind) f.name.now f.bytes.items → first ++ entries (map file_made fs) ≡ old ++ entries (map file_made (drop i fs)) → first ++ entries (map file_made fs) ≡ new ++ entries (map file_made (drop (i + 1) fs))
+entry_put fs i d f first old new h is put so_far =
     let one : i + 1 ≡ suc i = omega arith in
-    let line = entry kind (get_or fs i d).name.now (get_or fs i d).bytes.items in
+    let line = entry (kind_word f.kind) f.name.now f.bytes.items in
     let rest = entries (map file_made (drop (suc i) fs)) in
     so_far
-    ∙ ap (λ (t : List ℕ). old ++ t) (entries_next fs i d h ∙ ap (λ (k : List ℕ). entry k (get_or fs i d).name.now (get_or fs i d).bytes.items ++ rest) (sym is))
+    ∙ ap (λ (t : List ℕ). old ++ t) (entries_next fs i d h ∙ ap (λ (g : BookFile). entry (kind_word g.kind) g.name.now g.bytes.items ++ rest) (sym is))
     ∙ sym (append_assoc old line rest)
     ∙ ap (λ (t : List ℕ). t ++ rest) (sym put)
     ∙ ap (λ (k : ℕ). new ++ entries (map file_made (drop k fs))) (sym one)

@@ -7,3 +7,4 @@ pub mod Files
 pub mod Scenarios
 pub mod Books
 pub mod Manifests
+pub mod Worked

@@ -6,6 +6,7 @@ mod cuts;
 mod fault;
 mod files;
 mod forms;
+pub mod laws;
 mod lines;
 mod manifest;
 mod naming;

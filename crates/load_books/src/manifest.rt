@@ -41,16 +41,26 @@ fn put_number(number: usize, out: &mut Vec<u8>) -> Result<(), AllocError>
     push_number(number, out)
 }
 
-/// Appends the CRC of bytes, and ends the line.
+/// Appends the CRC of bytes.
+#[tactic(auto, unfolding(packet_forms::specs::Numbers::be16_bytes))]
+fn push_crc(bytes: &[u8], out: &mut Vec<u8>) -> Result<(), AllocError>
+    ensures { OnOk result (out.new.items ≡ out.old.items ++ hex (be16_bytes (crc_of 0 bytes.now))) }
+{
+    let [high, low] = crc16(0, bytes).to_be_bytes();
+    push_hex(&[high, low], out)
+}
+
+/// Appends a space and the CRC of bytes, and ends the line.
 fn put_check(bytes: &[u8], out: &mut Vec<u8>) -> Result<(), AllocError>
     ensures { OnOk result (out.new.items ≡ out.old.items ++ (field (hex (be16_bytes (crc_of 0 bytes.now))) ++ 10 ∷ [])) }
 {
     out.push(b' ')?;
-    push_hex(&crc16(0, bytes).to_be_bytes(), out)?;
-    out.extend_from_slice(b"\n")
+    push_crc(bytes, out)?;
+    out.push(b'\n')?;
+    Ok(())
 }
 
-/// Appends the line of a file.
+/// Appends a line.
 fn put_entry(
     kind: &[u8],
     name: &[u8],
@@ -62,7 +72,15 @@ fn put_entry(
     out.extend_from_slice(kind)?;
     put_field(name, out)?;
     put_number(bytes.len(), out)?;
-    put_check(bytes, out)
+    put_check(bytes, out)?;
+    Ok(())
+}
+
+/// Appends the line of a file.
+fn put_file(file: &BookFile<'_>, out: &mut Vec<u8>) -> Result<(), AllocError>
+    ensures { OnOk result (out.new.items ≡ out.old.items ++ entry (kind_word file.now.kind) file.now.name.now file.now.bytes.items) }
+{
+    put_entry(kind_word(file.kind), file.name, &file.bytes, out)
 }
 
 /// Appends the lines of files.
@@ -70,7 +88,7 @@ fn put_entries(files: &[BookFile<'_>], out: &mut Vec<u8>) -> Result<(), AllocErr
     ensures { OnOk result (out.new.items ≡ out.old.items ++ entries (map file_made files.now)) }
 {
     for file in files {
-        put_entry(kind_word(file.kind), file.name, file.bytes.as_slice(), out)?;
+        put_file(file, out)?;
     }
     Ok(())
 }
@@ -82,6 +100,6 @@ pub fn book_manifest(alloc: Global, book: &Book<'_>) -> Result<Vec<u8>, AllocErr
 {
     let mut out = Vec::new(alloc);
     put_entries(book.files.as_slice(), &mut out)?;
-    put_entry(b"scenario", book.name, book.scenario.as_slice(), &mut out)?;
+    put_entry(b"scenario", book.name, &book.scenario, &mut out)?;
     Ok(out)
 }
