@@ -61,12 +61,7 @@ fn put_check(bytes: &[u8], out: &mut Vec<u8>) -> Result<(), AllocError>
 }
 
 /// Appends a line.
-fn put_entry(
-    kind: &[u8],
-    name: &[u8],
-    bytes: &[u8],
-    out: &mut Vec<u8>,
-) -> Result<(), AllocError>
+fn put_entry(kind: &[u8], name: &[u8], bytes: &[u8], out: &mut Vec<u8>) -> Result<(), AllocError>
     ensures { OnOk result (out.new.items ≡ out.old.items ++ entry kind.now name.now bytes.now) }
 {
     out.extend_from_slice(kind)?;

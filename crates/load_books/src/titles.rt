@@ -36,11 +36,7 @@ fn is_letter(byte: u8) -> bool
 fn is_name_byte(byte: u8) -> bool
     ensures { result ≡ is_name_byte byte }
 {
-    is_letter(byte)
-        || (48 <= byte && byte <= 57)
-        || byte == b'_'
-        || byte == b'.'
-        || byte == b'-'
+    is_letter(byte) || (48 <= byte && byte <= 57) || byte == b'_' || byte == b'.' || byte == b'-'
 }
 
 fn are_name_bytes(word: &[u8]) -> bool

@@ -7,8 +7,8 @@ use Rattle.load_books.proofs.contents.read_parts.Goals as goal
 pub parts-preserved : goal.parts-preserved
 parts-preserved c = record {
   said =
-    c.parts.invariant.said ∙ ap (λ n. all_added (held_by c.parts.parts) (parts_from n)) c.in-Some.is
-    ∙ part_follows c.in-Some.line _ _ (held_by c.parts.parts) _ c.cut_front-front.ensures.front c.cut_front-front.ensures.parts c.in-Ok.ensures;
+      c.parts.invariant.said ∙ ap (λ n. all_added (held_by c.parts.parts) (parts_from n)) c.in-Some.is
+      ∙ part_follows c.in-Some.line _ _ (held_by c.parts.parts) _ c.cut_front-front.ensures.front c.cut_front-front.ensures.parts c.in-Ok.ensures;
   room = short_behind _ _ c.in-Some.line c.in-Some.is c.parts.invariant.room c.cut_front-front.ensures.room;
 }
 
