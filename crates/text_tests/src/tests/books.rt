@@ -75,15 +75,30 @@ fn fault_of(alloc: Global, text: &[u8]) -> Option<BookFault> {
 fn faults_have_the_lines_of_the_book(rt: HostRuntime) -> Result<(), Fail> {
     let alloc = rt.alloc();
     let unknown = b"book b\n\npart plan\nepoch 5\nregion RAM 0 4\nstart\nactivate night\nend\n";
-    assert_eq!(rt; fault_of(alloc, unknown), Some(BookFault::Line(7, BookReason::Unknown)));
+    assert_eq!(rt;
+        fault_of(alloc, unknown),
+        Some(BookFault::Line(7, BookReason::Unknown))
+    );
     let load = b"book b\npart load a\nload address=0\nbytes 00\nend\npart plan\nactivate a\n";
-    assert_eq!(rt; fault_of(alloc, load), Some(BookFault::Line(7, BookReason::Activates)));
+    assert_eq!(rt;
+        fault_of(alloc, load),
+        Some(BookFault::Line(7, BookReason::Activates))
+    );
     let twice = b"book b\npart load a\npart load a\npart plan\n";
-    assert_eq!(rt; fault_of(alloc, twice), Some(BookFault::Line(3, BookReason::Twice)));
+    assert_eq!(rt;
+        fault_of(alloc, twice),
+        Some(BookFault::Line(3, BookReason::Twice))
+    );
     let asks = b"book b\npart load a\nload address=0\nfile=b\nend\npart plan\n";
-    assert_eq!(rt; fault_of(alloc, asks), Some(BookFault::Line(4, BookReason::Asks)));
+    assert_eq!(rt;
+        fault_of(alloc, asks),
+        Some(BookFault::Line(4, BookReason::Asks))
+    );
     let planless = b"\nbook b\npart load a\n";
-    assert_eq!(rt; fault_of(alloc, planless), Some(BookFault::Line(2, BookReason::Planless)));
+    assert_eq!(rt;
+        fault_of(alloc, planless),
+        Some(BookFault::Line(2, BookReason::Planless))
+    );
     Ok(())
 }
 
@@ -95,6 +110,9 @@ fn faults_of_parts_are_told_in_words(rt: HostRuntime) -> Result<(), Fail> {
         return Ok(());
     };
     let told = format!(in alloc; "{}", fault)?;
-    assert_eq!(rt; told.as_str(), "part of line 2: line 4: no table has this name");
+    assert_eq!(rt;
+        told.as_str(),
+        "part of line 2: line 4: no table has this name"
+    );
     Ok(())
 }
