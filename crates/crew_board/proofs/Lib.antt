@@ -3,6 +3,7 @@ pub mod Machine
 pub mod Ruled
 pub mod Steps
 pub mod Ends
+pub mod Drawing
 pub mod Reaching
 pub mod Exchanges
 pub mod Rows

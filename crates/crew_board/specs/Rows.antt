@@ -5,7 +5,8 @@ use Rattle.atomic_table.specs.declared.shared.Seat.{Seat}
 use Rattle.crew_board.specs.declared.board.View.{View}
 use Rattle.crew_board.specs.declared.row.Row.{Row}
 use Rattle.crew_board.specs.Board.{holding}
-use Rattle.crew_board.specs.Claim.{times_in}
+use Rattle.crew_board.specs.Claim.{times, times_in}
+use Rattle.crew_board.specs.Seats.{EndsPast, jobs_at}
 use Rattle.crew_board.specs.Work.{AreDone, AreDraws}
 
 -- A row has a scratch for each job, and room to note each.
@@ -35,13 +36,21 @@ pub record HasSeat {S : Type 0} (id : TableId) (v : View) (row : Row S) : Type 0
   pub table : seat.table_id ≡ id
   pub me : seat.me ≡ (v, [])
 
--- A row whose seat drew what the row did, and then a number that is no job's.
-pub record HasEnded {S : Type 0} (id : TableId) (jobs : ℕ) (row : Row S) : Type 0 where
-  pub number : ℕ
-  pub past : jobs ≤ number
-  pub seat : HasSeat id (holding (row.drawn.items ++ number ∷ [])) row
+-- A row that did the jobs at the places that its seat drew before this number.
+pub record HasDrawn {S : Type 0} (chosen : List ℕ) (number : ℕ) (seat : Seat ℕ View) (row : Row S) : Type 0 where
+  pub places : List ℕ
+  pub inside : All (λ place. place < length chosen) places
+  pub below : All (λ place. place < number) places
+  pub named : row.drawn.items ≡ jobs_at chosen places
+  pub me : seat.me ≡ (holding (places ++ number ∷ []), [])
 
--- Rows that shared the jobs: each did what it drew, and each job was drawn exactly once.
-pub record AreShared {T S : Type 0} (leaves : T → S → Type 0) (tasks : List T) (rows : List (Row S)) : Type 0 where
+-- A row whose seat drew the places of what the row did, and then a number that is no place.
+pub record HasEnded {S : Type 0} (id : TableId) (chosen : List ℕ) (row : Row S) : Type 0 where
+  pub list : List ℕ
+  pub ends : EndsPast chosen row.drawn.items list
+  pub seat : HasSeat id (holding list) row
+
+-- Rows that shared the chosen jobs: each did what it drew, and each of these jobs was drawn as often as it was chosen, and no other one.
+pub record AreShared {T S : Type 0} (leaves : T → S → Type 0) (tasks : List T) (chosen : List ℕ) (rows : List (Row S)) : Type 0 where
   pub worked : All (IsWorked leaves tasks) rows
-  pub once : (job : ℕ) → job < length tasks → times_in job (draws_of rows) ≡ 1
+  pub once : (job : ℕ) → times_in job (draws_of rows) ≡ times job chosen

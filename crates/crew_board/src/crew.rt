@@ -1,10 +1,10 @@
 //! A crew of workers.
 
-ghost use Rattle.std.specs.Prelude.{◌≡◌, ℕ, ◌<◌, ◌≤◌, List, [], length, replicate, slice_index_or, IfOk, vec_len, All};
+ghost use Rattle.std.specs.Prelude.{◌≡◌, ℕ, ◌<◌, ◌≤◌, true, List, [], length, replicate, slice_index_or, IfOk, vec_len, All};
 ghost use Rattle.std.specs.Borrow.{sem};
 ghost use Rattle.crew_board.specs.Rows.{FitsJobs, draws_of};
-ghost use Rattle.crew_board.specs.Work.{IsRight};
-ghost use Rattle.crew_board.specs.Ways.{AreLeft};
+ghost use Rattle.crew_board.specs.Work.{AreDone, AreDraws, AreInOrder, IsRight, StayBut};
+ghost use Rattle.crew_board.specs.Ways.{AreLeft, AreLeftOf};
 
 use crate::row::{Row, open_row};
 use crate::run::run_jobs;
@@ -24,6 +24,8 @@ pub struct Crew<S> {
     jobs: u32,
     ran: bool,
     rows: Vec<Row<S>>,
+    // the numbers of all jobs, in order
+    all: Vec<u32>,
     alloc: Global,
 }
 
@@ -34,10 +36,11 @@ impl<S> Model for Crew<S> {
     ghost Value = { Seen S };
 
     ghost use Rattle.crew_board.specs.Rows.{FitsJobs, first_scratches, draws_of};
+    ghost use Rattle.crew_board.specs.Work.{AreInOrder};
 
     ghost view = { λ c. record { jobs = c.jobs; results = if c.ran then first_scratches c.rows.items else []; drawn = draws_of c.rows.items } };
 
-    ghost invariant = { λ c. (0 < vec_len c.rows) × (vec_len c.rows ≤ 16) × (0 < c.jobs) × (c.jobs ≤ 64) × All (FitsJobs c.jobs) c.rows.items };
+    ghost invariant = { λ c. (0 < vec_len c.rows) × (vec_len c.rows ≤ 16) × (0 < c.jobs) × (c.jobs ≤ 64) × All (FitsJobs c.jobs) c.rows.items × AreInOrder c.jobs c.all.items };
 }
 
 /// So many rows.
@@ -53,6 +56,17 @@ fn open_rows<S: Scratch>(alloc: Global, workers: u32, jobs: u32) -> Result<Vec<R
     Ok(rows)
 }
 
+/// The numbers of so many jobs, in order.
+fn number_all(alloc: Global, jobs: u32) -> Result<Vec<u32>, NoMemory>
+    ensures { IfOk result (λ all. AreInOrder jobs all.items) }
+{
+    let mut all = Vec::with_capacity(alloc, jobs as usize)?;
+    for job in 0..jobs {
+        all.push(job)?;
+    }
+    Ok(all)
+}
+
 impl<S: Scratch> Crew<S> {
     ghost use Rattle.crew_board.specs.Lending.{lends_result};
 
@@ -66,10 +80,12 @@ impl<S: Scratch> Crew<S> {
         ensures workers { IfOk result (λ crew. length crew.drawn ≡ workers) }
     {
         let rows = open_rows(alloc, workers, jobs)?;
+        let all = number_all(alloc, jobs)?;
         Ok(Crew {
             jobs,
             ran: false,
             rows,
+            all,
             alloc,
         })
     }
@@ -113,11 +129,53 @@ impl<S: Scratch> Crew<S> {
             self.alloc,
             workers as usize,
             tasks,
+            self.all.as_slice(),
             gate,
             self.rows.as_mut_slice(),
         );
         self.ran = true;
         way
+    }
+
+    /// Does some of the tasks, each once, on at most so many of the workers: those at the chosen places, which rise. Their results are kept in the
+    /// tasks' order, and the others' are what they were, where there were any.
+    #[inline(always)]
+    pub fn run_chosen<R: Threads + Sync, T: Task<Work = S>, G: Gate>(
+        &mut self,
+        rt: &R,
+        workers: u32,
+        tasks: &[T],
+        chosen: &[u32],
+        gate: &G,
+    ) -> Way
+        requires workers { 0 < workers }
+        requires tasks { length tasks.now ≡ self.old.jobs }
+        requires chosen { AreDraws self.old.jobs chosen.now }
+        ensures jobs { self.new.jobs ≡ self.old.jobs }
+        ensures results { (length self.new.results ≡ self.old.jobs) × AreDone T.leaves tasks.now self.new.results chosen.now }
+        ensures others { 0 < length self.old.results → StayBut chosen.now self.old.results self.new.results }
+        ensures draws { AreLeftOf result self.old.jobs chosen.now (length self.old.drawn) self.new.drawn }
+        ensures workers { length self.new.drawn ≡ length self.old.drawn }
+    {
+        let way = run_jobs(
+            rt,
+            self.alloc,
+            workers as usize,
+            tasks,
+            chosen,
+            gate,
+            self.rows.as_mut_slice(),
+        );
+        self.ran = true;
+        way
+    }
+
+    /// Whether it ran: then it has a result of each job.
+    #[inline(always)]
+    pub fn has_run(&self) -> bool
+        ensures { result ≡ true → length self.now.results ≡ self.now.jobs }
+    {
+        self.ran
     }
 
     /// The jobs that a worker drew in the last run, in the order in which it drew them; none before the first run. Workers are counted

@@ -1,7 +1,8 @@
 //! The results of all workers come together in the scratches of the first row.
 
-ghost use Rattle.std.specs.Prelude.{◌≡◌, ℕ, ◌<◌, ◌≤◌, length, vec_len, All};
-ghost use Rattle.crew_board.specs.Work.{AreDone, AreDraws, IsRight, StayRight, StandsIn};
+ghost use Rattle.std.specs.Prelude.{◌≡◌, ℕ, ◌<◌, ◌≤◌, length, vec_len, slice_index_or, All};
+ghost use Rattle.crew_board.specs.Work.{AreDone, AreDraws, IsRight, StayBut, StayRight, StandsIn};
+ghost use Rattle.crew_board.specs.Claim.{times_in};
 ghost use Rattle.crew_board.specs.Rows.{FitsJobs, IsWorked, draws_of, first_scratches};
 
 use crate::row::Row;
@@ -16,6 +17,7 @@ fn exchange<S, T: Task<Work = S>>(tasks: &[T], results: &mut [S], from: &mut [S]
     ensures places { (length results.new ≡ length tasks.now) × (length from.new ≡ length tasks.now) }
     ensures done { AreDone T.leaves tasks.now results.new jobs.now }
     ensures kept { StayRight T.leaves tasks.now results.old results.new }
+    ensures others { StayBut jobs.now results.old results.new }
 {
     let _ = tasks;
     for job in jobs {
@@ -32,6 +34,7 @@ fn take_over<S, T: Task<Work = S>>(tasks: &[T], first: &mut Row<S>, row: &mut Ro
     ensures drawn { (first.new.drawn.items ≡ first.old.drawn.items) × (row.new.drawn.items ≡ row.old.drawn.items) }
     ensures done { AreDone T.leaves tasks.now first.new.scratches.items row.old.drawn.items }
     ensures kept { StayRight T.leaves tasks.now first.old.scratches.items first.new.scratches.items }
+    ensures others { StayBut row.old.drawn.items first.old.scratches.items first.new.scratches.items }
 {
     exchange(
         tasks,
@@ -50,6 +53,7 @@ fn take_over_all<S, T: Task<Work = S>>(tasks: &[T], first: &mut Row<S>, rows: &m
     ensures drawn { (first.new.drawn.items ≡ first.old.drawn.items) × (draws_of rows.new ≡ draws_of rows.old) }
     ensures done { All (AreDone T.leaves tasks.now first.new.scratches.items) (draws_of rows.old) }
     ensures kept { StayRight T.leaves tasks.now first.old.scratches.items first.new.scratches.items }
+    ensures others { (job : ℕ) (s : S) → times_in job (draws_of rows.old) ≡ 0 → slice_index_or first.new.scratches.items job s ≡ slice_index_or first.old.scratches.items job s }
 {
     for row in rows.iter_mut() {
         take_over(tasks, first, row);
@@ -64,6 +68,7 @@ pub(crate) fn collect_results<S, T: Task<Work = S>>(tasks: &[T], rows: &mut [Row
     ensures len { length rows.new ≡ length rows.old }
     ensures draws { draws_of rows.new ≡ draws_of rows.old }
     ensures done { (job : ℕ) → StandsIn job (draws_of rows.old) → IsRight T.leaves tasks.now (first_scratches rows.new) job }
+    ensures others { (job : ℕ) (s : S) → times_in job (draws_of rows.old) ≡ 0 → slice_index_or (first_scratches rows.new) job s ≡ slice_index_or (first_scratches rows.old) job s }
 {
     let Some((first, others)) = rows.split_first_mut() else {
         unreachable!()

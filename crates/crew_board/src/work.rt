@@ -1,7 +1,7 @@
-//! A worker does jobs, and a caller does all of them.
+//! A worker does jobs, and a caller does all that were chosen.
 
-ghost use Rattle.std.specs.Prelude.{◌≡◌, ℕ, ◌<◌, ◌≤◌, ◌^◌, [], ◌∷◌, ◌++◌, length, replicate, slice_index, All};
-ghost use Rattle.crew_board.specs.Work.{IsRight};
+ghost use Rattle.std.specs.Prelude.{◌≡◌, ℕ, ◌<◌, ◌≢◌, [], ◌∷◌, ◌++◌, length, replicate, slice_index_or, All};
+ghost use Rattle.crew_board.specs.Work.{AreDone, AreDraws, StayBut};
 ghost use Rattle.crew_board.specs.Rows.{FitsJobs, IsWorked, draws_of, first_scratches};
 
 use crate::row::Row;
@@ -22,6 +22,7 @@ pub(crate) fn perform<S: Scratch, T: Task<Work = S>, G: Gate>(
     ensures worked { IsWorked T.leaves tasks.now row.new }
     ensures drawn { row.new.drawn.items ≡ row.old.drawn.items ++ job ∷ [] }
     ensures seat { row.new.seat ≡ row.old.seat }
+    ensures others { (k : ℕ) (s : S) → k ≢ job → slice_index_or row.new.scratches.items k s ≡ slice_index_or row.old.scratches.items k s }
 {
     gate.enter(job);
     let at = job as usize;
@@ -29,22 +30,23 @@ pub(crate) fn perform<S: Scratch, T: Task<Work = S>, G: Gate>(
     row.drawn.push_reserved(job);
 }
 
-/// Does every job on one row, in order.
+/// Does the chosen jobs on one row, in order.
 #[inline(always)]
 pub(crate) fn perform_all<S: Scratch, T: Task<Work = S>, G: Gate>(
     tasks: &[T],
+    chosen: &[u32],
     gate: &G,
     row: &mut Row<S>,
 )
-    requires few { length tasks.now ≤ 64 }
+    requires chosen { AreDraws (length tasks.now) chosen.now }
     requires fits { FitsJobs (length tasks.now) row.old }
     ensures worked { IsWorked T.leaves tasks.now row.new }
-    ensures in_order { (length row.new.drawn.items ≡ length tasks.now) × ((k : ℕ) → k < length tasks.now → slice_index row.new.drawn.items k ≡ k) }
-    ensures done { (job : ℕ) → job < length tasks.now → IsRight T.leaves tasks.now row.new.scratches.items job }
+    ensures drawn { row.new.drawn.items ≡ chosen.now }
+    ensures others { StayBut chosen.now row.old.scratches.items row.new.scratches.items }
 {
     row.drawn.clear();
-    for job in 0..tasks.len() as u32 {
-        perform(tasks, gate, row, job);
+    for job in chosen {
+        perform(tasks, gate, row, *job);
     }
 }
 
@@ -62,20 +64,22 @@ pub(crate) fn forget_draws<S, T: Task<Work = S>>(tasks: &[T], rows: &mut [Row<S>
     }
 }
 
-/// Does every job on the first row, and leaves no draws.
+/// Does the chosen jobs on the first row, and leaves no draws.
 pub(crate) fn work_alone<S: Scratch, T: Task<Work = S>, G: Gate>(
     tasks: &[T],
+    chosen: &[u32],
     gate: &G,
     rows: &mut [Row<S>],
 )
     requires some_rows { 0 < length rows.old }
-    requires few { length tasks.now ≤ 64 }
+    requires chosen { AreDraws (length tasks.now) chosen.now }
     requires fits { All (FitsJobs (length tasks.now)) rows.old }
     ensures len { length rows.new ≡ length rows.old }
     ensures worked { All (IsWorked T.leaves tasks.now) rows.new }
     ensures draws { draws_of rows.new ≡ replicate (length rows.old) [] }
-    ensures done { (job : ℕ) → job < length tasks.now → IsRight T.leaves tasks.now (first_scratches rows.new) job }
+    ensures done { AreDone T.leaves tasks.now (first_scratches rows.new) chosen.now }
+    ensures others { StayBut chosen.now (first_scratches rows.old) (first_scratches rows.new) }
 {
-    perform_all(tasks, gate, &mut rows[0]);
+    perform_all(tasks, chosen, gate, &mut rows[0]);
     forget_draws(tasks, rows);
 }

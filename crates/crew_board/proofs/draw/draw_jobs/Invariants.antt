@@ -1,15 +1,15 @@
-use Rattle.std.proofs.Common.{◌≡◌, ◌-◌, ◌<◌, [], ◌∷◌, ◌++◌, length, All}
-use Rattle.crew_board.specs.Board.{holding}
-use Rattle.crew_board.specs.Rows.{IsWorked}
+use Rattle.std.proofs.Common.{◌≡◌, ◌-◌, length}
+use Rattle.crew_board.specs.Rows.{HasDrawn, IsWorked}
+use Rattle.crew_board.specs.Work.{StayBut}
 use Rattle.crew_board.proofs.draw.draw_jobs.Given as goal
 
-abbrev pub invariant-loop-job : goal.invariant-loop-job
-invariant-loop-job g l = record {
+abbrev pub invariant-loop-place : goal.invariant-loop-place
+invariant-loop-place g l = record {
   worked : IsWorked g.T.Task.leaves l.tasks l.row;
-  below : All (λ k. k < l.job) l.row.drawn.items;
   table : l.seat.table_id ≡ l.word.table_id;
-  me : l.seat.me ≡ (holding (l.row.drawn.items ++ l.job ∷ []), []);
+  drew : HasDrawn l.chosen l.place l.seat l.row;
+  others : StayBut l.chosen l.initial.row.scratches.items l.row.scratches.items;
 }
 
-abbrev pub decreases-loop-job : goal.decreases-loop-job
-decreases-loop-job g l = length l.tasks - l.job
+abbrev pub decreases-loop-place : goal.decreases-loop-place
+decreases-loop-place g l = length l.chosen - l.place

@@ -1,5 +1,6 @@
 use Rattle.std.proofs.Common.{ℕ, ◌<◌, length, get_or, refl, ◌∙◌, arith, length-set}
-use Rattle.std.proofs.lemmas.List.{get_or_default}
+use Rattle.std.proofs.lemmas.List.{get_or-set_other, get_or_default}
+use Rattle.crew_board.proofs.Drawing.{left_out_differs}
 use Rattle.crew_board.proofs.Exchanges.{exchanged_more}
 use Rattle.crew_board.proofs.results.exchange.Goals as goal
 
@@ -21,4 +22,5 @@ loop-job-preserved g c =
       results = length-set results at new.x ∙ inv.results;
       from = length-set from at new.y ∙ inv.from;
       exchanged = exchanged_more g.T.Task.leaves c.args.tasks.now c.args.results.now results from jobs i at new.x new.y c.requires.draws.0 test refl in_results is inv.exchanged;
+      others = λ job s none. get_or-set_other results at job new.x s (left_out_differs jobs job i none test) ∙ inv.others job s none;
     }

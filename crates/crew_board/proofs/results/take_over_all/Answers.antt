@@ -2,6 +2,8 @@ use Rattle.std.proofs.Common.{◌≡◌, ℕ, ◌<◌, ◌≤◌, ◌≢◌, ⊎
 use Rattle.std.proofs.lemmas.Bool.{cases_lt}
 use Rattle.std.proofs.lemmas.List.{get_or-set_other, get_or_default, length-map}
 use Rattle.std.proofs.lemmas.List.Elements.{All-set}
+use Rattle.std.proofs.lemmas.List.Sums.{get_or-le-sum_by}
+use Rattle.crew_board.specs.Claim.{times}
 use Rattle.crew_board.specs.declared.row.Row.{Row}
 use Rattle.crew_board.specs.Work.{AreDone}
 use Rattle.crew_board.specs.Rows.{FitsJobs, IsWorked, draws_of}
@@ -37,6 +39,11 @@ loop-row-preserved g c =
           let e : i ≡ k = omega arith in
           subst (λ (n : ℕ). AreRight (get_or (draws_of c.args.rows.now) n [])) e (subst AreRight (sym drawn) call.done))
           (cases_lt k i);
+      others = λ job s none.
+          (let in_draws : i < length (draws_of c.args.rows.now) = (let len = length-map c.args.rows.now (λ (row : Row g.row.S.Denot). row.drawn.items) in let same = inv.len in omega arith) in
+          let most = get_or-le-sum_by (times job) (draws_of c.args.rows.now) i [] in_draws in
+          let here : times job (get_or (draws_of c.args.rows.now) i []) ≡ times job (get_or rows i d).drawn.items = ap (times job) drawn in
+          call.others job s (omega arith) ∙ inv.others job s none);
       kept = λ job was. call.kept job (inv.kept job was);
     }
 

@@ -2,5 +2,5 @@ use Rattle.std.proofs.Common.{refl}
 use Rattle.crew_board.proofs.Rows.{shared_left}
 use Rattle.crew_board.proofs.run.run_jobs.Goals as goal
 
-pub returns-then-used-eq1-clause-draws : goal.returns-then-used-eq1-clause-draws
-returns-then-used-eq1-clause-draws g c = shared_left g.T.Task.leaves c.args.tasks.now c.take_all.new.rows c.take_all.new.rows _ c.take_all.ensures.shared refl c.take_all.ensures.len
+pub returns-then-used-le1-clause-draws : goal.returns-then-used-le1-clause-draws
+returns-then-used-le1-clause-draws g c = shared_left g.T.Task.leaves c.args.tasks.now c.args.chosen.now c.take_all.new.rows c.take_all.new.rows _ c.take_all.ensures.shared refl c.take_all.ensures.len

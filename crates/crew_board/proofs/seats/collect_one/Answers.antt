@@ -1,4 +1,4 @@
-use Rattle.std.proofs.Common.{◌≡◌, ℕ, [], ◌∷◌, ◌++◌, sym, ap, ◌∙◌, arith}
+use Rattle.std.proofs.Common.{◌≡◌, ℕ, sym, ap, ◌∙◌, arith}
 use Rattle.std.proofs.lemmas.Option.{same_Some}
 use Rattle.atomic_table.specs.Table.{Me}
 use Rattle.atomic_table.specs.declared.shared.Seat.{Seat}
@@ -20,5 +20,5 @@ join_seat-requires g c =
       ap (λ (s : Seat ℕ View). s.table_id) same ∙ held.table,
       ap (λ (m : Me ℕ View). m.1) me_is,
       omega arith,
-      joins_one word.key first.id c.in-Some.seat.id first.me.0 (c.args.row.now.drawn.items ++ ended.number ∷ []) c.in-Some.seat.me me_is c.requires.first,
+      joins_one word.key first.id c.in-Some.seat.id first.me.0 ended.list c.in-Some.seat.me me_is c.requires.first,
     )
