@@ -1,3 +1,4 @@
 pub mod Health
 pub mod Taking
 pub mod Activating
+pub mod Choosing

@@ -1,5 +1,5 @@
 -- What waking an application leaves, as a job of a crew.
-use Rattle.std.specs.Prelude.{◌≡◌, ℕ, Bool, true, if◌then◌else◌, List, slice_index_or}
+use Rattle.std.specs.Prelude.{◌≡◌, ℕ, ◌<◌, Bool, true, if◌then◌else◌, List, length, slice_index_or}
 use Rattle.bus_pipes.specs.declared.names.Out.{Out}
 use Rattle.table_files.specs.Files.{loads_of}
 use Rattle.memory_window.specs.Memory.{Memory, regions_of}
@@ -14,6 +14,8 @@ use Rattle.mm_core.specs.declared.step.TheConstants.{MOST_ITEMS as mm_most}
 use Rattle.hs_monitors.specs.declared.step.TheConstants.{MOST_ITEMS as hs_most}
 use Rattle.app_suite.specs.declared.left.Left.{Left}
 use Rattle.lc_watch.specs.declared.step.TheConstants.{MOST_ITEMS as lc_most}
+use Rattle.crew_board.specs.Work.{IsRight}
+use Rattle.app_suite.specs.declared.wakeups.Wakeup.{Wakeup}
 use Rattle.app_suite.specs.declared.wakeups.Job.{Job}
 use Rattle.app_suite.specs.declared.wakeups.Job.TheVariants as names
 use Rattle.app_suite.specs.Turns.{Seen}
@@ -46,6 +48,14 @@ Leaves names.Md s left =
     Gives {Setup = Active} (λ t. Unit {0}) md_stands md_gives md_most s.md.held (md_reads s.time s.md.commands s.memory) s.md.state.value left.stays left.md.value left.out.items
     × AllGiven (regions_of s.memory.areas) (next_of left.stays left.md.value s.md.state.value)
 Leaves names.Lc s left = Gives (λ t. lc_setup s.tables ≡ t) lc_stands lc_gives lc_most s.lc.held (lc_reads s.time s.lc.commands s.telemetry) s.lc.state.value left.stays left.lc.value left.out.items
+
+-- the result of a job is one that the wakeup leaves, which reads what the scene shows
+abbrev pub IsLeftRight : List Wakeup → List Left → ℕ → Type 0
+IsLeftRight jobs results job = IsRight (λ (w : Wakeup) (left : Left). Leaves w.1 w.0.now left) jobs results job
+
+-- of each of these jobs
+abbrev pub AreLeftRight : List Wakeup → List Left → Type 0
+AreLeftRight jobs results = (job : ℕ) → job < length jobs → IsLeftRight jobs results job
 
 -- how many jobs a frame has: one more where LC is there
 abbrev pub jobs_of : Bool → ℕ

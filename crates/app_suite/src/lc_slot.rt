@@ -32,7 +32,7 @@ impl Application<()> for Lc {
 
     ghost belongs = { λ setup reads. lc_setup reads.tables.now.set ≡ setup };
 
-    ghost input = { λ reads commands. lc_reads reads.time commands reads.lc.now.telemetry.items };
+    ghost input = { λ reads commands. lc_reads reads.time commands reads.telemetry.now.items };
 
     ghost can_step = { λ reads lc. Unit {0} };
 
@@ -42,7 +42,7 @@ impl Application<()> for Lc {
 
     #[inline(always)]
     fn is_idle(&self, reads: &Reads<'_, '_, '_>, commands: &[Packet]) -> bool {
-        self.is_idle(commands, reads.lc.telemetry.items())
+        self.is_idle(commands, reads.telemetry.items())
     }
 
     fn advance(
@@ -57,7 +57,7 @@ impl Application<()> for Lc {
             reads.tables.wdt(),
             reads.tables.adt(),
             commands,
-            reads.lc.telemetry.items(),
+            reads.telemetry.items(),
             reads.time,
             out,
         );

@@ -3,6 +3,7 @@
 
 mod activations;
 mod application;
+mod busy;
 mod cs_slot;
 mod holds;
 mod hs_slot;

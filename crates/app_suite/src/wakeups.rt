@@ -2,6 +2,7 @@
 
 use crate::cs_slot::CsSlot;
 use crate::hs_slot::HsSlot;
+use crate::lc_slot::LcSlot;
 use crate::left::Left;
 use crate::md_slot::MdSlot;
 use crate::mm_slot::MmSlot;
@@ -18,6 +19,7 @@ pub struct Scene<'a, 'r, 'n, 'f> {
     pub sc: &'a ScSlot,
     pub mm: &'a MmSlot,
     pub md: &'a MdSlot,
+    pub lc: &'a LcSlot,
     pub reads: Reads<'r, 'n, 'f>,
 }
 
@@ -27,9 +29,9 @@ impl<'a, 'r, 'n, 'f> Model for Scene<'a, 'r, 'n, 'f> {
 
     ghost Value = { Seen };
 
-    ghost view = { λ s. record { hs = s.hs.now; events = s.reads.events.now; cs = s.cs.now; sc = s.sc.now; mm = s.mm.now; md = s.md.now; lc = s.reads.lc.now.slot; telemetry = s.reads.lc.now.telemetry.items; tables = s.reads.tables.now.set; files = s.reads.tables.now.files; memory = seen s.reads.window; counters = s.reads.counters.now; time = s.reads.time } };
+    ghost view = { λ s. record { hs = s.hs.now; events = s.reads.events.now; cs = s.cs.now; sc = s.sc.now; mm = s.mm.now; md = s.md.now; lc = s.lc.now.slot; telemetry = s.reads.telemetry.now.items; tables = s.reads.tables.now.set; files = s.reads.tables.now.files; memory = seen s.reads.window; counters = s.reads.counters.now; time = s.reads.time } };
 
-    ghost invariant = { λ s. CanWake (record { hs = s.hs.now; events = s.reads.events.now; cs = s.cs.now; sc = s.sc.now; mm = s.mm.now; md = s.md.now; lc = s.reads.lc.now.slot; telemetry = s.reads.lc.now.telemetry.items; tables = s.reads.tables.now.set; files = s.reads.tables.now.files; memory = seen s.reads.window; counters = s.reads.counters.now; time = s.reads.time }) };
+    ghost invariant = { λ s. CanWake (record { hs = s.hs.now; events = s.reads.events.now; cs = s.cs.now; sc = s.sc.now; mm = s.mm.now; md = s.md.now; lc = s.lc.now.slot; telemetry = s.reads.telemetry.now.items; tables = s.reads.tables.now.set; files = s.reads.tables.now.files; memory = seen s.reads.window; counters = s.reads.counters.now; time = s.reads.time }) };
 }
 
 /// The application that a job wakes.
@@ -64,6 +66,22 @@ impl Task for Wakeup<'_, '_, '_, '_, '_> {
             Job::Mm => self.0.wake_mm(scratch),
             Job::Md => self.0.wake_md(scratch),
             Job::Lc => self.0.wake_lc(scratch),
+        }
+    }
+}
+
+impl Wakeup<'_, '_, '_, '_, '_> {
+    /// Whether the application rests: its wakeup leaves that it stays as it is, and no item.
+    #[inline(always)]
+    pub(crate) fn rests(&self) -> bool {
+        let scene = self.0;
+        match self.1 {
+            Job::Hs => scene.hs.rests(&scene.reads),
+            Job::Cs => scene.cs.rests(&scene.reads),
+            Job::Sc => scene.sc.rests(&scene.reads),
+            Job::Mm => scene.mm.rests(&scene.reads),
+            Job::Md => scene.md.rests(&scene.reads),
+            Job::Lc => scene.lc.slot.rests(&scene.reads),
         }
     }
 }
@@ -155,7 +173,7 @@ impl<'a, 'r, 'n, 'f> Scene<'a, 'r, 'n, 'f> {
         requires { scratch.old.out.items ≡ [] }
         ensures { Leaves names.Lc self.now scratch.new }
     {
-        self.reads.lc.slot.wake(
+        self.lc.slot.wake(
             &self.reads,
             &mut scratch.stays,
             &mut scratch.lc,

@@ -1,5 +1,8 @@
 -- The applications behind a frame's wakeups: what the jobs left, and what of it the bench took over.
-use Rattle.std.proofs.Common.{◌≡◌, ◌≤◌, List, length, ◌∙◌, ap, subst, sym}
+use Rattle.std.proofs.Common.{◌≡◌, ◌≤◌, Bool, true, false, ◌&&◌, List, [], ◌∷◌, length, ◌∙◌, ap, refl, subst, sym}
+use Rattle.std.proofs.lemmas.Bool.{and_parts}
+use Rattle.bus_pipes.specs.declared.names.Out.{Out}
+use Rattle.bus_pipes.specs.declared.names.TheConstants.{TELEMETRY_PIPE_DEPTH}
 use Rattle.packet_forms.specs.declared.name.Counter.{Counter}
 use Rattle.table_files.specs.Files.{loads_of}
 use Rattle.memory_window.specs.Memory.{Memory, regions_of}
@@ -21,9 +24,31 @@ use Rattle.app_suite.specs.Jobs.{jobs_of}
 use Rattle.app_suite.specs.Landable.{CanLand}
 use Rattle.frame_exec.specs.Standing.{IsReady}
 use Rattle.active_tables.specs.Tables.{Loaded, AreGiven}
-use Rattle.app_suite.specs.Wakes.{AreSendable, IsWoken}
+use Rattle.app_suite.specs.Wakes.{AreSendable, IsWoken, joined}
 use Rattle.frame_exec.specs.Stages.{AreWoken, CanSend, Steps, TakesOver, loads_in, time_of}
 use Rattle.app_suite.proofs.Taking.{state_is, taken_woken, taken_sendable}
+
+-- where all six rest, each does
+pub six_parts : (a b c d e f : Bool) → (((((a && b) && c) && d) && e) && f) ≡ true → (a ≡ true) × (b ≡ true) × (c ≡ true) × (d ≡ true) × (e ≡ true) × (f ≡ true)
+six_parts a b c d e f all =
+    let five = and_parts ((((a && b) && c) && d) && e) f all in
+    let four = and_parts (((a && b) && c) && d) e five.0 in
+    let three = and_parts ((a && b) && c) d four.0 in
+    let two = and_parts (a && b) c three.0 in
+    let both = and_parts a b two.0 in
+    (both.0, both.1, two.1, three.1, four.1, five.1)
+
+-- where none of the six gave an item, nothing was given
+pub six_gave_none : (a b c d e f : Bool) (hs cs sc mm md lc : List Out) → (a ≡ true → hs ≡ []) → (b ≡ true → cs ≡ []) → (c ≡ true → sc ≡ []) → (d ≡ true → mm ≡ []) → (e ≡ true → md ≡ []) → (f ≡ true → lc ≡ [])
+    → (((((a && b) && c) && d) && e) && f) ≡ true → joined (hs ∷ cs ∷ sc ∷ mm ∷ md ∷ lc ∷ []) ≡ []
+six_gave_none a b c d e f hs cs sc mm md lc p q r s t u all =
+    let each = six_parts a b c d e f all in
+    rw (p each.0, q each.1, r each.2, s each.3, t each.4, u each.5) refl
+
+-- the items of an application that rests
+pub rested : {Input State : Type 0} (stands : List Input → State → Type 0) (gives : List Input → Input → List Out) (held : Bool) (input : Input) (old : State) (items : List Out) → items ≡ []
+    → IsWoken stands gives held input old old [] → IsWoken stands gives held input old old items
+rested stands gives held input old items none woken = record { state = woken.state; given = λ history stood. none ∙ woken.given history stood }
 
 -- what the jobs left but LC's was taken over, and then LC's: the rest stays as it was
 pub over_beside : (old new : Bench) (lc : LcSlot) (crew : Crew Left) (room : new.drops.room ≡ DROPS) (manned : crew.jobs ≡ jobs_of new.bus.watched) (there : lc.there ≡ new.bus.watched) (told : new.activations.room ≡ LIST_ROOM)
@@ -42,9 +67,10 @@ over_beside old new lc crew room manned there told taken = record {
 }
 
 -- the applications were woken in a bench that is the same but for the proofs of its facts
-pub steps_beside : (counters : List Counter) (old new : Bench) (room : old.drops.room ≡ DROPS) (manned : old.crew.jobs ≡ jobs_of old.bus.watched) (there : old.lc.there ≡ old.bus.watched) (told : old.activations.room ≡ LIST_ROOM)
-    → Steps counters (record old { drops_room = room; manned = manned; there = there; activations_room = told }) new → Steps counters old new
-steps_beside counters old new room manned there told steps = record {
+pub steps_beside : (counters : List Counter) (old new : Bench) (room : old.drops.room ≡ DROPS) (manned : old.crew.jobs ≡ jobs_of old.bus.watched) (roomy : old.lc.telemetry.room ≡ TELEMETRY_PIPE_DEPTH)
+    (away : old.lc.there ≡ false → (old.lc.slot.held ≡ true) × (old.lc.slot.out.items ≡ [])) (there : old.lc.there ≡ old.bus.watched) (told : old.activations.room ≡ LIST_ROOM)
+    → Steps counters (record old { lc = record old.lc { roomy = roomy; away = away }; drops_room = room; manned = manned; there = there; activations_room = told }) new → Steps counters old new
+steps_beside counters old new room manned roomy away there told steps = record {
   run = record { waits = steps.run.waits; epoch = steps.run.epoch; number = steps.run.number; failed = steps.run.failed; tables = steps.run.tables };
   told = steps.told;
   hs = steps.hs;

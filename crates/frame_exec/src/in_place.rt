@@ -27,6 +27,8 @@ pub(crate) fn wake_in_place<S: Application<X>, X>(
     ensures held { slot.old.held ≡ true → S.is_clear beside.new }
     ensures fills { slot.old.held ≡ false → S.fills reads.now slot.old.commands beside.new }
     ensures none { result ≡ true → slot.new.out.items ≡ [] }
+    ensures same { slot.new.held ≡ slot.old.held }
+    ensures nothing { slot.old.held ≡ true → slot.new.out.items ≡ [] }
 {
     if rests {
         return true;

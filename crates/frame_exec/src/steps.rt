@@ -12,7 +12,7 @@ use std::thread::Threads;
 
 /// Whether several of so many workers are of use for these applications, by whether each rests.
 #[inline(always)]
-fn are_shared(workers: u32, rests: [bool; 5]) -> bool {
+fn are_shared(workers: u32, rests: [bool; 6]) -> bool {
     if workers <= 1 {
         return false;
     }
@@ -20,7 +20,8 @@ fn are_shared(workers: u32, rests: [bool; 5]) -> bool {
         + u32::from(!rests[1])
         + u32::from(!rests[2])
         + u32::from(!rests[3])
-        + u32::from(!rests[4]);
+        + u32::from(!rests[4])
+        + u32::from(!rests[5]);
     busy > 1
 }
 
@@ -55,8 +56,8 @@ impl<'f> Bench<'f> {
         self.step_in_place(rt, gate, counters)
     }
 
-    /// Wakes those that have something to do where they are, one after another. Where several have and there are workers for them, or
-    /// where LC has, the crew wakes all.
+    /// Wakes those that have something to do where they are, one after another. Where several have and there are workers for them, they
+    /// are jobs of the crew. Where all rest nothing is asked of them but that.
     #[inline(always)]
     fn step_in_place<R: Threads + Sync, G: Gate>(
         &mut self,
@@ -76,22 +77,24 @@ impl<'f> Bench<'f> {
         let reads = Reads {
             tables: &self.tables,
             events: &self.events,
-            lc: &self.lc,
+            telemetry: &self.lc.telemetry,
             window: self.ram.window(),
             counters,
             time: self.epoch + self.number as u32,
         };
-        if !reads.lc.slot.rests(&reads) {
-            return self.step_on_crew(rt, gate, counters);
-        }
         let hs_rests = self.hs.rests(&reads);
         let cs_rests = self.cs.rests(&reads);
         let sc_rests = self.sc.rests(&reads);
         let mm_rests = self.mm.rests(&reads);
         let md_rests = self.md.rests(&reads);
+        let lc_rests = self.lc.slot.rests(&reads);
+        let all_rest = hs_rests & cs_rests & sc_rests & mm_rests & md_rests & lc_rests;
+        if all_rest {
+            return true;
+        }
         if are_shared(
             self.workers,
-            [hs_rests, cs_rests, sc_rests, mm_rests, md_rests],
+            [hs_rests, cs_rests, sc_rests, mm_rests, md_rests, lc_rests],
         ) {
             return self.step_on_crew(rt, gate, counters);
         }
@@ -100,10 +103,12 @@ impl<'f> Bench<'f> {
         let sc = wake_in_place(&mut self.sc, sc_rests, &reads, &mut ());
         let mm = wake_in_place(&mut self.mm, mm_rests, &reads, &mut *self.ops);
         let md = wake_in_place(&mut self.md, md_rests, &reads, &mut ());
-        hs & cs & sc & mm & md
+        let lc = wake_in_place(&mut self.lc.slot, lc_rests, &reads, &mut ());
+        hs & cs & sc & mm & md & lc
     }
 
-    /// Wakes each application that is there as a job of the crew, on as many workers as are of use, and tells whether no item was given.
+    /// Wakes the applications that are there as jobs of the crew, in the first frame all of them and later those that have something to do,
+    /// and tells whether no item was given.
     #[inline(never)]
     fn step_on_crew<R: Threads + Sync, G: Gate>(
         &mut self,
@@ -120,46 +125,12 @@ impl<'f> Bench<'f> {
         ensures ready { IsReady self.new }
         ensures none { result ≡ true → joined (items_in self.new) ≡ [] }
     {
-        let workers = self.useful_workers(counters);
+        let workers = self.workers.max(1);
         if self.lc.there {
             return self.step_watched(rt, gate, counters, workers);
         }
         self.wake(rt, gate, counters, workers, false);
         self.take_over()
-    }
-
-    /// How many workers are of use in this frame: as many as there are applications with something to do, and all in the first frame.
-    #[inline(always)]
-    fn useful_workers(&self, counters: &[Counter]) -> u32
-        requires { self.now.epoch + self.now.number < 4294967296 }
-        ensures { 0 < result }
-    {
-        if self.workers <= 1 || self.number == 0 {
-            return self.workers.max(1);
-        }
-        self.busy(counters).clamp(1, self.workers)
-    }
-
-    /// How many applications have something to do in this frame.
-    #[inline(never)]
-    fn busy(&self, counters: &[Counter]) -> u32
-        requires { self.now.epoch + self.now.number < 4294967296 }
-        ensures { result ≤ 6 }
-    {
-        let reads = Reads {
-            tables: &self.tables,
-            events: &self.events,
-            lc: &self.lc,
-            window: self.ram.window(),
-            counters,
-            time: self.epoch + self.number as u32,
-        };
-        u32::from(!self.hs.rests(&reads))
-            + u32::from(!self.cs.rests(&reads))
-            + u32::from(!self.sc.rests(&reads))
-            + u32::from(!self.mm.rests(&reads))
-            + u32::from(!self.md.rests(&reads))
-            + u32::from(!self.lc.slot.rests(&reads))
     }
 
     /// Wakes the applications with LC as one of them, on at most so many workers, and tells whether no item was given.
@@ -205,10 +176,11 @@ impl<'f> Bench<'f> {
     {
         let time = self.epoch + self.number as u32;
         let window = self.ram.window();
+        let lc = &self.lc;
         let reads = Reads {
             tables: &self.tables,
             events: &self.events,
-            lc: &self.lc,
+            telemetry: &lc.telemetry,
             window,
             counters,
             time,
@@ -219,6 +191,7 @@ impl<'f> Bench<'f> {
             sc: &self.sc,
             mm: &self.mm,
             md: &self.md,
+            lc,
             reads,
         };
         wake_all(&mut self.crew, rt, workers, gate, &scene, watched);

@@ -1,17 +1,17 @@
-use Rattle.std.proofs.Common.{◌+◌, List, ◌∙◌, ap, refl, sym, subst}
-use Rattle.bus_pipes.specs.declared.names.Out.{Out}
+use Rattle.std.proofs.Common.{◌+◌, [], ◌∙◌, ap, refl, sym, subst}
+use Rattle.hs_monitors.specs.declared.step.TheConstants.{MOST_ITEMS as hs_most}
 use Rattle.memory_window.specs.Memory.{Memory, regions_of}
 use Rattle.memory_window.specs.Window.{seen}
 use Rattle.cs_slices.specs.Given.{SegmentsGiven}
 use Rattle.md_dwell.specs.State.{AllGiven}
 use Rattle.mm_core.specs.Step.{mm_operations}
-use Rattle.app_suite.specs.Applications.{lc_setup, cs_stands, mm_stands, md_stands, lc_stands, cs_gives, mm_gives, md_gives, lc_gives, cs_reads, mm_reads, md_reads, lc_reads}
+use Rattle.app_suite.specs.Applications.{lc_setup, cs_stands, mm_stands, md_stands, cs_gives, mm_gives, md_gives, cs_reads, mm_reads, md_reads}
 use Rattle.app_suite.specs.Landable.{CanLand}
 use Rattle.app_suite.specs.Wakes.{IsWoken}
-use Rattle.app_suite.proofs.Taking.{none_given, none_sendable, operates}
+use Rattle.app_suite.proofs.Taking.{none_sendable, operates}
 use Rattle.frame_exec.specs.Stages.{loads_in}
 use Rattle.frame_exec.proofs.Waking.{left_unless}
-use Rattle.frame_exec.proofs.Woken.{steps_beside}
+use Rattle.frame_exec.proofs.Woken.{rested, six_gave_none, six_parts, steps_beside}
 use Rattle.frame_exec.proofs.bench.Bench.step_in_place.Goals as goal
 
 pub wake_in_place-cs-requires-clause-can : goal.wake_in_place-cs-requires-clause-can
@@ -45,8 +45,7 @@ returns-clause-steps g c =
           (c.wake_in_place-mm.ensures.woken tables tt);
       md = λ tables. subst (λ (m : Memory). IsWoken (md_stands tables) (md_gives tables) b.md.held (md_reads time b.md.commands m) b.md.state.value md.state.value md.out.items) is
           (c.wake_in_place-md.ensures.woken tables tt);
-      lc = subst (λ (items : List Out). IsWoken (lc_stands (lc_setup b.tables.set)) (lc_gives (lc_setup b.tables.set)) b.lc.slot.held (lc_reads time b.lc.slot.commands b.lc.telemetry.items) b.lc.slot.state.value b.lc.slot.state.value items) (sym c.requires.clear.lc)
-          (c.rests.ensures.woken (lc_setup b.tables.set) c.if-not-rests.false refl);
+      lc = c.wake_in_place-lc.ensures.woken (lc_setup b.tables.set) refl;
       operations = left_unless b.mm.held c.wake_in_place-mm.new.beside (mm_operations (mm_reads (loads_in b) time b.mm.commands b.ram)) c.wake_in_place-mm.ensures.held
           (λ here. (c.wake_in_place-mm.ensures.fills here).0 ∙ ap (λ (m : Memory). mm_operations (mm_reads (loads_in b) time b.mm.commands m)) is);
       pipes = refl;
@@ -64,7 +63,7 @@ returns-clause-can_send g c =
       sc = c.wake_in_place-sc.ensures.sendable;
       mm = c.wake_in_place-mm.ensures.sendable;
       md = c.wake_in_place-md.ensures.sendable;
-      lc = none_sendable _ _ c.requires.clear.lc;
+      lc = c.wake_in_place-lc.ensures.sendable;
       operations = subst (λ (m : Memory). CanLand (loads_in b) m c.wake_in_place-mm.new.beside) c.window.ensures.window left.can_land;
     }
 
@@ -80,11 +79,59 @@ returns-clause-ready g c = record {
 
 pub returns-clause-none : goal.returns-clause-none
 returns-clause-none g c =
-    none_given _ _ _ _ _ _ _ _ _ _ _ c.wake_in_place-hs.ensures.none c.wake_in_place-cs.ensures.none c.wake_in_place-sc.ensures.none c.wake_in_place-mm.ensures.none c.wake_in_place-md.ensures.none c.requires.clear.lc
+    six_gave_none _ _ _ _ _ _ _ _ _ _ _ _ c.wake_in_place-hs.ensures.none c.wake_in_place-cs.ensures.none c.wake_in_place-sc.ensures.none c.wake_in_place-mm.ensures.none c.wake_in_place-md.ensures.none c.wake_in_place-lc.ensures.none
 
 -- the crew wakes all: its bench is the same but for the proofs of its ghost facts
-pub returns-then-not-rests-clause-steps : goal.returns-then-not-rests-clause-steps
-returns-then-not-rests-clause-steps g c = steps_beside _ _ _ _ _ _ _ c.step_on_crew.ensures.steps
-
 pub returns-then-are_shared-clause-steps : goal.returns-then-are_shared-clause-steps
-returns-then-are_shared-clause-steps g c = steps_beside _ _ _ _ _ _ _ c.step_on_crew-then-are_shared.ensures.steps
+returns-then-are_shared-clause-steps g c = steps_beside _ _ _ _ _ _ _ _ _ c.step_on_crew.ensures.steps
+
+-- all rest
+pub returns-then-all_rest-clause-steps : goal.returns-then-all_rest-clause-steps
+returns-then-all_rest-clause-steps g c =
+    let b = c.args.self.now in
+    let time = b.epoch + b.number in
+    let is = c.window.ensures.window in
+    let clear = c.requires.clear in
+    let all = six_parts c.rests-hs_rests.result c.rests-cs_rests.result c.rests-sc_rests.result c.rests-mm_rests.result c.rests-md_rests.result c.rests-lc_rests.result c.if-all_rest.true in
+    record {
+      run = record { waits = refl; epoch = refl; number = refl; failed = refl; tables = refl };
+      told = refl;
+      hs = λ tables same. rested _ _ _ _ _ _ clear.hs (c.rests-hs_rests.ensures.woken tables all.0 (sym same));
+      cs = λ tables same. rested _ _ _ _ _ _ clear.cs (subst (λ (m : Memory). IsWoken (cs_stands tables) (cs_gives tables) b.cs.held (cs_reads time b.cs.commands m) b.cs.state.value b.cs.state.value []) is
+          (c.rests-cs_rests.ensures.woken tables all.1 (sym same)));
+      sc = λ tables same. rested _ _ _ _ _ _ clear.sc (c.rests-sc_rests.ensures.woken tables all.2 (sym same));
+      mm = λ tables. rested _ _ _ _ _ _ clear.mm (subst (λ (m : Memory). IsWoken (mm_stands tables) (mm_gives tables) b.mm.held (mm_reads (loads_in b) time b.mm.commands m) b.mm.state.value b.mm.state.value []) is
+          (c.rests-mm_rests.ensures.woken tables all.3 tt));
+      md = λ tables. rested _ _ _ _ _ _ clear.md (subst (λ (m : Memory). IsWoken (md_stands tables) (md_gives tables) b.md.held (md_reads time b.md.commands m) b.md.state.value b.md.state.value []) is
+          (c.rests-md_rests.ensures.woken tables all.4 tt));
+      lc = rested _ _ _ _ _ _ clear.lc (c.rests-lc_rests.ensures.woken (lc_setup b.tables.set) all.5 refl);
+      operations = left_unless b.mm.held b.ops.value (mm_operations (mm_reads (loads_in b) time b.mm.commands b.ram)) (λ held. clear.operations)
+          (λ here. (c.rests-mm_rests.ensures.fills b.ops.value all.3 here clear.operations).0 ∙ ap (λ (m : Memory). mm_operations (mm_reads (loads_in b) time b.mm.commands m)) is);
+      pipes = refl;
+      log = refl;
+      memory = refl;
+    }
+
+pub returns-then-all_rest-clause-can_send : goal.returns-then-all_rest-clause-can_send
+returns-then-all_rest-clause-can_send g c =
+    let b = c.args.self.now in
+    let clear = c.requires.clear in
+    let all = six_parts c.rests-hs_rests.result c.rests-cs_rests.result c.rests-sc_rests.result c.rests-mm_rests.result c.rests-md_rests.result c.rests-lc_rests.result c.if-all_rest.true in
+    let left = operates (loads_in b) b.mm.held (b.epoch + b.number) b.mm.commands (seen c.window.result) b.ops.value (λ held. clear.operations) (λ here. c.rests-mm_rests.ensures.fills b.ops.value all.3 here clear.operations) in
+    record {
+      hs = (none_sendable hs_most _ clear.hs).counted;
+      cs = none_sendable _ _ clear.cs;
+      sc = none_sendable _ _ clear.sc;
+      mm = none_sendable _ _ clear.mm;
+      md = none_sendable _ _ clear.md;
+      lc = none_sendable _ _ clear.lc;
+      operations = subst (λ (m : Memory). CanLand (loads_in b) m b.ops.value) c.window.ensures.window left.can_land;
+    }
+
+pub returns-then-all_rest-clause-few : goal.returns-then-all_rest-clause-few
+returns-then-all_rest-clause-few g c = (none_sendable hs_most _ c.requires.clear.hs).few
+
+pub returns-then-all_rest-clause-none : goal.returns-then-all_rest-clause-none
+returns-then-all_rest-clause-none g c =
+    let clear = c.requires.clear in
+    λ _. rw (clear.hs, clear.cs, clear.sc, clear.mm, clear.md, clear.lc) refl
