@@ -145,62 +145,77 @@ fn check<'a>(alloc: Global) -> Result<Command<'a>, AllocError> {
         .arg(files(alloc).required(true))
 }
 
+/// How many threads share a rehearsal.
+fn workers<'a>(alloc: Global) -> Arg<'a> {
+    Arg::new(alloc, "workers")
+        .long("workers")
+        .value_name("N")
+        .help("How many threads share the work, from 1 to 16; the log is the same [default: 1]")
+}
+
+/// A flag.
+fn flag<'a>(alloc: Global, name: &'a str, help: &'a str) -> Arg<'a> {
+    Arg::new(alloc, name)
+        .long(name)
+        .action(ArgAction::SetTrue)
+        .help(help)
+}
+
+/// `--log FILE`.
+fn kept_log<'a>(alloc: Global) -> Arg<'a> {
+    Arg::new(alloc, "log")
+        .long("log")
+        .value_name("FILE")
+        .help("Keeps the log itself, as vigil writes it")
+}
+
+/// `--allow WHAT`.
+fn allow<'a>(alloc: Global) -> Arg<'a> {
+    Arg::new(alloc, "allow")
+        .long("allow")
+        .value_name("WHAT")
+        .action(ArgAction::Append)
+        .help(
+            "What may come, as 'CS 101', 'CS miscompare', 'CS any', 'drop MM', 'drop any', 'restart NAV' or reset",
+        )
+}
+
 /// How a rehearsal is run.
 fn run_options<'a>(alloc: Global) -> Result<Command<'a>, AllocError> {
+    let has_subjects = flag(
+        alloc,
+        "subjects",
+        "Simulated applications give the execution counters, in place of the scenario",
+    );
     Command::new(alloc, "run")
         .about("Rehearses a scenario as vigil does, and tells its log in words as it comes")
-        .arg(
-            Arg::new(alloc, "workers")
-                .long("workers")
-                .value_name("N")
-                .help(
-                    "How many threads share the work, from 1 to 16; the log is the same [default: 1]",
-                ),
-        )?
-        .arg(
-            Arg::new(alloc, "subjects")
-                .long("subjects")
-                .action(ArgAction::SetTrue)
-                .help(
-                    "Simulated applications give the execution counters, in place of the scenario",
-                ),
-        )?
+        .arg(workers(alloc))?
+        .arg(has_subjects)?
         .arg(time_of_frame_0(alloc))
 }
 
-fn run<'a>(alloc: Global) -> Result<Command<'a>, AllocError> {
+/// What is made of a rehearsal.
+fn run_outputs<'a>(alloc: Global) -> Result<Command<'a>, AllocError> {
+    let is_strict = flag(
+        alloc,
+        "strict",
+        "Ends with status 10 where an error, a drop or a request came that no --allow names",
+    );
     run_options(alloc)?
-        .arg(
-            Arg::new(alloc, "log")
-                .long("log")
-                .value_name("FILE")
-                .help("Keeps the log itself, as vigil writes it"),
-        )?
+        .arg(kept_log(alloc))?
         .arg(output(alloc))?
-        .arg(
-            Arg::new(alloc, "strict")
-                .long("strict")
-                .action(ArgAction::SetTrue)
-                .help(
-                    "Ends with status 10 where an error, a drop or a request came that no --allow names",
-                ),
-        )?
-        .arg(
-            Arg::new(alloc, "allow")
-                .long("allow")
-                .value_name("WHAT")
-                .action(ArgAction::Append)
-                .help(
-                    "What may come, as 'CS 101', 'CS miscompare', 'CS any', 'drop MM', 'drop any', 'restart NAV' or reset",
-                ),
-        )?
-        .arg(input(
-            alloc,
-            "scenario",
-            "SCENARIO",
-            "The file of a scenario, or drill:K; - is standard input",
-        ))?
-        .arg(files(alloc))
+        .arg(is_strict)?
+        .arg(allow(alloc))
+}
+
+fn run<'a>(alloc: Global) -> Result<Command<'a>, AllocError> {
+    let scenario = input(
+        alloc,
+        "scenario",
+        "SCENARIO",
+        "The file of a scenario, or drill:K; - is standard input",
+    );
+    run_outputs(alloc)?.arg(scenario)?.arg(files(alloc))
 }
 
 fn completions<'a>(alloc: Global) -> Result<Command<'a>, AllocError> {
@@ -222,22 +237,38 @@ fn man<'a>(alloc: Global) -> Result<Command<'a>, AllocError> {
         .arg(output(alloc))
 }
 
-/// What the command line may ask for.
-pub fn command<'a>(alloc: Global) -> Result<Command<'a>, AllocError> {
-    Command::new(alloc, "groundkit")
-        .version("1.0")
-        .about("Writes what vigil reads, rehearses, and tells what vigil wrote, in words")
-        .subcommand_required(true)
-        .arg_required_else_help(true)
+/// The verbs that make a file of another, and the one that looks at files.
+fn with_making<'a>(alloc: Global, program: Command<'a>) -> Result<Command<'a>, AllocError> {
+    program
         .subcommand(table(alloc)?)?
         .subcommand(scenario(alloc)?)?
         .subcommand(check(alloc)?)?
-        .subcommand(show(alloc)?)?
+        .subcommand(show(alloc)?)
+}
+
+/// The verb that rehearses, and those that make something of a log.
+fn with_logs<'a>(alloc: Global, program: Command<'a>) -> Result<Command<'a>, AllocError> {
+    program
         .subcommand(run(alloc)?)?
         .subcommand(words(alloc)?)?
         .subcommand(csv(alloc)?)?
         .subcommand(pcap(alloc)?)?
-        .subcommand(diff(alloc)?)?
+        .subcommand(diff(alloc)?)
+}
+
+/// The verbs that describe the command line.
+fn with_pages<'a>(alloc: Global, program: Command<'a>) -> Result<Command<'a>, AllocError> {
+    program
         .subcommand(completions(alloc)?)?
         .subcommand(man(alloc)?)
+}
+
+/// What the command line may ask for.
+pub fn command<'a>(alloc: Global) -> Result<Command<'a>, AllocError> {
+    let program = Command::new(alloc, "groundkit")
+        .version("1.0")
+        .about("Writes what vigil reads, rehearses, and tells what vigil wrote, in words")
+        .subcommand_required(true)
+        .arg_required_else_help(true);
+    with_pages(alloc, with_logs(alloc, with_making(alloc, program)?)?)
 }

@@ -1,13 +1,10 @@
 //! The verbs that describe the command line itself.
 
 use crate::asks::command;
-use crate::completions::{bash_completions, zsh_completions};
-use crate::files::{output_name, put};
-use crate::manual::manual;
-use crate::status::Status;
 use clap::ArgMatches;
-use std::alloc::Global;
-use std::io;
+use ground_files::{Status, output_name, put, tell_no_memory, tell_unwritten};
+use ground_pages::{bash_completions, manual, zsh_completions};
+use std::alloc::{AllocError, Global};
 use std::rt::Files;
 
 /// A description of the command line.
@@ -27,7 +24,7 @@ impl Description {
         Description::Bash
     }
 
-    fn text(self, alloc: Global) -> io::Result<Vec<u8>> {
+    fn text(self, alloc: Global) -> Result<Vec<u8>, AllocError> {
         let program = command(alloc)?;
         match self {
             Description::Bash => bash_completions(alloc, &program),
@@ -45,15 +42,10 @@ pub fn describe<R: Files + Print + Eprint + AllocGlobal>(
 ) -> Status {
     let path = asked.get_str("output");
     let Ok(text) = description.text(rt.alloc()) else {
-        let _told = eprintln!(rt; "memory ran out");
-        return Status::NoMemory;
+        return tell_no_memory(rt);
     };
     match put(rt, path, text.as_slice()) {
         Ok(()) => Status::Done,
-        Err(error) => {
-            let place = output_name(path);
-            let _told = eprintln!(rt; "{place}: it can't be written: {error}");
-            Status::WriteFailed
-        }
+        Err(error) => tell_unwritten(rt, output_name(path), &error),
     }
 }

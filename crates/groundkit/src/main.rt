@@ -2,36 +2,54 @@
 #![tactic(auto)]
 
 mod asks;
-mod captures;
-mod causes;
-mod completions;
-mod csv_rows;
 mod describing;
-mod differences;
-mod files;
-mod log_source;
-mod log_verbs;
-mod making;
-mod making_verbs;
-mod manual;
-mod run_verb;
-mod running;
-mod status;
-mod summary;
-mod words;
+mod verbs;
 
 use asks::command;
+use clap::ArgMatches;
+use clap::error::{Error, ErrorKind};
 use describing::{Description, describe};
-use log_verbs::{Export, compare_logs, export_log};
-use making::Making;
-use making_verbs::{check_files, make_one};
-use run_verb::run_scenario;
-use status::{Status, status_of_words};
+use ground_differences::compare_logs;
+use ground_exports::{Export, export_log};
+use ground_files::Status;
+use ground_making::{Making, check_files, make_one};
+use ground_runs::run_scenario;
 use std::alloc::AllocError;
 use std::process::ExitCode;
 use std::rt::Files;
 use std::thread::Threads;
 use std::{env, io};
+use verbs::{exported, log_pair, run, wanted};
+
+/// The status where the words are refused, or where they ask for help or the version.
+fn status_of_words(error: &Error) -> Status {
+    match error.kind() {
+        ErrorKind::DisplayHelp | ErrorKind::DisplayVersion => Status::Done,
+        ErrorKind::OutOfMemory => Status::NoMemory,
+        _ => Status::WordsRefused,
+    }
+}
+
+/// Does what a verb is asked for.
+fn carry_out<R: Threads + Sync + Files + Input + Print + Eprint + AllocGlobal>(
+    rt: &R,
+    verb: &str,
+    asked: &ArgMatches<'_>,
+) -> Status {
+    match verb {
+        "run" => run_scenario(rt, &run(asked)),
+        "table" => make_one(rt, &wanted(Making::Table, asked)),
+        "scenario" => make_one(rt, &wanted(Making::Scenario, asked)),
+        "show" => make_one(rt, &wanted(Making::Text, asked)),
+        "check" => check_files(rt, asked.get_strs("files").unwrap_or(&[])),
+        "csv" => export_log(rt, &exported(Export::Rows, asked)),
+        "pcap" => export_log(rt, &exported(Export::Capture, asked)),
+        "diff" => compare_logs(rt, &log_pair(asked)),
+        "completions" => describe(rt, Description::of_shell(asked), asked),
+        "man" => describe(rt, Description::Manual, asked),
+        _ => export_log(rt, &exported(Export::Words, asked)),
+    }
+}
 
 /// Does what the words ask for.
 fn groundkit<R: Threads + Sync + Files + Input + Print + Eprint + AllocGlobal>(
@@ -41,17 +59,7 @@ fn groundkit<R: Threads + Sync + Files + Input + Print + Eprint + AllocGlobal>(
     let command = command(rt.alloc())?;
     match command.try_get_matches_from(given) {
         Ok(matches) => Ok(match matches.subcommand() {
-            Some(("run", asked)) => run_scenario(rt, asked),
-            Some(("table", asked)) => make_one(rt, Making::Table, asked),
-            Some(("scenario", asked)) => make_one(rt, Making::Scenario, asked),
-            Some(("show", asked)) => make_one(rt, Making::Text, asked),
-            Some(("check", asked)) => check_files(rt, asked),
-            Some(("csv", asked)) => export_log(rt, Export::Rows, asked),
-            Some(("pcap", asked)) => export_log(rt, Export::Capture, asked),
-            Some(("diff", asked)) => compare_logs(rt, asked),
-            Some(("completions", asked)) => describe(rt, Description::of_shell(asked), asked),
-            Some(("man", asked)) => describe(rt, Description::Manual, asked),
-            Some((_, asked)) => export_log(rt, Export::Words, asked),
+            Some((verb, asked)) => carry_out(rt, verb, asked),
             None => Status::WordsRefused,
         }),
         Err(error) => {

@@ -1,0 +1,201 @@
+//! Two logs that are compared.
+
+ghost use Rattle.std.specs.Prelude.{◌≡◌, true, false, None, IsSome};
+ghost use Rattle.ground_files.specs.declared.verb_status.Status.TheVariants as statuses;
+
+use crate::frame_source::FrameSource;
+use crate::frame_teller::{Found, Teller};
+use ground_files::{
+    Fault, Source, Status, input_name, is_stream, open_input, open_output, output_name, settle,
+    status_made, tell_fault, tell_replaced, tell_unread, tell_unwritten, would_replace,
+};
+use ground_logs::Telling;
+use log_lines::LogLine;
+use std::io::{self, Read, Write};
+use std::rt::Files;
+
+/// The frame that comes next in one of two logs.
+fn next_frame(one: Option<LogLine>, other: Option<LogLine>) -> Option<u32> {
+    match (one, other) {
+        (Some(one), Some(other)) => Some(one.frame.min(other.frame)),
+        (Some(one), None) => Some(one.frame),
+        (None, Some(other)) => Some(other.frame),
+        (None, None) => None,
+    }
+}
+
+/// What is asked for: which logs are compared, and where it is told.
+#[derive(Clone, Copy, Drop)]
+pub struct LogPair<'a> {
+    /// The first log; `-` is standard input.
+    pub one: &'a str,
+    /// The second log, which isn't standard input where the first is.
+    pub other: &'a str,
+    /// The time of frame 0, in seconds.
+    pub epoch: Option<u32>,
+    /// The file that is written, or standard output.
+    pub path: Option<&'a str>,
+}
+
+/// What a comparison of two logs gave.
+#[derive(Clone, Copy, Debug, PartialEq, Eq)]
+struct Compared {
+    found: Found,
+    /// Whether all lines are a log's.
+    is_whole: bool,
+}
+
+/// Tells the frames of two logs, side by side, to the end of both.
+fn tell_frames<L: Read + Drop, E: Eprint, W: Write>(
+    ones: &mut FrameSource<'_, L, E>,
+    others: &mut FrameSource<'_, L, E>,
+    teller: &mut Teller<'_, W>,
+) -> Result<(), Fault> {
+    for _ in 0..u64::MAX {
+        let Some(frame) = next_frame(ones.next(), others.next()) else {
+            break;
+        };
+        ones.read_frame(frame)?;
+        others.read_frame(frame)?;
+        teller.tell_both(frame, ones.lines(), others.lines())?;
+    }
+    Ok(())
+}
+
+/// A log that is compared: how its faults are told, and its bytes.
+#[derive(Drop)]
+struct Given<'a, L: Read + Drop, E: Eprint> {
+    telling: Telling<'a, E>,
+    log: L,
+}
+
+/// Tells the lines in which two logs differ in more than sequence counts, behind `-` those of the first and behind `+` those of the
+/// second, with all lines of the frames around the first difference.
+fn compare<L: Read + Drop, E: Eprint, W: Write>(
+    epoch: Option<u32>,
+    one: Given<'_, L, E>,
+    other: Given<'_, L, E>,
+    out: &mut W,
+) -> Result<Compared, Fault> {
+    let mut teller = Teller::new(one.telling.alloc, epoch, out);
+    let Given { telling, log } = one;
+    let mut ones = FrameSource::begin(&telling, log)?;
+    let Given {
+        telling: telling_other,
+        log: log_other,
+    } = other;
+    let mut others = FrameSource::begin(&telling_other, log_other)?;
+    tell_frames(&mut ones, &mut others, &mut teller)?;
+    Ok(Compared {
+        found: teller.found(),
+        is_whole: ones.is_whole() && others.is_whole(),
+    })
+}
+
+/// Says how two logs differ in all, and answers the status.
+fn tell_found<R: Eprint>(rt: &R, pair: &LogPair<'_>, compared: &Compared) -> Status {
+    if let Some(frame) = compared.found.first {
+        tell_counts(rt, pair, frame, &compared.found);
+    }
+    status_found(compared)
+}
+
+/// Says how many lines stand in one of two logs alone.
+fn tell_counts<R: Eprint>(rt: &R, pair: &LogPair<'_>, frame: u32, found: &Found) {
+    let (one, other) = (input_name(pair.one), input_name(pair.other));
+    let (gone, come) = (found.gone, found.come);
+    // There is no other place to tell it.
+    let _told = eprint!(rt; "they differ from frame {frame} on: lines of {one} alone: {gone}");
+    let _told = eprintln!(rt; ", lines of {other} alone: {come}");
+}
+
+/// The status of a comparison: a line that is none of a log's comes before differences.
+fn status_found(compared: &Compared) -> Status
+    ensures fault { compared.now.is_whole ≡ false → result ≡ statuses.FileRefused }
+    ensures same { compared.now.is_whole ≡ true → compared.now.found.first ≡ None
+        → result ≡ statuses.Done }
+    ensures differ { compared.now.is_whole ≡ true → IsSome compared.now.found.first
+        → result ≡ statuses.Unwanted }
+{
+    if !compared.is_whole {
+        return Status::FileRefused;
+    }
+    if compared.found.first.is_some() {
+        Status::Unwanted
+    } else {
+        Status::Done
+    }
+}
+
+/// An input that is compared.
+fn open_given<'a, R: Files + Input + AllocGlobal + Eprint>(
+    rt: &'a R,
+    file: &'a str,
+) -> Result<Given<'a, Source<R::Reader, R::File>, R>, io::Error> {
+    match open_input(rt, file) {
+        Ok(log) => Ok(Given {
+            telling: Telling {
+                rt,
+                alloc: rt.alloc(),
+                name: input_name(file),
+            },
+            log,
+        }),
+        Err(error) => Err(error),
+    }
+}
+
+/// Why two logs aren't compared: the words name an input twice, or one that is written.
+fn refuse<R: Files + Eprint + AllocGlobal>(rt: &R, pair: &LogPair<'_>) -> bool {
+    if is_stream(pair.one) && is_stream(pair.other) {
+        let _told = eprintln!(rt; "standard input can be one log alone");
+        return true;
+    }
+    if would_replace(rt, pair.path, pair.one) || would_replace(rt, pair.path, pair.other) {
+        tell_replaced(rt, pair.path);
+        return true;
+    }
+    false
+}
+
+/// Tells the lines in which the two logs differ that the words name.
+pub fn compare_logs<R: Files + Input + Print + Eprint + AllocGlobal>(
+    rt: &R,
+    pair: &LogPair<'_>,
+) -> Status {
+    if refuse(rt, pair) {
+        return Status::WordsRefused;
+    }
+    let one = match open_given(rt, pair.one) {
+        Ok(given) => given,
+        Err(error) => return tell_unread(rt, input_name(pair.one), &error),
+    };
+    let other = match open_given(rt, pair.other) {
+        Ok(given) => given,
+        Err(error) => return tell_unread(rt, input_name(pair.other), &error),
+    };
+    write_differences(rt, pair, one, other)
+}
+
+/// Writes the differences of two logs that are open.
+fn write_differences<R: Files + Print + Eprint + AllocGlobal, L: Read + Drop>(
+    rt: &R,
+    pair: &LogPair<'_>,
+    one: Given<'_, L, R>,
+    other: Given<'_, L, R>,
+) -> Status {
+    let output = output_name(pair.path);
+    let (part, mut out) = match open_output(rt, pair.path) {
+        Ok(opened) => opened,
+        Err(error) => return tell_unwritten(rt, output, &error),
+    };
+    let compared = compare(pair.epoch, one, other, &mut out);
+    let settled = settle(part, compared.is_ok());
+    match compared {
+        Ok(compared) => {
+            let status = tell_found(rt, pair, &compared);
+            status_made(rt, output, settled, status)
+        }
+        Err(fault) => tell_fault(rt, "one of the logs", output, &fault),
+    }
+}

@@ -1,0 +1,91 @@
+//! The verbs that make something of a log.
+
+use crate::captures::write_capture;
+use crate::csv_rows::write_rows;
+use ground_files::{
+    Fault, Status, input_name, open_input, open_output, output_name, settle, status_made,
+    tell_fault, tell_replaced, tell_unwritten, would_replace,
+};
+use ground_logs::Telling;
+use std::io::{Read, Write};
+use std::rt::Files;
+
+/// What a log is made into.
+#[derive(Clone, Copy, Debug, PartialEq, Eq)]
+pub enum Export {
+    /// Sentences.
+    Words,
+    /// Rows of comma-separated fields.
+    Rows,
+    /// A capture of its packets.
+    Capture,
+}
+
+impl Export {
+    /// Makes a log into this. Says whether all of its lines are a log's.
+    fn make<E: Eprint, R: Read + Drop, W: Write>(
+        self,
+        telling: &Telling<'_, E>,
+        epoch: Option<u32>,
+        mut log: R,
+        out: &mut W,
+    ) -> Result<bool, Fault> {
+        match self {
+            Export::Words => telling.tell(epoch, &mut log, out),
+            Export::Rows => write_rows(telling, log, out),
+            Export::Capture => write_capture(telling, epoch.unwrap_or(0), log, out),
+        }
+    }
+}
+
+/// What is asked for: what is made of which log, and where it goes.
+#[derive(Clone, Copy, Drop)]
+pub struct Exported<'a> {
+    pub export: Export,
+    /// The time of frame 0, in seconds.
+    pub epoch: Option<u32>,
+    /// The log; `-` is standard input.
+    pub file: &'a str,
+    /// The file that is written, or standard output.
+    pub path: Option<&'a str>,
+}
+
+/// Makes what is asked for of the log into an output. Says whether all of the log's lines are a log's.
+fn write_export<R: Files + Input + Eprint + AllocGlobal, W: Write>(
+    rt: &R,
+    asked: &Exported<'_>,
+    out: &mut W,
+) -> Result<bool, Fault> {
+    let telling = Telling {
+        rt,
+        alloc: rt.alloc(),
+        name: input_name(asked.file),
+    };
+    match open_input(rt, asked.file) {
+        Ok(log) => asked.export.make(&telling, asked.epoch, log, out),
+        Err(error) => Err(Fault::Read(error)),
+    }
+}
+
+/// Makes something of the log that the words name.
+pub fn export_log<R: Files + Input + Print + Eprint + AllocGlobal>(
+    rt: &R,
+    asked: &Exported<'_>,
+) -> Status {
+    if would_replace(rt, asked.path, asked.file) {
+        tell_replaced(rt, asked.path);
+        return Status::WordsRefused;
+    }
+    let output = output_name(asked.path);
+    let (part, mut out) = match open_output(rt, asked.path) {
+        Ok(opened) => opened,
+        Err(error) => return tell_unwritten(rt, output, &error),
+    };
+    let made = write_export(rt, asked, &mut out);
+    let settled = settle(part, made.is_ok());
+    match made {
+        Ok(true) => status_made(rt, output, settled, Status::Done),
+        Ok(false) => status_made(rt, output, settled, Status::FileRefused),
+        Err(fault) => tell_fault(rt, input_name(asked.file), output, &fault),
+    }
+}

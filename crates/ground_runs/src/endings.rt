@@ -1,0 +1,169 @@
+//! Why a rehearsal ended, in words.
+
+ghost use Rattle.std.specs.Prelude.{◌≡◌};
+ghost use Rattle.ground_runs.specs.Endings.{status_at, is_kept};
+
+use crate::asked_run::Run;
+use crate::line_causes::{find_line, line_cause};
+use ground_files::{Status, is_stream, output_name, tell_no_memory};
+use ground_tools::Trouble;
+use rehearsal::{Report, Status as End};
+use std::fs;
+use std::io::{self, Read};
+use std::rt::Files;
+use table_forms::{TableFault, find_refusal};
+
+/// The reason of a file that is longer than any that is read.
+const TOO_LONG: u8 = 9;
+
+/// The reason of an entry whose read the memory of the scenario doesn't give.
+const NOT_GIVEN: u8 = 10;
+
+/// The line of a scenario's text, as far as it can be read again.
+fn line_of<R: Files + AllocGlobal>(rt: &R, path: &str, number: u32) -> Vec<u8> {
+    let mut line = Vec::new(rt.alloc());
+    if !is_stream(path) {
+        if let Ok(mut text) = fs::open(rt, path) {
+            let _found = find_line(&mut text, number, &mut line);
+        }
+    }
+    line
+}
+
+/// What another look at a file finds, where it can be read again: why it is refused, unless that is an entry's.
+fn fault_again<R: Files + AllocGlobal>(rt: &R, path: &str) -> Option<TableFault> {
+    if is_stream(path) {
+        return None;
+    }
+    let Ok(bytes) = fs::read(rt, path) else {
+        return None;
+    };
+    match find_refusal(bytes.as_slice()) {
+        Some(TableFault::Entry(_, _)) => None,
+        other => other,
+    }
+}
+
+/// Tells of an entry that is refused, by its number and the program's number for the reason.
+fn tell_entry<R: Eprint>(rt: &R, path: &str, entry: u32, reason: u8) -> io::Result<()> {
+    if reason == NOT_GIVEN {
+        return eprintln!(rt;
+            "{path}: entry {entry}: the memory of the scenario doesn't give what it reads (reason {reason})"
+        );
+    }
+    eprintln!(rt; "{path}: entry {entry}: reason {reason} (docs/FILES.md)")
+}
+
+/// Tells why a file is refused: the sentence of its fault, where it can be read again and no entry is refused, and else the numbers.
+fn tell_file<R: Files + Eprint + AllocGlobal>(
+    rt: &R,
+    path: &str,
+    report: &Report,
+) -> io::Result<()> {
+    let reason = report.reason;
+    if reason == TOO_LONG {
+        return eprintln!(rt; "{path}: it has over 65700 bytes (reason {reason})");
+    }
+    if reason == NOT_GIVEN {
+        return tell_entry(rt, path, report.line, reason);
+    }
+    match fault_again(rt, path) {
+        Some(fault) => eprintln!(rt; "{path}: {fault} (reason {reason})"),
+        None => tell_entry(rt, path, report.line, reason),
+    }
+}
+
+/// Tells why a scenario is refused, and shows the line.
+fn tell_line<R: Files + Eprint + AllocGlobal>(
+    rt: &R,
+    path: &str,
+    report: &Report,
+) -> io::Result<()> {
+    let (number, reason) = (report.line, report.reason);
+    let line = line_of(rt, path, number);
+    let cause = line_cause(reason, line.as_slice());
+    match std::str::from_utf8(line.as_slice()) {
+        Ok(text) if !text.is_empty() => {
+            eprintln!(rt; "{path}: line {number}: {cause} (reason {reason}): {text:?}")
+        }
+        _ => eprintln!(rt; "{path}: line {number}: {cause} (reason {reason})"),
+    }
+}
+
+/// Tells why a file can't be read, as far as another try shows it.
+fn tell_unread<R: Files + Eprint>(rt: &R, path: &str) -> io::Result<()> {
+    let mut piece = [0u8; 1];
+    let error = match fs::open(rt, path) {
+        Ok(mut file) => file.read(&mut piece).err(),
+        Err(error) => Some(error),
+    };
+    match error {
+        Some(error) => eprintln!(rt; "{path}: it can't be read: {error}"),
+        None => eprintln!(rt; "{path}: it can't be read"),
+    }
+}
+
+/// The status of a rehearsal that ended so.
+fn status_of_end(end: End) -> Status
+    ensures { result ≡ status_at end }
+{
+    match end {
+        End::Done => Status::Done,
+        End::WordsRefused => Status::WordsRefused,
+        End::FileRefused => Status::FileRefused,
+        End::ScenarioRefused => Status::ScenarioRefused,
+        End::ReadFailed => Status::ReadFailed,
+        End::WriteFailed => Status::WriteFailed,
+        End::NoMemory => Status::NoMemory,
+    }
+}
+
+/// Tells why a rehearsal ended, but for a failed write.
+fn tell_cause<R: Files + Eprint + AllocGlobal>(
+    rt: &R,
+    path: &str,
+    report: &Report,
+) -> io::Result<()> {
+    match report.status {
+        End::Done | End::WriteFailed => Ok(()),
+        End::WordsRefused => eprintln!(rt;
+            "the words are refused: `--workers` takes 1 to 16, and at most 100 files may follow"
+        ),
+        End::FileRefused => tell_file(rt, path, report),
+        End::ScenarioRefused => tell_line(rt, path, report),
+        End::ReadFailed => tell_unread(rt, path),
+        End::NoMemory => eprintln!(rt; "memory ran out"),
+    }
+}
+
+/// Tells how a rehearsal ended, but for a failed write, and answers the status.
+pub fn tell_end<R: Files + Eprint + AllocGlobal>(rt: &R, run: &Run<'_>, report: &Report) -> Status {
+    let path = run.input_path(report.file);
+    // There is no other place to tell it.
+    let _told = tell_cause(rt, path, report);
+    status_of_end(report.status)
+}
+
+/// Tells what failed as the log was written or told, and answers the status.
+pub fn tell_trouble<R: Eprint>(rt: &R, run: &Run<'_>, trouble: Option<Trouble>) -> Status {
+    let place = match trouble {
+        Some(Trouble::Memory) => return tell_no_memory(rt),
+        Some(Trouble::Words) => output_name(run.path),
+        None => run.log_name(),
+    };
+    let _told = eprintln!(rt; "{place}: it can't be written");
+    Status::WriteFailed
+}
+
+/// Whether an output is whole where a rehearsal ends so: it has all frames, or all that the scenario gave before its fault.
+pub fn is_whole(status: Status, frames: u32) -> bool
+    ensures { result ≡ is_kept status frames }
+{
+    match status {
+        Status::Done | Status::Unwanted => true,
+        Status::ScenarioRefused | Status::ReadFailed => frames > 0,
+        Status::WordsRefused | Status::FileRefused | Status::WriteFailed | Status::NoMemory => {
+            false
+        }
+    }
+}

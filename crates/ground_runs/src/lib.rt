@@ -1,0 +1,12 @@
+//! Rehearsals by the call that the program vigil makes, with their log in words, and why one ended.
+#![tactic(auto)]
+
+mod asked_run;
+mod endings;
+mod line_causes;
+mod rehearsing;
+mod running;
+
+pub use asked_run::Run;
+pub use line_causes::{find_line, line_cause};
+pub use running::run_scenario;

@@ -1,0 +1,253 @@
+//! The verb that rehearses.
+
+use crate::asked_run::Run;
+use crate::endings::{is_whole, tell_end, tell_trouble};
+use crate::rehearsing::{rehearse, rehearse_drill};
+use fsw_outside::StdSink;
+use ground_files::{
+    Output, PartFile, Status, open_output, output_name, settle, tell_replaced, tell_unwritten,
+};
+use ground_summaries::{summary_of, unwanted_of};
+use ground_tools::{ToldLog, Trouble};
+use rehearsal::{Report, Status as End};
+use std::io::{self, Printer, Write};
+use std::rt::Files;
+use std::thread::Threads;
+
+/// Writes the summary behind the words of a rehearsal whose log was written whole.
+fn sum_up<R, L, W>(
+    rt: &R,
+    frames: u32,
+    told: &mut ToldLog<StdSink<L>, StdSink<W>>,
+) -> Result<(), Trouble>
+where
+    R: AllocGlobal,
+    L: Write + Drop,
+    W: Write + Drop,
+{
+    match summary_of(rt.alloc(), told.survey(), frames) {
+        Ok(summary) => told.say(summary.as_slice()),
+        Err(_) => Err(Trouble::Memory),
+    }
+}
+
+/// Tells what came that no `--allow` names, and answers the status.
+fn judge<R, L, W>(
+    rt: &R,
+    run: &Run<'_>,
+    told: &ToldLog<StdSink<L>, StdSink<W>>,
+) -> Result<Status, Trouble>
+where
+    R: Eprint + AllocGlobal,
+    L: Write + Drop,
+    W: Write + Drop,
+{
+    if !run.is_strict {
+        return Ok(Status::Done);
+    }
+    let Ok(unwanted) = unwanted_of(rt.alloc(), told.survey(), run.allowed) else {
+        return Err(Trouble::Memory);
+    };
+    if unwanted.is_empty() {
+        return Ok(Status::Done);
+    }
+    let text = std::str::from_utf8(unwanted.as_slice()).unwrap_or("");
+    let _told = eprint!(rt; "{text}");
+    Ok(Status::Unwanted)
+}
+
+/// Sums up a rehearsal that ended so.
+fn end_told<R, L, W>(
+    rt: &R,
+    run: &Run<'_>,
+    frames: u32,
+    status: Status,
+    told: &mut ToldLog<StdSink<L>, StdSink<W>>,
+) -> Result<Status, Trouble>
+where
+    R: Eprint + AllocGlobal,
+    L: Write + Drop,
+    W: Write + Drop,
+{
+    sum_up(rt, frames, told)?;
+    let judged = judge(rt, run, told)?;
+    if status == Status::Done {
+        Ok(judged)
+    } else {
+        Ok(status)
+    }
+}
+
+/// Ends a rehearsal: tells why it ended, or sums it up.
+fn end_run<R, L, W>(
+    rt: &R,
+    run: &Run<'_>,
+    report: &Report,
+    told: &mut ToldLog<StdSink<L>, StdSink<W>>,
+) -> Status
+where
+    R: Files + Eprint + AllocGlobal,
+    L: Write + Drop,
+    W: Write + Drop,
+{
+    let trouble = told.trouble();
+    if trouble.is_some() || report.status == End::WriteFailed {
+        return tell_trouble(rt, run, trouble);
+    }
+    let status = tell_end(rt, run, report);
+    if status != Status::Done && report.frames == 0 {
+        return status;
+    }
+    match end_told(rt, run, report.frames, status, told) {
+        Ok(status) => status,
+        Err(trouble) => tell_trouble(rt, run, Some(trouble)),
+    }
+}
+
+/// How a rehearsal ended, and of how many frames the log was written.
+#[derive(Clone, Copy)]
+struct Ending {
+    status: Status,
+    frames: u32,
+}
+
+/// Rehearses a generated scenario into the words' output.
+fn run_drill<R, W>(rt: &R, run: &Run<'_>, out: W) -> Ending
+where
+    R: Threads + Sync + Files + Eprint + AllocGlobal,
+    W: Write + Drop,
+{
+    match rehearse_drill(rt, run, out) {
+        Ok(report) => Ending {
+            status: end_drill(rt, run, &report),
+            frames: report.frames,
+        },
+        Err(_) => Ending {
+            status: tell_trouble(rt, run, Some(Trouble::Memory)),
+            frames: 0,
+        },
+    }
+}
+
+/// Tells how the rehearsal of a generated scenario ended, and answers the status.
+fn end_drill<R: Files + Eprint + AllocGlobal>(rt: &R, run: &Run<'_>, report: &Report) -> Status {
+    if report.status == End::WriteFailed {
+        return tell_trouble(rt, run, Some(Trouble::Words));
+    }
+    tell_end(rt, run, report)
+}
+
+/// Rehearses into both outputs.
+fn run_both<R, L, W>(rt: &R, run: &Run<'_>, log: L, words: W) -> Ending
+where
+    R: Threads + Sync + Files + Eprint + AllocGlobal,
+    L: Write + Drop,
+    W: Write + Drop,
+{
+    let mut told = ToldLog::new(
+        rt.alloc(),
+        run.epoch,
+        StdSink::new(log),
+        StdSink::new(words),
+    );
+    match rehearse(rt, run, &mut told) {
+        Ok(report) => Ending {
+            status: end_run(rt, run, &report, &mut told),
+            frames: report.frames,
+        },
+        Err(_) => Ending {
+            status: tell_trouble(rt, run, Some(Trouble::Memory)),
+            frames: 0,
+        },
+    }
+}
+
+/// The outputs of a rehearsal, which are files where a part of them stands beside its place.
+#[derive(Drop)]
+struct Parts<'a, R: Files> {
+    log: Option<PartFile<'a, R>>,
+    words: Option<PartFile<'a, R>>,
+}
+
+impl<'a, R: Files + Eprint + AllocGlobal> Parts<'a, R> {
+    /// Moves the outputs to their places where they are whole, and answers the status.
+    fn settle_all(self, rt: &R, run: &Run<'_>, ending: Ending) -> Status {
+        let is_kept = is_whole(ending.status, ending.frames);
+        let Parts { log, words } = self;
+        if let Err(error) = settle(log, is_kept) {
+            let _settled = settle(words, false);
+            return tell_unwritten(rt, run.log_name(), &error);
+        }
+        if let Err(error) = settle(words, is_kept) {
+            return tell_unwritten(rt, output_name(run.path), &error);
+        }
+        ending.status
+    }
+}
+
+/// Rehearses into an output for the words, and opens the one for the log.
+fn carry_out<'a, R, W>(rt: &'a R, run: &Run<'_>, part: Option<PartFile<'a, R>>, words: W) -> Status
+where
+    R: Threads + Sync + Files + Print + Eprint + AllocGlobal,
+    W: Write + Drop,
+{
+    match open_log(rt, run) {
+        Ok((log_part, log)) => {
+            let ending = if run.is_drill() {
+                run_drill(rt, run, words)
+            } else {
+                run_both(rt, run, log, words)
+            };
+            let parts = Parts {
+                log: log_part,
+                words: part,
+            };
+            parts.settle_all(rt, run, ending)
+        }
+        Err(error) => {
+            let _settled = settle(part, false);
+            tell_unwritten(rt, run.log_name(), &error)
+        }
+    }
+}
+
+/// Opens the output that keeps the log, where one is named.
+fn open_log<'a, R: Files + Print + AllocGlobal>(
+    rt: &'a R,
+    run: &Run<'_>,
+) -> io::Result<(Option<PartFile<'a, R>>, Output<Printer<'a, R>, R::File>)> {
+    match run.log {
+        Some(_) => open_output(rt, run.log),
+        None => Ok((None, Output::Nowhere)),
+    }
+}
+
+/// Says why words of a rehearsal are refused; whether they are.
+fn refuse<R: Files + Eprint + AllocGlobal>(rt: &R, run: &Run<'_>) -> bool {
+    if let Some(cause) = run.refusal() {
+        let _told = eprintln!(rt; "{cause}");
+        return true;
+    }
+    for output in [run.log, run.path] {
+        if run.would_replace(rt, output) {
+            tell_replaced(rt, output);
+            return true;
+        }
+    }
+    false
+}
+
+/// Rehearses what the words ask for: the words go to `path`, or standard output, and the log is kept in the file `log`, where one
+/// is named.
+pub fn run_scenario<R>(rt: &R, run: &Run<'_>) -> Status
+where
+    R: Threads + Sync + Files + Print + Eprint + AllocGlobal,
+{
+    if refuse(rt, run) {
+        return Status::WordsRefused;
+    }
+    match open_output(rt, run.path) {
+        Ok((part, words)) => carry_out(rt, run, part, words),
+        Err(error) => tell_unwritten(rt, output_name(run.path), &error),
+    }
+}

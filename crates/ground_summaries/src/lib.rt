@@ -1,0 +1,9 @@
+//! What a log holds in all, in words, and which of it the words of an operator allow.
+#![tactic(auto)]
+
+mod allowed;
+mod counted;
+mod summary;
+
+pub use allowed::unwanted_of;
+pub use summary::summary_of;
