@@ -2,8 +2,8 @@
 
 use crate::making::{Making, Refusal, look_at};
 use ground_files::{
-    Status, get, input_name, output_name, put, tell_no_memory, tell_replaced, tell_unread,
-    tell_unwritten, would_replace,
+    Status, get, input_name, output_name, put, tell_replaced, tell_unread, tell_unwritten,
+    would_replace,
 };
 use std::rt::Files;
 
@@ -21,12 +21,13 @@ pub struct Wanted<'a> {
 
 /// Tells why a file is refused, and answers the status.
 fn tell_refusal<R: Eprint>(rt: &R, name: &str, refusal: &Refusal) -> Status {
-    if *refusal == Refusal::Memory {
-        let _told = eprintln!(rt; "{name}: {refusal}");
-        return Status::NoMemory;
-    }
+    // There is no other place to tell it.
     let _told = eprintln!(rt; "{name}: {refusal}");
-    Status::FileRefused
+    if *refusal == Refusal::Memory {
+        Status::NoMemory
+    } else {
+        Status::FileRefused
+    }
 }
 
 /// Makes a file into what is wanted, and writes that.

@@ -3,10 +3,9 @@
 ghost use Rattle.std.specs.Prelude.{◌≡◌, ◌<◌, ◌+◌, ◌^◌, true, length, IfOk, OnOk, None, Some};
 ghost use Rattle.telecommands.specs.Commands.{are_good};
 ghost use Rattle.table_files.specs.Headers.{kind_of_file};
-ghost use Rattle.table_texts.specs.Lines.{kept_of};
 ghost use Rattle.table_forms.specs.Judging.{refusal_of};
 ghost use Rattle.table_forms.specs.Layouts.{are_layouts};
-ghost use Rattle.table_forms.specs.Reading.{first_said, IsTakenAs};
+ghost use Rattle.ground_making.specs.Made.{IsFileOf};
 ghost use Rattle.ground_making.specs.declared.making.Making.TheVariants as makings;
 
 use plan_text::{PlanError, PlanFault};
@@ -106,7 +105,7 @@ const MOST_BYTES: usize = 4_294_967_294;
 /// The file of a table's text: it is taken as the table that the text's first line names.
 fn file_of(alloc: Global, epoch: Option<u32>, text: &[u8]) -> Result<Vec<u8>, Refusal>
     requires { 1 + length text.now < 2 ^ 32 }
-    ensures { IfOk result (λ file. IsTakenAs (first_said (kept_of 1 text.now)) file.items) }
+    ensures { IfOk result (λ file. IsFileOf text.now file.items) }
 {
     match read_table(alloc, &forms(epoch), text) {
         Ok(file) => Ok(file),
@@ -165,7 +164,7 @@ pub fn look_at(file: &[u8]) -> Result<(), Refusal>
 impl Making {
     /// Makes a file's bytes into what is wanted. What `Table` makes is taken as the table that the text names.
     pub fn make(self, alloc: Global, epoch: Option<u32>, bytes: &[u8]) -> Result<Vec<u8>, Refusal>
-        ensures taken { self ≡ makings.Table → IfOk result (λ file. IsTakenAs (first_said (kept_of 1 bytes.now)) file.items) }
+        ensures taken { self ≡ makings.Table → IfOk result (λ file. IsFileOf bytes.now file.items) }
     {
         if bytes.len() > MOST_BYTES {
             return Err(Refusal::Long);
