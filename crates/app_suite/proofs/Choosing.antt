@@ -1,6 +1,6 @@
 -- Jobs that were done by the caller, and those that were chosen for workers.
-use Rattle.std.proofs.Common.{◌≡◌, ℕ, ◌+◌, ◌<◌, ◌≤◌, ◌≢◌, ◌⊎◌, ⊎_elim, List, [], ◌∷◌, ◌++◌, length, get_or, sym, ◌∙◌, subst, arith, All, eq-zero-or-pos}
-use Rattle.std.proofs.lemmas.Bool.{cases_eq, cases_lt}
+use Rattle.std.proofs.Common.{◌≡◌, ℕ, ◌+◌, ◌<◌, ◌≤◌, ◌≢◌, ◌⊎◌, ⊎_elim, List, [], ◌∷◌, ◌++◌, get_or, sym, ◌∙◌, subst, arith, eq-zero-or-pos}
+use Rattle.std.proofs.lemmas.Bool.{cases_lt}
 use Rattle.std.proofs.lemmas.List.Elements.{All-push}
 use Rattle.crew_board.specs.Claim.{times}
 use Rattle.crew_board.specs.Work.{IsRight, AreDone, AreDraws, StayBut}

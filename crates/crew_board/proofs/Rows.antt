@@ -115,8 +115,8 @@ first_written [] new some_ = absurd (omega arith)
 first_written (row ∷ rows) new some_ = refl
 
 -- The rows of one call were a part of one row, the first: its scratches of the other jobs stay.
-pub chunk_stays : {S : Type 0} (jobs : List ℕ) (rows new part after : List (Row S)) (d : Row S) (start offset : ℕ) → start + offset ≡ 0 → IsChunk rows 1 start part → length after ≡ 1
-    → get_or after offset d ≡ get_or new 0 d → 0 < length new → StayBut jobs (first_scratches part) (first_scratches after) → StayBut jobs (first_scratches rows) (first_scratches new)
+pub chunk_stays : {S : Type 0} (jobs : List ℕ) (before new part after : List (Row S)) (d : Row S) (start offset : ℕ) → start + offset ≡ 0 → IsChunk before 1 start part → length after ≡ 1
+    → get_or after offset d ≡ get_or new 0 d → 0 < length new → StayBut jobs (first_scratches part) (first_scratches after) → StayBut jobs (first_scratches before) (first_scratches new)
 chunk_stays {S} jobs rows new part after d start offset first chunk one element some_ stay job s none =
     let at : List S → S = λ l. get_or l job s in
     let scratches : Row S → List S = λ row. row.scratches.items in

@@ -1,4 +1,4 @@
-use Rattle.std.proofs.Common.{◌≡◌, ◌<◌, ℕ, List, length, subst, arith}
+use Rattle.std.proofs.Common.{◌<◌, ℕ, List, length, subst, arith}
 use Rattle.crew_board.specs.Work.{AreDone, StayBut}
 use Rattle.app_suite.specs.declared.left.Left.{Left}
 use Rattle.app_suite.specs.declared.wakeups.Wakeup.{Wakeup}
