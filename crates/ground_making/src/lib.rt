@@ -1,8 +1,15 @@
-//! What a file or a text is made into: tables, their texts, scenarios; and the verbs that read one and write the other.
+//! What a file or a text is made into: tables, loads, their texts, scenarios; and the verbs that read one and write the other, or look.
 #![tactic(auto)]
 
+mod checking;
+mod entry_faults;
+mod entry_lines;
+mod file_order;
 mod made_files;
 mod making;
+mod named_files;
+mod telling;
 
-pub use made_files::{Wanted, check_files, make_one};
-pub use making::{Making, Refusal, look_at};
+pub use checking::check_files;
+pub use made_files::{Wanted, make_one};
+pub use making::{Making, Refusal, load_of, look_at};

@@ -1,10 +1,15 @@
 //! The verbs that make a file of another.
 
-use crate::making::{Making, Refusal, look_at};
+ghost use Rattle.std.specs.Prelude.{◌<◌, ◌+◌, ◌^◌, length};
+
+use crate::making::{MOST_BYTES, Making, Refusal, load_of, look_at};
+use crate::named_files::named_bytes;
+use crate::telling::{status_told, tell_entries, tell_refusal, tell_said};
 use ground_files::{
     Status, get, input_name, output_name, put, tell_replaced, tell_unread, tell_unwritten,
     would_replace,
 };
+use load_texts::{asked_file, is_load_text};
 use std::rt::Files;
 
 /// What a verb of one file is asked for.
@@ -19,36 +24,6 @@ pub struct Wanted<'a> {
     pub path: Option<&'a str>,
 }
 
-/// Tells why a file is refused, and answers the status.
-fn tell_refusal<R: Eprint>(rt: &R, name: &str, refusal: &Refusal) -> Status {
-    // There is no other place to tell it.
-    let _told = eprintln!(rt; "{name}: {refusal}");
-    if *refusal == Refusal::Memory {
-        Status::NoMemory
-    } else {
-        Status::FileRefused
-    }
-}
-
-/// Makes a file into what is wanted, and writes that.
-fn make_file<R: Files + Input + Print + Eprint + AllocGlobal>(
-    rt: &R,
-    wanted: &Wanted<'_>,
-) -> Status {
-    let name = input_name(wanted.file);
-    let bytes = match get(rt, wanted.file) {
-        Ok(bytes) => bytes,
-        Err(error) => return tell_unread(rt, name, &error),
-    };
-    let made = wanted
-        .making
-        .make(rt.alloc(), wanted.epoch, bytes.as_slice());
-    match made {
-        Ok(made) => write_made(rt, wanted.path, made.as_slice()),
-        Err(refusal) => tell_refusal(rt, name, &refusal),
-    }
-}
-
 /// Writes what was made.
 fn write_made<R: Files + Print + Eprint + AllocGlobal>(
     rt: &R,
@@ -61,29 +36,83 @@ fn write_made<R: Files + Print + Eprint + AllocGlobal>(
     }
 }
 
-/// Looks at a file as the program does.
-fn check_file<R: Files + Input + Eprint + AllocGlobal>(rt: &R, file: &str) -> Status {
-    let name = input_name(file);
-    let bytes = match get(rt, file) {
-        Ok(bytes) => bytes,
-        Err(error) => return tell_unread(rt, name, &error),
-    };
-    match look_at(bytes.as_slice()) {
-        Ok(()) => Status::Done,
-        Err(refusal) => tell_refusal(rt, name, &refusal),
+/// Tells why nothing is made of a text or a file.
+fn tell_unmade<R: Eprint + AllocGlobal>(
+    rt: &R,
+    wanted: &Wanted<'_>,
+    bytes: &[u8],
+    refusal: &Refusal,
+) -> Status {
+    let name = input_name(wanted.file);
+    match *refusal {
+        Refusal::Entry(kind, fault) => {
+            let told = tell_said(rt, name, wanted.epoch, kind, fault, bytes);
+            status_told(rt, name, told)
+        }
+        _ => tell_refusal(rt, name, refusal),
     }
 }
 
-/// Looks at files in their order, all of them. The first status that isn't `Done` stands.
-pub fn check_files<R: Files + Input + Eprint + AllocGlobal>(rt: &R, files: &[&str]) -> Status {
-    let mut status = Status::Done;
-    for file in files {
-        let one = check_file(rt, file);
-        if status == Status::Done {
-            status = one;
-        }
+/// Makes a text into the file to be loaded that it says, and writes that.
+fn make_load<R: Files + Print + Eprint + AllocGlobal>(
+    rt: &R,
+    wanted: &Wanted<'_>,
+    text: &[u8],
+) -> Status
+    requires { 1 + length text.now < 2 ^ 32 }
+{
+    let named = match asked_file(text) {
+        Some(asked) => match named_bytes(rt, wanted, &asked) {
+            Ok(bytes) => bytes,
+            Err(status) => return status,
+        },
+        None => Vec::new(rt.alloc()),
+    };
+    match load_of(rt.alloc(), named.as_slice(), text) {
+        Ok(file) => write_made(rt, wanted.path, file.as_slice()),
+        Err(refusal) => tell_refusal(rt, input_name(wanted.file), &refusal),
     }
-    status
+}
+
+/// Tells of the entries of a file that is shown why they are refused, if any are: no table is made of its text.
+fn tell_shown<R: Eprint + AllocGlobal>(rt: &R, wanted: &Wanted<'_>, file: &[u8]) {
+    if wanted.making != Making::Text {
+        return;
+    }
+    if let Err(Refusal::Entry(kind, _)) = look_at(file) {
+        let _told = tell_entries(rt, input_name(wanted.file), kind, file);
+    }
+}
+
+/// Makes bytes into what is wanted, and writes that.
+fn make_bytes<R: Files + Print + Eprint + AllocGlobal>(
+    rt: &R,
+    wanted: &Wanted<'_>,
+    bytes: &[u8],
+) -> Status {
+    match wanted.making.make(rt.alloc(), wanted.epoch, bytes) {
+        Ok(made) => {
+            tell_shown(rt, wanted, bytes);
+            write_made(rt, wanted.path, made.as_slice())
+        }
+        Err(refusal) => tell_unmade(rt, wanted, bytes, &refusal),
+    }
+}
+
+/// Makes a file into what is wanted, and writes that.
+fn make_file<R: Files + Input + Print + Eprint + AllocGlobal>(
+    rt: &R,
+    wanted: &Wanted<'_>,
+) -> Status {
+    let bytes = match get(rt, wanted.file) {
+        Ok(bytes) => bytes,
+        Err(error) => return tell_unread(rt, input_name(wanted.file), &error),
+    };
+    let bytes = bytes.as_slice();
+    if wanted.making == Making::Table && bytes.len() <= MOST_BYTES && is_load_text(bytes) {
+        return make_load(rt, wanted, bytes);
+    }
+    make_bytes(rt, wanted, bytes)
 }
 
 /// Makes what a verb of one file makes.

@@ -2,12 +2,14 @@
 
 ghost use Rattle.std.specs.Prelude.{◌≡◌, ◌<◌, ◌+◌, ◌^◌, true, length, IfOk, OnOk, None, Some};
 ghost use Rattle.telecommands.specs.Commands.{are_good};
-ghost use Rattle.table_files.specs.Headers.{kind_of_file};
+ghost use Rattle.table_files.specs.Headers.{kind_of_file, file_fault_of, is_load};
 ghost use Rattle.table_forms.specs.Judging.{refusal_of};
 ghost use Rattle.table_forms.specs.Layouts.{are_layouts};
+ghost use Rattle.load_texts.specs.Loads.{SaysLoad};
 ghost use Rattle.ground_making.specs.Made.{IsFileOf};
 ghost use Rattle.ground_making.specs.declared.making.Making.TheVariants as makings;
 
+use load_texts::{LoadFault, header_fields, read_load, show_load};
 use plan_text::{PlanError, PlanFault};
 use std::alloc::{AllocError, Global};
 use table_files::{EntryFault, FileFault, FileImage, TableKind, read_file};
@@ -21,9 +23,9 @@ use timed_plans::schedule_plan;
 /// What a file is made into.
 #[derive(Clone, Copy, Debug, PartialEq, Eq)]
 pub enum Making {
-    /// The file of a table, of its text.
+    /// The file of a table, of its text; the verb makes of a load's text a file to be loaded (`load_of`).
     Table,
-    /// The text of a table, of its file.
+    /// The text of a table or a load, of its file.
     Text,
     /// The scenario, of a plan.
     Scenario,
@@ -34,31 +36,25 @@ pub enum Making {
 pub enum Refusal {
     #[error("{0}")]
     Text(TableFault),
-    /// An entry of a table, by the number that the program has for its reason.
-    #[error("entry {entry}: reason {reason} (docs/FILES.md)")]
-    Entry { entry: u32, reason: u32 },
+    /// An entry of a table, by its loader's reason. `table_reasons` has the sentence.
+    #[error("entry {entry} is refused", entry = .1.entry)]
+    Entry(TableKind, EntryFault),
+    #[error("{0}")]
+    LoadText(LoadFault),
     #[error("{0}")]
     Plan(PlanFault),
     #[error("{0}")]
     File(FileFault),
-    #[error("it is a file to be loaded and has no entries to show")]
-    Load,
     #[error("it is longer than 4294967294 bytes")]
     Long,
     #[error("memory ran out")]
     Memory,
 }
 
-/// What the program's number for a reason of an entry is over its loader's.
-const ENTRY_REASONS: u32 = 10;
-
 /// Why a table or its text is refused.
 fn refused(fault: TableFault) -> Refusal {
     match fault {
-        TableFault::Entry(_, EntryFault { entry, reason }) => Refusal::Entry {
-            entry,
-            reason: u32::from(reason).saturating_add(ENTRY_REASONS),
-        },
+        TableFault::Entry(kind, fault) => Refusal::Entry(kind, fault),
         other => Refusal::Text(other),
     }
 }
@@ -74,6 +70,15 @@ impl From<ReadError> for Refusal {
         match error {
             ReadError::Memory(_) => Refusal::Memory,
             ReadError::Fault(fault) => refused(fault),
+        }
+    }
+}
+
+impl From<load_texts::ReadError> for Refusal {
+    fn from(error: load_texts::ReadError) -> Refusal {
+        match error {
+            load_texts::ReadError::Memory(_) => Refusal::Memory,
+            load_texts::ReadError::Fault(fault) => Refusal::LoadText(fault),
         }
     }
 }
@@ -100,7 +105,7 @@ fn forms(epoch: Option<u32>) -> TextForms<'static>
 }
 
 /// The most bytes that a file has which something is made of: lines are counted in 32 bits.
-const MOST_BYTES: usize = 4_294_967_294;
+pub(crate) const MOST_BYTES: usize = 4_294_967_294;
 
 /// The file of a table's text: it is taken as the table that the text's first line names.
 fn file_of(alloc: Global, epoch: Option<u32>, text: &[u8]) -> Result<Vec<u8>, Refusal>
@@ -113,11 +118,23 @@ fn file_of(alloc: Global, epoch: Option<u32>, text: &[u8]) -> Result<Vec<u8>, Re
     }
 }
 
-/// The text of a table's file.
+/// The file to be loaded that a text says, where the file that it asks for has the bytes `named`: it is accepted, with the text's
+/// address and bytes.
+pub fn load_of(alloc: Global, named: &[u8], text: &[u8]) -> Result<Vec<u8>, Refusal>
+    requires { 1 + length text.now < 2 ^ 32 }
+    ensures { IfOk result (λ file. SaysLoad named.now text.now file.items) }
+{
+    match read_load(alloc, header_fields(), named, text) {
+        Ok(file) => Ok(file),
+        Err(error) => Err(Refusal::from(error)),
+    }
+}
+
+/// The text of the file of a table, or of one to be loaded.
 fn text_of(alloc: Global, epoch: Option<u32>, file: &[u8]) -> Result<Vec<u8>, Refusal> {
     match read_file(file) {
         Ok(FileImage::Table { kind, payload: _ }) => show_of(alloc, epoch, kind, file),
-        Ok(FileImage::Load { at: _, bytes: _ }) => Err(Refusal::Load),
+        Ok(FileImage::Load { at: _, bytes: _ }) => show_load_of(alloc, file),
         Err(fault) => Err(Refusal::File(fault)),
     }
 }
@@ -133,6 +150,18 @@ fn show_of(
 {
     let mut text = Vec::new(alloc);
     match show_table(alloc, &forms(epoch), kind, file, &mut text) {
+        Ok(()) => Ok(text),
+        Err(error) => Err(Refusal::from(error)),
+    }
+}
+
+/// The text of a file to be loaded.
+fn show_load_of(alloc: Global, file: &[u8]) -> Result<Vec<u8>, Refusal>
+    requires well { file_fault_of file.now ≡ None }
+    requires load { is_load file.now ≡ true }
+{
+    let mut text = Vec::new(alloc);
+    match show_load(alloc, header_fields(), file, &mut text) {
         Ok(()) => Ok(text),
         Err(error) => Err(Refusal::from(error)),
     }

@@ -1,0 +1,60 @@
+//! The file whose bytes the text of a load asks for.
+
+use crate::made_files::Wanted;
+use ground_files::{Status, input_name, is_stream, tell_no_memory, tell_replaced, would_replace};
+use load_texts::NamedFile;
+use std::alloc::{AllocError, Global};
+use std::fs;
+use std::path::Path;
+use std::rt::Files;
+use std::str::from_utf8;
+
+/// A path as a text names it: from the folder of the text on, and from the current one where the text is standard input.
+fn path_beside(alloc: Global, text: &str, path: &str) -> Result<String, AllocError> {
+    if is_stream(text) {
+        return String::from_str(alloc, path);
+    }
+    match Path::new(text).parent() {
+        Some(folder) => Ok(folder.join(alloc, path)?.into_string()),
+        None => String::from_str(alloc, path),
+    }
+}
+
+/// Reads a file that the line of a text asks for.
+fn read_path<R: Files + Eprint + AllocGlobal>(
+    rt: &R,
+    wanted: &Wanted<'_>,
+    line: u32,
+    path: &str,
+) -> Result<Vec<u8>, Status> {
+    if would_replace(rt, wanted.path, path) {
+        tell_replaced(rt, wanted.path);
+        return Err(Status::WordsRefused);
+    }
+    match fs::read(rt, path) {
+        Ok(bytes) => Ok(bytes),
+        Err(error) => {
+            let name = input_name(wanted.file);
+            let _told = eprintln!(rt; "{name}: line {line}: {path} can't be read: {error}");
+            Err(Status::ReadFailed)
+        }
+    }
+}
+
+/// The bytes of the file that a text asks for, or the status, once it was told why there are none.
+pub(crate) fn named_bytes<R: Files + Eprint + AllocGlobal>(
+    rt: &R,
+    wanted: &Wanted<'_>,
+    asked: &NamedFile<'_>,
+) -> Result<Vec<u8>, Status> {
+    let line = asked.line;
+    let Ok(path) = from_utf8(asked.path) else {
+        let name = input_name(wanted.file);
+        let _told = eprintln!(rt; "{name}: line {line}: the name of the file isn't UTF-8");
+        return Err(Status::FileRefused);
+    };
+    match path_beside(rt.alloc(), wanted.file, path) {
+        Ok(path) => read_path(rt, wanted, line, path.as_str()),
+        Err(_) => Err(tell_no_memory(rt)),
+    }
+}
