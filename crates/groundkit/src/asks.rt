@@ -94,27 +94,27 @@ fn diff<'a>(alloc: Global) -> Result<Command<'a>, AllocError> {
 
 fn table<'a>(alloc: Global) -> Result<Command<'a>, AllocError> {
     Command::new(alloc, "table")
-        .about("Makes the file of a table from its text")
+        .about("Makes the file of a table, or one to be loaded, from its text")
         .arg(epoch(alloc, "What times such as +0:01:00 are counted from"))?
         .arg(output(alloc))?
         .arg(input(
             alloc,
             "input",
             "TEXT",
-            "The text of a table; - is standard input",
+            "The text of a table or of a load; - is standard input",
         ))
 }
 
 fn show<'a>(alloc: Global) -> Result<Command<'a>, AllocError> {
     Command::new(alloc, "show")
-        .about("Shows the file of a table as text, from which `table` makes that file")
+        .about("Shows the file of a table, or one to be loaded, as text, from which `table` makes that file")
         .arg(epoch(alloc, "What times are shown from, such as +0:01:00"))?
         .arg(output(alloc))?
         .arg(input(
             alloc,
             "input",
             "FILE",
-            "The file of a table; - is standard input",
+            "The file of a table or of a load; - is standard input",
         ))
 }
 
@@ -141,7 +141,7 @@ fn files<'a>(alloc: Global) -> Arg<'a> {
 
 fn check<'a>(alloc: Global) -> Result<Command<'a>, AllocError> {
     Command::new(alloc, "check")
-        .about("Looks at files as vigil does, and tells of each that is refused why it is")
+        .about("Looks at files as vigil does: why they are refused, what is odd in them, and in which order they count")
         .arg(files(alloc).required(true))
 }
 
