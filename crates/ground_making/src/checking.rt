@@ -1,5 +1,6 @@
 //! The verb that looks at files.
 
+use crate::books::{is_book, look_at_book};
 use crate::file_order::{Holding, SeenFile, tell_order, warn_of_place};
 use crate::making::{Refusal, look_at};
 use crate::telling::{status_told, tell_entries, tell_refusal};
@@ -97,7 +98,15 @@ fn tell_file<R: Eprint + AllocGlobal>(rt: &R, name: &str, file: &[u8]) -> Status
     }
 }
 
-/// Looks at a file as the program does, and then at its place behind others.
+/// Looks at a book, and tells why it is refused.
+fn tell_book<R: Eprint + AllocGlobal>(rt: &R, name: &str, text: &[u8]) -> Status {
+    match look_at_book(rt.alloc(), text) {
+        Ok(()) => Status::Done,
+        Err(refusal) => tell_refusal(rt, name, &refusal),
+    }
+}
+
+/// Looks at a file as the program does, and then at its place behind others. A book has none: its files are in it.
 fn check_file<'a, R: Files + Input + Eprint + AllocGlobal>(
     rt: &R,
     path: &'a str,
@@ -105,7 +114,12 @@ fn check_file<'a, R: Files + Input + Eprint + AllocGlobal>(
 ) -> Result<Status, AllocError> {
     let name = input_name(path);
     let (status, bytes) = match get(rt, path) {
-        Ok(bytes) => (tell_file(rt, name, bytes.as_slice()), bytes),
+        Ok(bytes) => {
+            if is_book(bytes.as_slice()) {
+                return Ok(tell_book(rt, name, bytes.as_slice()));
+            }
+            (tell_file(rt, name, bytes.as_slice()), bytes)
+        }
         Err(error) => (tell_unread(rt, name, &error), Vec::new(rt.alloc())),
     };
     let is_taken = status == Status::Done;

@@ -9,6 +9,8 @@ ghost use Rattle.load_texts.specs.Loads.{SaysLoad};
 ghost use Rattle.ground_making.specs.Made.{IsFileOf};
 ghost use Rattle.ground_making.specs.declared.making.Making.TheVariants as makings;
 
+use crate::books::{book_scenario, is_book};
+use load_books::BookFault;
 use load_texts::{LoadFault, header_fields, read_load, show_load};
 use plan_text::{PlanError, PlanFault};
 use std::alloc::{AllocError, Global};
@@ -27,7 +29,7 @@ pub enum Making {
     Table,
     /// The text of a table or a load, of its file.
     Text,
-    /// The scenario, of a plan.
+    /// The scenario, of a plan or a book.
     Scenario,
 }
 
@@ -43,6 +45,11 @@ pub enum Refusal {
     LoadText(LoadFault),
     #[error("{0}")]
     Plan(PlanFault),
+    #[error("{0}")]
+    Book(BookFault),
+    /// An entry of the table whose part begins at line `part` of a book.
+    #[error("part of line {part}: entry {entry}: reason {reason} (docs/FILES.md)")]
+    PartEntry { part: u32, entry: u32, reason: u32 },
     #[error("{0}")]
     File(FileFault),
     #[error("it is longer than 4294967294 bytes")]
@@ -105,7 +112,7 @@ fn forms(epoch: Option<u32>) -> TextForms<'static>
 }
 
 /// The most bytes that a file has which something is made of: lines are counted in 32 bits.
-pub(crate) const MOST_BYTES: usize = 4_294_967_294;
+pub const MOST_BYTES: usize = 4_294_967_294;
 
 /// The file of a table's text: it is taken as the table that the text's first line names.
 fn file_of(alloc: Global, epoch: Option<u32>, text: &[u8]) -> Result<Vec<u8>, Refusal>
@@ -167,10 +174,13 @@ fn show_load_of(alloc: Global, file: &[u8]) -> Result<Vec<u8>, Refusal>
     }
 }
 
-/// The scenario that a plan says.
+/// The scenario that a plan says, or the plan of a book.
 fn scenario_of(alloc: Global, plan: &[u8]) -> Result<Vec<u8>, Refusal>
     requires { 1 + length plan.now < 2 ^ 32 }
 {
+    if is_book(plan) {
+        return book_scenario(alloc, plan);
+    }
     match schedule_plan(alloc, commands(), plan) {
         Ok(scenario) => Ok(scenario),
         Err(error) => Err(Refusal::from(error)),

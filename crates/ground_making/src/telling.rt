@@ -14,7 +14,7 @@ use table_reasons::tell_fault;
 const PAYLOAD: usize = 116;
 
 /// What the number of a refused entry's reason is over its loader's.
-const ENTRY_REASONS: u32 = 10;
+pub(crate) const ENTRY_REASONS: u32 = 10;
 
 /// Tells why an entry of a payload is refused.
 fn tell_entry<R: Eprint + AllocGlobal>(
@@ -71,7 +71,7 @@ pub(crate) fn tell_said<R: Eprint + AllocGlobal>(
 }
 
 /// Tells why a file is refused, and answers the status.
-pub(crate) fn tell_refusal<R: Eprint>(rt: &R, name: &str, refusal: &Refusal) -> Status {
+pub fn tell_refusal<R: Eprint>(rt: &R, name: &str, refusal: &Refusal) -> Status {
     let _told = eprintln!(rt; "{name}: {refusal}");
     if *refusal == Refusal::Memory {
         Status::NoMemory
