@@ -7,7 +7,7 @@ use std::alloc::Global;
 use std::rt::Files;
 
 /// What the words ask for.
-#[derive(Drop)]
+#[derive(Clone, Copy, Drop)]
 pub struct Run<'a> {
     pub scenario: &'a str,
     pub files: &'a [&'a str],
@@ -79,8 +79,8 @@ impl<'a> Run<'a> {
         would_replace(rt, output, self.scenario)
     }
 
-    /// The words for the rehearsal.
-    pub fn words(&self, alloc: Global) -> Result<Words, NoMemory> {
+    /// The words for the rehearsal that stand in front of the names of the scenario's file and of the FILEs.
+    pub fn front_words(&self, alloc: Global) -> Result<Words, NoMemory> {
         let mut words = Words::open(alloc)?;
         if let Some(workers) = self.workers {
             words.add("--workers")?;
@@ -90,6 +90,12 @@ impl<'a> Run<'a> {
             words.add("--subjects")?;
         }
         words.add("--")?;
+        Ok(words)
+    }
+
+    /// The words for the rehearsal.
+    pub(crate) fn words(&self, alloc: Global) -> Result<Words, NoMemory> {
+        let mut words = self.front_words(alloc)?;
         words.add(opened_name(self.scenario))?;
         for file in self.files {
             words.add(opened_name(file))?;

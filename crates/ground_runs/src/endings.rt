@@ -17,7 +17,7 @@ use table_forms::{TableFault, find_refusal};
 const TOO_LONG: u8 = 9;
 
 /// The reason of an entry whose read the memory of the scenario doesn't give.
-const NOT_GIVEN: u8 = 10;
+pub const NOT_GIVEN: u8 = 10;
 
 /// The line of a scenario's text, as far as it can be read again.
 fn line_of<R: Files + AllocGlobal>(rt: &R, path: &str, number: u32) -> Vec<u8> {
@@ -118,29 +118,44 @@ fn status_of_end(end: End) -> Status
     }
 }
 
-/// Tells why a rehearsal ended, but for a failed write.
-fn tell_cause<R: Files + Eprint + AllocGlobal>(
-    rt: &R,
-    path: &str,
-    report: &Report,
-) -> io::Result<()> {
-    match report.status {
-        End::Done | End::WriteFailed => Ok(()),
-        End::WordsRefused => eprintln!(rt;
-            "the words are refused: `--workers` takes 1 to 16, and at most 100 files may follow"
-        ),
-        End::FileRefused => tell_file(rt, path, report),
-        End::ScenarioRefused => tell_line(rt, path, report),
-        End::ReadFailed => tell_unread(rt, path),
-        End::NoMemory => eprintln!(rt; "memory ran out"),
+/// Who tells why a rehearsal ended.
+pub trait CauseTeller {
+    /// Tells why a rehearsal ended, but for a failed write.
+    fn tell_cause<R: Files + Eprint + AllocGlobal>(
+        &self,
+        rt: &R,
+        report: &Report,
+    ) -> io::Result<()>;
+}
+
+impl CauseTeller for Run<'_> {
+    fn tell_cause<R: Files + Eprint + AllocGlobal>(
+        &self,
+        rt: &R,
+        report: &Report,
+    ) -> io::Result<()> {
+        let path = self.input_path(report.file);
+        match report.status {
+            End::Done | End::WriteFailed => Ok(()),
+            End::WordsRefused => eprintln!(rt;
+                "the words are refused: `--workers` takes 1 to 16, and at most 100 files may follow"
+            ),
+            End::FileRefused => tell_file(rt, path, report),
+            End::ScenarioRefused => tell_line(rt, path, report),
+            End::ReadFailed => tell_unread(rt, path),
+            End::NoMemory => eprintln!(rt; "memory ran out"),
+        }
     }
 }
 
 /// Tells how a rehearsal ended, but for a failed write, and answers the status.
-pub fn tell_end<R: Files + Eprint + AllocGlobal>(rt: &R, run: &Run<'_>, report: &Report) -> Status {
-    let path = run.input_path(report.file);
+pub fn tell_end<R: Files + Eprint + AllocGlobal, T: CauseTeller>(
+    rt: &R,
+    teller: &T,
+    report: &Report,
+) -> Status {
     // There is no other place to tell it.
-    let _told = tell_cause(rt, path, report);
+    let _told = teller.tell_cause(rt, report);
     status_of_end(report.status)
 }
 

@@ -8,5 +8,7 @@ mod rehearsing;
 mod running;
 
 pub use asked_run::Run;
+pub use endings::{CauseTeller, NOT_GIVEN};
 pub use line_causes::{find_line, line_cause};
-pub use running::run_scenario;
+pub use rehearsing::rehearse_on;
+pub use running::{Rehearsal, run_rehearsal, run_scenario};

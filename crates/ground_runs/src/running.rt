@@ -1,15 +1,16 @@
 //! The verb that rehearses.
 
 use crate::asked_run::Run;
-use crate::endings::{is_whole, tell_end, tell_trouble};
-use crate::rehearsing::{rehearse, rehearse_drill};
-use fsw_outside::StdSink;
+use crate::endings::{CauseTeller, is_whole, tell_end, tell_trouble};
+use crate::rehearsing::rehearse_on;
+use fsw_outside::{FileShelf, Shelf, StdSink};
 use ground_files::{
-    Output, PartFile, Status, open_output, output_name, settle, tell_replaced, tell_unwritten,
+    Output, PartFile, Status, open_output, output_name, settle, tell_no_memory, tell_replaced,
+    tell_unwritten,
 };
 use ground_summaries::{summary_of, unwanted_of};
 use ground_tools::{ToldLog, Trouble};
-use rehearsal::{Report, Status as End};
+use rehearsal::{Report, Status as End, Words};
 use std::io::{self, Printer, Write};
 use std::rt::Files;
 use std::thread::Threads;
@@ -79,14 +80,16 @@ where
 }
 
 /// Ends a rehearsal: tells why it ended, or sums it up.
-fn end_run<R, L, W>(
+fn end_run<R, T, L, W>(
     rt: &R,
     run: &Run<'_>,
+    teller: &T,
     report: &Report,
     told: &mut ToldLog<StdSink<L>, StdSink<W>>,
 ) -> Status
 where
     R: Files + Eprint + AllocGlobal,
+    T: CauseTeller,
     L: Write + Drop,
     W: Write + Drop,
 {
@@ -94,7 +97,7 @@ where
     if trouble.is_some() || report.status == End::WriteFailed {
         return tell_trouble(rt, run, trouble);
     }
-    let status = tell_end(rt, run, report);
+    let status = tell_end(rt, teller, report);
     if status != Status::Done && report.frames == 0 {
         return status;
     }
@@ -111,54 +114,77 @@ struct Ending {
     frames: u32,
 }
 
-/// Rehearses a generated scenario into the words' output.
-fn run_drill<R, W>(rt: &R, run: &Run<'_>, out: W) -> Ending
-where
-    R: Threads + Sync + Files + Eprint + AllocGlobal,
-    W: Write + Drop,
-{
-    match rehearse_drill(rt, run, out) {
-        Ok(report) => Ending {
-            status: end_drill(rt, run, &report),
-            frames: report.frames,
-        },
-        Err(_) => Ending {
-            status: tell_trouble(rt, run, Some(Trouble::Memory)),
+impl Ending {
+    /// Memory ran out before the rehearsal began.
+    fn without_memory<R: Eprint>(rt: &R) -> Ending {
+        Ending {
+            status: tell_no_memory(rt),
             frames: 0,
-        },
+        }
     }
 }
 
 /// Tells how the rehearsal of a generated scenario ended, and answers the status.
-fn end_drill<R: Files + Eprint + AllocGlobal>(rt: &R, run: &Run<'_>, report: &Report) -> Status {
+fn end_drill<R: Files + Eprint + AllocGlobal, T: CauseTeller>(
+    rt: &R,
+    run: &Run<'_>,
+    teller: &T,
+    report: &Report,
+) -> Status {
     if report.status == End::WriteFailed {
         return tell_trouble(rt, run, Some(Trouble::Words));
     }
-    tell_end(rt, run, report)
+    tell_end(rt, teller, report)
+}
+
+/// What is rehearsed: the words for it, a shelf that has the files that they name, and who tells why it ended.
+#[derive(Drop)]
+pub struct Rehearsal<S: Shelf + Drop, T: CauseTeller + Drop> {
+    pub words: Words,
+    pub shelf: S,
+    pub teller: T,
+}
+
+/// Rehearses a generated scenario into the words' output, where its summary is written as it is.
+fn run_drill<R, S, T, W>(rt: &R, run: &Run<'_>, what: Rehearsal<S, T>, out: W) -> Ending
+where
+    R: Threads + Sync + Files + Eprint + AllocGlobal,
+    S: Shelf + Drop,
+    T: CauseTeller + Drop,
+    W: Write + Drop,
+{
+    let mut what = what;
+    match rehearse_on(rt, &what.words, &mut what.shelf, &mut StdSink::new(out)) {
+        Ok(report) => Ending {
+            status: end_drill(rt, run, &what.teller, &report),
+            frames: report.frames,
+        },
+        Err(_) => Ending::without_memory(rt),
+    }
 }
 
 /// Rehearses into both outputs.
-fn run_both<R, L, W>(rt: &R, run: &Run<'_>, log: L, words: W) -> Ending
+fn run_both<R, S, T, L, W>(rt: &R, run: &Run<'_>, what: Rehearsal<S, T>, log: L, words: W) -> Ending
 where
     R: Threads + Sync + Files + Eprint + AllocGlobal,
+    S: Shelf + Drop,
+    T: CauseTeller + Drop,
     L: Write + Drop,
     W: Write + Drop,
 {
+    let mut what = what;
     let mut told = ToldLog::new(
         rt.alloc(),
         run.epoch,
         StdSink::new(log),
         StdSink::new(words),
     );
-    match rehearse(rt, run, &mut told) {
+    match rehearse_on(rt, &what.words, &mut what.shelf, &mut told) {
         Ok(report) => Ending {
-            status: end_run(rt, run, &report, &mut told),
+            status: end_run(rt, run, &what.teller, &report, &mut told),
             frames: report.frames,
         },
-        Err(_) => Ending {
-            status: tell_trouble(rt, run, Some(Trouble::Memory)),
-            frames: 0,
-        },
+        Err(_) => Ending::without_memory(rt),
     }
 }
 
@@ -186,17 +212,25 @@ impl<'a, R: Files + Eprint + AllocGlobal> Parts<'a, R> {
 }
 
 /// Rehearses into an output for the words, and opens the one for the log.
-fn carry_out<'a, R, W>(rt: &'a R, run: &Run<'_>, part: Option<PartFile<'a, R>>, words: W) -> Status
+fn carry_out<'a, R, S, T, W>(
+    rt: &'a R,
+    run: &Run<'_>,
+    what: Rehearsal<S, T>,
+    part: Option<PartFile<'a, R>>,
+    words: W,
+) -> Status
 where
     R: Threads + Sync + Files + Print + Eprint + AllocGlobal,
+    S: Shelf + Drop,
+    T: CauseTeller + Drop,
     W: Write + Drop,
 {
     match open_log(rt, run) {
         Ok((log_part, log)) => {
             let ending = if run.is_drill() {
-                run_drill(rt, run, words)
+                run_drill(rt, run, what, words)
             } else {
-                run_both(rt, run, log, words)
+                run_both(rt, run, what, log, words)
             };
             let parts = Parts {
                 log: log_part,
@@ -237,17 +271,35 @@ fn refuse<R: Files + Eprint + AllocGlobal>(rt: &R, run: &Run<'_>) -> bool {
     false
 }
 
-/// Rehearses what the words ask for: the words go to `path`, or standard output, and the log is kept in the file `log`, where one
-/// is named.
-pub fn run_scenario<R>(rt: &R, run: &Run<'_>) -> Status
+/// Rehearses this, as the words ask for it: the words of the log go to `path`, or standard output, and the log is kept in the file `log`,
+/// where one is named.
+pub fn run_rehearsal<R, S, T>(rt: &R, run: &Run<'_>, what: Rehearsal<S, T>) -> Status
 where
     R: Threads + Sync + Files + Print + Eprint + AllocGlobal,
+    S: Shelf + Drop,
+    T: CauseTeller + Drop,
 {
     if refuse(rt, run) {
         return Status::WordsRefused;
     }
     match open_output(rt, run.path) {
-        Ok((part, words)) => carry_out(rt, run, part, words),
+        Ok((part, words)) => carry_out(rt, run, what, part, words),
         Err(error) => tell_unwritten(rt, output_name(run.path), &error),
     }
+}
+
+/// Rehearses the scenario and the files that the words name.
+pub fn run_scenario<R>(rt: &R, run: &Run<'_>) -> Status
+where
+    R: Threads + Sync + Files + Print + Eprint + AllocGlobal,
+{
+    let Ok(words) = run.words(rt.alloc()) else {
+        return tell_no_memory(rt);
+    };
+    let what = Rehearsal {
+        words,
+        shelf: FileShelf::new(rt),
+        teller: *run,
+    };
+    run_rehearsal(rt, run, what)
 }
