@@ -107,7 +107,9 @@ fn table<'a>(alloc: Global) -> Result<Command<'a>, AllocError> {
 
 fn show<'a>(alloc: Global) -> Result<Command<'a>, AllocError> {
     Command::new(alloc, "show")
-        .about("Shows the file of a table, or one to be loaded, as text, from which `table` makes that file")
+        .about(
+            "Shows the file of a table, or one to be loaded, as text, from which `table` makes that file",
+        )
         .arg(epoch(alloc, "What times are shown from, such as +0:01:00"))?
         .arg(output(alloc))?
         .arg(input(
@@ -120,13 +122,32 @@ fn show<'a>(alloc: Global) -> Result<Command<'a>, AllocError> {
 
 fn scenario<'a>(alloc: Global) -> Result<Command<'a>, AllocError> {
     Command::new(alloc, "scenario")
-        .about("Makes a scenario from a plan, whose commands are words")
+        .about("Makes a scenario from a plan, whose commands are words, or from the plan of a book")
         .arg(output(alloc))?
         .arg(input(
             alloc,
             "input",
             "PLAN",
-            "The text of a plan; - is standard input",
+            "The text of a plan, or a book; - is standard input",
+        ))
+}
+
+fn build<'a>(alloc: Global) -> Result<Command<'a>, AllocError> {
+    let folder = Arg::new(alloc, "output")
+        .short('o')
+        .long("output")
+        .value_name("FOLDER")
+        .help(
+            "The folder that gets the files, made where it isn't there [default: the current one]",
+        );
+    Command::new(alloc, "build")
+        .about("Writes the files of a book, its scenario and a manifest")
+        .arg(folder)?
+        .arg(input(
+            alloc,
+            "input",
+            "BOOK",
+            "The text of a book; - is standard input",
         ))
 }
 
@@ -141,7 +162,9 @@ fn files<'a>(alloc: Global) -> Arg<'a> {
 
 fn check<'a>(alloc: Global) -> Result<Command<'a>, AllocError> {
     Command::new(alloc, "check")
-        .about("Looks at files as vigil does: why they are refused, what is odd in them, and in which order they count")
+        .about(
+            "Looks at files as vigil does, and at books: why they are refused, what is odd in them, and in which order they count",
+        )
         .arg(files(alloc).required(true))
 }
 
@@ -188,10 +211,15 @@ fn run_options<'a>(alloc: Global) -> Result<Command<'a>, AllocError> {
         "Simulated applications give the execution counters, in place of the scenario",
     );
     Command::new(alloc, "run")
-        .about("Rehearses a scenario as vigil does, and tells its log in words as it comes")
+        .about(
+            "Rehearses a scenario or a book as vigil does, and tells its log in words as it comes",
+        )
         .arg(workers(alloc))?
         .arg(has_subjects)?
-        .arg(time_of_frame_0(alloc))
+        .arg(epoch(
+            alloc,
+            "The time of frame 0, as `epoch` gives it in the scenario [default: a book's, else lines have frames]",
+        ))
 }
 
 /// What is made of a rehearsal.
@@ -213,7 +241,7 @@ fn run<'a>(alloc: Global) -> Result<Command<'a>, AllocError> {
         alloc,
         "scenario",
         "SCENARIO",
-        "The file of a scenario, or drill:K; - is standard input",
+        "The file of a scenario, a book, or drill:K; - is standard input, for a scenario alone",
     );
     run_outputs(alloc)?.arg(scenario)?.arg(files(alloc))
 }
@@ -242,6 +270,7 @@ fn with_making<'a>(alloc: Global, program: Command<'a>) -> Result<Command<'a>, A
     program
         .subcommand(table(alloc)?)?
         .subcommand(scenario(alloc)?)?
+        .subcommand(build(alloc)?)?
         .subcommand(check(alloc)?)?
         .subcommand(show(alloc)?)
 }
