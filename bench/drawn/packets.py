@@ -3,7 +3,6 @@
 import struct
 
 from making.commands import *
-from making.commands import packet
 
 CODES = {HS: range(10), MM: range(14), MD: range(5), CS: range(9), SC: range(10), LC: range(4)}
 TELEMETRY = (0x08AD, 0x0887, 0x088A, 0x088A, 0x088B, 0x0890, 0x0891, 0x0892, 0x08A4, 0x08A5, 0x08AA, 0x08A7)

@@ -23,7 +23,13 @@ class Runner:
         self.folder = tempfile.TemporaryDirectory(dir="/dev/shm" if os.path.isdir("/dev/shm") else None)
         self.out, self.err = (os.path.join(self.folder.name, name) for name in ("out", "err"))
         os.mkdir(os.path.join(self.folder.name, "files"))
+        self.is_stopped = False
         signal.signal(signal.SIGALRM, alarm)
+        for number in (signal.SIGINT, signal.SIGTERM):
+            signal.signal(number, self.stop)
+
+    def stop(self, _, __):
+        self.is_stopped = True
 
     def place(self, name):
         return os.path.join(self.folder.name, "files", name)
