@@ -43,10 +43,11 @@ class Runner:
                 file.write(data)
 
     def run(self, program, words):
-        """The status, the output and the error output of a run; the status of one that takes too long is None."""
+        """The status, the output and the error output of a run; the status of one that takes too long is None. It has a process
+        group of its own, so that what stops this script doesn't end it."""
         streams = [(os.POSIX_SPAWN_OPEN, 0, "/dev/null", os.O_RDONLY, 0)]
         streams += [(os.POSIX_SPAWN_OPEN, number, path, OUTPUTS, 0o600) for number, path in ((1, self.out), (2, self.err))]
-        child = os.posix_spawn(program, [program, *words], os.environ, file_actions=streams)
+        child = os.posix_spawn(program, [program, *words], os.environ, file_actions=streams, setpgroup=0)
         signal.alarm(LONGEST)
         try:
             status = os.waitstatus_to_exitcode(os.waitpid(child, 0)[1])
