@@ -9,6 +9,7 @@ use asks::command;
 use clap::ArgMatches;
 use clap::error::{Error, ErrorKind};
 use describing::{Description, describe};
+use ground_books::build_book;
 use ground_differences::compare_logs;
 use ground_exports::{Export, export_log};
 use ground_files::Status;
@@ -19,7 +20,7 @@ use std::process::ExitCode;
 use std::rt::Files;
 use std::thread::Threads;
 use std::{env, io};
-use verbs::{exported, log_pair, run, wanted};
+use verbs::{build, exported, log_pair, run, wanted};
 
 /// The status where the words are refused, or where they ask for help or the version.
 fn status_of_words(error: &Error) -> Status {
@@ -38,6 +39,7 @@ fn carry_out<R: Threads + Sync + Files + Input + Print + Eprint + AllocGlobal>(
 ) -> Status {
     match verb {
         "run" => run_scenario(rt, &run(asked)),
+        "build" => build_book(rt, &build(asked)),
         "table" => make_one(rt, &wanted(Making::Table, asked)),
         "scenario" => make_one(rt, &wanted(Making::Scenario, asked)),
         "show" => make_one(rt, &wanted(Making::Text, asked)),

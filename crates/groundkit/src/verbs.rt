@@ -1,6 +1,7 @@
 //! What the words of each verb ask for, by their names in the command line.
 
 use clap::ArgMatches;
+use ground_books::Build;
 use ground_differences::LogPair;
 use ground_exports::{Export, Exported};
 use ground_making::{Making, Wanted};
@@ -13,6 +14,14 @@ pub fn wanted<'a>(making: Making, asked: &'a ArgMatches<'_>) -> Wanted<'a> {
         epoch: asked.get_one::<u32>("epoch"),
         file: asked.get_str("input").unwrap_or("-"),
         path: asked.get_str("output"),
+    }
+}
+
+/// What the verb that writes the files of a book is asked for.
+pub fn build<'a>(asked: &'a ArgMatches<'_>) -> Build<'a> {
+    Build {
+        book: asked.get_str("input").unwrap_or("-"),
+        folder: asked.get_str("output"),
     }
 }
 

@@ -1,0 +1,42 @@
+-- The files that are written of a book.
+use Rattle.std.specs.Prelude.{◌≡◌, ℕ, List, [], ◌∷◌, ◌++◌, map, codes, Result, Ok, Err}
+use Rattle.std.proofs.Common.{Vec, Global}
+use Rattle.load_books.specs.declared.fault.BookFault.{BookFault}
+use Rattle.load_books.specs.declared.fault.BookError.{BookError}
+use Rattle.load_books.specs.declared.fault.BookError.TheVariants as errors
+use Rattle.load_books.specs.declared.titles.FileKind.{FileKind}
+use Rattle.load_books.specs.declared.titles.FileKind.TheVariants as kinds
+use Rattle.load_books.specs.Files.{FileMade}
+use Rattle.load_books.specs.Books.{BookMade}
+use Rattle.load_books.specs.Manifests.{manifest_said}
+use Rattle.ground_books.specs.declared.book_files.BuiltFile.{BuiltFile}
+
+-- a file by its name in the folder
+pub record Built : Type 0 where
+  pub name : List ℕ
+  pub bytes : List ℕ
+
+abbrev pub named : List ℕ → List ℕ → Built
+named name bytes = record { name = name; bytes = bytes }
+
+abbrev pub ending_of : FileKind → List ℕ
+ending_of kinds.Table = codes ".table"
+ending_of kinds.Load = codes ".load"
+
+abbrev pub file_built : FileMade → Built
+file_built m = named (m.name ++ ending_of m.kind) m.bytes
+
+-- the files in the order of their parts, the scenario and the manifest
+abbrev pub built_said : BookMade → List Built
+built_said b = map file_built b.files ++ (named (b.name ++ codes ".scenario") b.scenario ∷ named (b.name ++ codes ".manifest") (manifest_said b) ∷ [])
+
+-- ---- what the code gives
+
+abbrev pub built_seen : BuiltFile → Built
+built_seen f = named f.name.items f.bytes.items
+
+-- the files of the book that is said; a fault is told only where there is one; and memory may end
+abbrev pub GivesBuilt : Result BookMade BookFault → Result (Vec BuiltFile Global) BookError → Type 0
+GivesBuilt said (Ok files) = (b : BookMade) × (said ≡ Ok b) × (map built_seen files.items ≡ built_said b)
+GivesBuilt said (Err (errors.Memory e)) = Unit {0}
+GivesBuilt said (Err (errors.Book fault)) = said ≡ Err fault

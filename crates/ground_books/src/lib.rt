@@ -1,0 +1,8 @@
+//! The verb of groundkit that writes the files of a book.
+#![tactic(auto)]
+
+mod book_files;
+mod building;
+
+pub use book_files::{BuiltFile, built_files};
+pub use building::{Build, build_book};
