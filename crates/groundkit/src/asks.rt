@@ -211,15 +211,10 @@ fn run_options<'a>(alloc: Global) -> Result<Command<'a>, AllocError> {
         "Simulated applications give the execution counters, in place of the scenario",
     );
     Command::new(alloc, "run")
-        .about(
-            "Rehearses a scenario or a book as vigil does, and tells its log in words as it comes",
-        )
+        .about("Rehearses a scenario as vigil does, and tells its log in words as it comes")
         .arg(workers(alloc))?
         .arg(has_subjects)?
-        .arg(epoch(
-            alloc,
-            "The time of frame 0, as `epoch` gives it in the scenario [default: a book's, else lines have frames]",
-        ))
+        .arg(time_of_frame_0(alloc))
 }
 
 /// What is made of a rehearsal.
@@ -241,7 +236,7 @@ fn run<'a>(alloc: Global) -> Result<Command<'a>, AllocError> {
         alloc,
         "scenario",
         "SCENARIO",
-        "The file of a scenario, a book, or drill:K; - is standard input, for a scenario alone",
+        "The file of a scenario, or drill:K; - is standard input",
     );
     run_outputs(alloc)?.arg(scenario)?.arg(files(alloc))
 }
