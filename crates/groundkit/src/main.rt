@@ -9,18 +9,15 @@ use asks::command;
 use clap::ArgMatches;
 use clap::error::{Error, ErrorKind};
 use describing::{Description, describe};
-use ground_books::build_book;
-use ground_differences::compare_logs;
-use ground_exports::{Export, export_log};
+use ground_exports::Export;
 use ground_files::Status;
-use ground_making::{Making, check_files, make_one};
-use ground_runs::run_scenario;
+use ground_making::{Making, check_files};
 use std::alloc::AllocError;
 use std::process::ExitCode;
 use std::rt::Files;
 use std::thread::Threads;
 use std::{env, io};
-use verbs::{build, exported, log_pair, run, wanted};
+use verbs::{build, compare, export, make, rehearse};
 
 /// The status where the words are refused, or where they ask for help or the version.
 fn status_of_words(error: &Error) -> Status {
@@ -38,18 +35,18 @@ fn carry_out<R: Threads + Sync + Files + Input + Print + Eprint + AllocGlobal>(
     asked: &ArgMatches<'_>,
 ) -> Status {
     match verb {
-        "run" => run_scenario(rt, &run(asked)),
-        "build" => build_book(rt, &build(asked)),
-        "table" => make_one(rt, &wanted(Making::Table, asked)),
-        "scenario" => make_one(rt, &wanted(Making::Scenario, asked)),
-        "show" => make_one(rt, &wanted(Making::Text, asked)),
+        "run" => rehearse(rt, asked),
+        "build" => build(rt, asked),
+        "table" => make(rt, Making::Table, asked),
+        "scenario" => make(rt, Making::Scenario, asked),
+        "show" => make(rt, Making::Text, asked),
         "check" => check_files(rt, asked.get_strs("files").unwrap_or(&[])),
-        "csv" => export_log(rt, &exported(Export::Rows, asked)),
-        "pcap" => export_log(rt, &exported(Export::Capture, asked)),
-        "diff" => compare_logs(rt, &log_pair(asked)),
+        "csv" => export(rt, Export::Rows, asked),
+        "pcap" => export(rt, Export::Capture, asked),
+        "diff" => compare(rt, asked),
         "completions" => describe(rt, Description::of_shell(asked), asked),
         "man" => describe(rt, Description::Manual, asked),
-        _ => export_log(rt, &exported(Export::Words, asked)),
+        _ => export(rt, Export::Words, asked),
     }
 }
 

@@ -1,53 +1,74 @@
-//! What the words of each verb ask for, by their names in the command line.
+//! What the words of each verb ask for, by their names in the command line, and the call that does it.
 
 use clap::ArgMatches;
-use ground_books::Build;
-use ground_differences::LogPair;
-use ground_exports::{Export, Exported};
-use ground_making::{Making, Wanted};
-use ground_runs::Run;
+use ground_books::{Build, build_book};
+use ground_differences::{LogPair, compare_logs};
+use ground_exports::{Export, Exported, export_log};
+use ground_files::Status;
+use ground_making::{Making, Wanted, make_one};
+use ground_runs::{Run, run_scenario};
+use std::rt::Files;
+use std::thread::Threads;
 
-/// What a verb that makes a file of another is asked for.
-pub fn wanted<'a>(making: Making, asked: &'a ArgMatches<'_>) -> Wanted<'a> {
-    Wanted {
+/// A verb that makes a file of another.
+pub fn make<R: Files + Input + Print + Eprint + AllocGlobal>(
+    rt: &R,
+    making: Making,
+    asked: &ArgMatches<'_>,
+) -> Status {
+    let wanted = Wanted {
         making,
         epoch: asked.get_one::<u32>("epoch"),
         file: asked.get_str("input").unwrap_or("-"),
         path: asked.get_str("output"),
-    }
+    };
+    make_one(rt, &wanted)
 }
 
-/// What the verb that writes the files of a book is asked for.
-pub fn build<'a>(asked: &'a ArgMatches<'_>) -> Build<'a> {
-    Build {
+/// The verb that writes the files of a book.
+pub fn build<R: Files + Input + Eprint + AllocGlobal>(rt: &R, asked: &ArgMatches<'_>) -> Status {
+    let build = Build {
         book: asked.get_str("input").unwrap_or("-"),
         folder: asked.get_str("output"),
-    }
+    };
+    build_book(rt, &build)
 }
 
-/// What a verb that makes something of a log is asked for.
-pub fn exported<'a>(export: Export, asked: &'a ArgMatches<'_>) -> Exported<'a> {
-    Exported {
+/// A verb that makes something of a log.
+pub fn export<R: Files + Input + Print + Eprint + AllocGlobal>(
+    rt: &R,
+    export: Export,
+    asked: &ArgMatches<'_>,
+) -> Status {
+    let exported = Exported {
         export,
         epoch: asked.get_one::<u32>("epoch"),
         file: asked.get_str("input").unwrap_or("-"),
         path: asked.get_str("output"),
-    }
+    };
+    export_log(rt, &exported)
 }
 
-/// What the verb that compares is asked for.
-pub fn log_pair<'a>(asked: &'a ArgMatches<'_>) -> LogPair<'a> {
-    LogPair {
+/// The verb that compares two logs.
+pub fn compare<R: Files + Input + Print + Eprint + AllocGlobal>(
+    rt: &R,
+    asked: &ArgMatches<'_>,
+) -> Status {
+    let pair = LogPair {
         one: asked.get_str("one").unwrap_or("-"),
         other: asked.get_str("other").unwrap_or("-"),
         epoch: asked.get_one::<u32>("epoch"),
         path: asked.get_str("output"),
-    }
+    };
+    compare_logs(rt, &pair)
 }
 
-/// What the verb that rehearses is asked for.
-pub fn run<'a>(asked: &'a ArgMatches<'_>) -> Run<'a> {
-    Run {
+/// The verb that rehearses.
+pub fn rehearse<R>(rt: &R, asked: &ArgMatches<'_>) -> Status
+where
+    R: Threads + Sync + Files + Print + Eprint + AllocGlobal,
+{
+    let run = Run {
         scenario: asked.get_str("scenario").unwrap_or("-"),
         files: asked.get_strs("files").unwrap_or(&[]),
         workers: asked.get_str("workers"),
@@ -57,5 +78,6 @@ pub fn run<'a>(asked: &'a ArgMatches<'_>) -> Run<'a> {
         allowed: asked.get_strs("allow").unwrap_or(&[]),
         log: asked.get_str("log"),
         path: asked.get_str("output"),
-    }
+    };
+    run_scenario(rt, &run)
 }

@@ -133,22 +133,6 @@ fn fewer_workers_than_there_are(rt: HostRuntime) -> Result<(), Fail> {
     Ok(())
 }
 
-/// Two of five jobs are chosen, in which two workers meet: the results of the others are those of the run before.
-#[test]
-fn chosen_jobs_alone(rt: HostRuntime) -> Result<(), Fail> {
-    let mut crew = Crew::<Cell>::open(rt.alloc(), 16, 5)?;
-    crew.run(&rt, &FIVE, &OpenGate);
-    let later = FIVE.map(|number| Number(number.0.saturating_add(10)));
-    let gate = Meeting::new(0b1_0010, 0b1_0010);
-    let way = crew.run_chosen(&rt, 2, &later, &[1, 4], &gate);
-    assert_eq!(rt; way, Way::Shared);
-    assert_eq!(rt; gate.met(), 0b1_0010);
-    let results = [0, 1, 2, 3, 4].map(|job| crew.result(job).value);
-    assert_eq!(rt; results, [10, 21, 12, 13, 24]);
-    assert!(rt; crew.drawn(2).is_empty());
-    Ok(())
-}
-
 /// Two workers, and a gate that holds one job until the four others have entered. Fixed shares and invented lists fail for some job.
 fn one_job_held<R: Threads + Abort + Sync>(rt: &R, alloc: Global, held: u32) -> Result<(), Fail>
     requires { held < 5 }
