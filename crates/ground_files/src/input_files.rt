@@ -2,17 +2,22 @@
 
 use crate::stream_names::is_stream;
 use std::fs;
-use std::io::{self, Read};
+use std::io::{self, ErrorKind, Read};
 use std::rt::Files;
 
-/// The bytes of a file; `-` is standard input.
+/// The most bytes of an input that is read whole: more than a hundred loads and a scenario have, and less than a machine's memory, which
+/// a device without an end would fill.
+const MOST_READ: u64 = 268_435_456;
+
+/// The bytes of a file, at most 268,435,456; `-` is standard input.
 pub fn get<R: Files + Input + AllocGlobal>(rt: &R, name: &str) -> io::Result<Vec<u8>> {
-    if is_stream(name) {
-        let mut bytes = Vec::new(rt.alloc());
-        rt.reader().read_to_end(&mut bytes)?;
-        return Ok(bytes);
+    let mut bytes = Vec::new(rt.alloc());
+    let mut from = open_input(rt, name)?.take(MOST_READ + 1);
+    from.read_to_end(&mut bytes)?;
+    if bytes.len() as u64 > MOST_READ {
+        return Err(io::Error::from(ErrorKind::FileTooLarge));
     }
-    fs::read(rt, name)
+    Ok(bytes)
 }
 
 /// Where bytes come from.
