@@ -7,7 +7,7 @@ import sys
 
 sys.dont_write_bytecode = True
 BENCH = pathlib.Path(__file__).resolve().parent.parent
-sys.path.insert(0, str(BENCH.parent / "examples"))
+sys.path.insert(0, str(BENCH))
 
 
 def script(name):

@@ -1,4 +1,4 @@
-"""What examples/make is made of."""
+"""What bench/cases is made of."""
 
 
 class Wrong(ValueError):

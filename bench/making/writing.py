@@ -6,18 +6,8 @@ from making.cases import cases_in
 from making.words import SENT, counted, usage
 
 TOP = pathlib.Path(__file__).resolve().parent.parent.parent
-DOCUMENT = TOP / "docs" / "COMMANDS.md"
+COMMANDS, REHEARSALS = TOP / "docs" / "COMMANDS.md", TOP / "docs" / "REHEARSALS.md"
 PROGRAM = TOP / "crates" / "rehearsals"
-FIRST = TOP / "examples" / "first"
-
-
-def first_files(case):
-    """The files of the first example, for a user who follows the README, and a page on it."""
-    (rehearsal,) = case.rehearsals
-    words = " ".join(f"examples/first/{word}" for word in rehearsal.words)
-    page = f"# first\n\n{case.about}\n\n    crates/vigil/out/vigil {words}\n"
-    files = {**rehearsal.files, "log": rehearsal.log.encode(), "README.md": page.encode()}
-    return {FIRST / name: data for name, data in files.items()}
 
 
 def wanted(cases):
@@ -26,33 +16,33 @@ def wanted(cases):
     files = {PROGRAM / "data" / path: data for rehearsal in rehearsals for path, data in rehearsal.written().items()}
     files[PROGRAM / "stdin"] = "".join(rehearsal.line() + "\n" for rehearsal in rehearsals).encode()
     files[PROGRAM / "stdout"] = f"{len(rehearsals)} cases, 0 not as wanted\n".encode()
-    for case in cases:
-        if case.name == "first":
-            files.update(first_files(case))
     return files
 
 
 def unlisted(cases):
-    """The commands of the case `commands` and the forms of `send` that docs/COMMANDS.md lacks."""
-    document = DOCUMENT.read_text().split("`")
-    lines = list(map(usage, SENT))
-    for case in cases:
-        if case.name == "commands":
-            lines += [line for line in case.rehearsals[0].files["scenario.txt"].decode().splitlines() if line.startswith("send ")]
-    return [line for line in lines if line not in document]
+    """The commands of the case `commands` that docs/COMMANDS.md lacks, and the functions that docs/REHEARSALS.md lacks."""
+    lines = [line for case in cases if case.name == "commands" for line in case.rehearsals[0].files["scenario.txt"].decode().splitlines()]
+    sent = [line for line in lines if line.startswith("send ")]
+    return missing(COMMANDS, sent) + missing(REHEARSALS, map(usage, SENT))
+
+
+def missing(document, lines):
+    """Tells which of these lines a document doesn't have between backquotes."""
+    listed = document.read_text().split("`")
+    return [f"{document.relative_to(TOP)} lacks `{line}`" for line in lines if line not in listed]
 
 
 def is_text(path):
-    """Whether a file is the text of a table, which examples/texts writes and compares."""
+    """Whether a file is the text of a table or a load, which bench/case_texts writes and compares."""
     return path.suffix == ".text"
 
 
 def differences(cases):
     files = wanted(cases)
     told = [f"{path.relative_to(TOP)} isn't what this script writes" for path, data in files.items() if not path.is_file() or path.read_bytes() != data]
-    for folder in PROGRAM / "data", FIRST:
-        told += [f"{path.relative_to(TOP)} isn't written by this script" for path in sorted(folder.rglob("*")) if path.is_file() and path not in files and not is_text(path)]
-    return told + [f"docs/COMMANDS.md lacks `{line}`" for line in unlisted(cases)]
+    folder = PROGRAM / "data"
+    told += [f"{path.relative_to(TOP)} isn't written by this script" for path in sorted(folder.rglob("*")) if path.is_file() and path not in files and not is_text(path)]
+    return told + unlisted(cases)
 
 
 def check(words):
@@ -69,10 +59,9 @@ def check(words):
 def write(_):
     """Writes all files, in place of those that stand there. The texts of tables stay."""
     files = wanted(cases_in(PROGRAM / "cases"))
-    for folder in PROGRAM / "data", FIRST:
-        for path in folder.rglob("*"):
-            if path.is_file() and not is_text(path):
-                path.unlink()
+    for path in (PROGRAM / "data").rglob("*"):
+        if path.is_file() and not is_text(path):
+            path.unlink()
     for path, data in files.items():
         path.parent.mkdir(parents=True, exist_ok=True)
         path.write_bytes(data)

@@ -41,7 +41,7 @@ def plan_text(program: Path, seeds: str = "0..9", more: str = "") -> str:
     files = ", ".join(f'"{name}"' for name in FILES)
     return f"""
 program = "{program}"
-scenarios = ["contingencies/*.txt"]
+scenarios = ["contingencies/*.scenario"]
 questions = ["never drop any"]
 allow = ["CS any", "HS any"]
 batch = 4
@@ -52,7 +52,7 @@ next = ["apps_next.table", {files}]
 
 [[drawn]]
 name = "stalls"
-scenario = "contingencies/upset.txt"
+scenario = "contingencies/upset.scenario"
 seeds = "{seeds}"
 faults = [{{ kind = "hang", often = 1, name = "LOAD", between = "5..15", frames = "1..8" }}]
 """

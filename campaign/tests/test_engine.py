@@ -169,17 +169,17 @@ def test_what_can_t_be_run_is_told_as_rows(folder: Path) -> None:
     """One scenario kills each worker that runs it, and one takes too long; the others are as they are."""
     fake = folder / "fake"
     fake.write_text(FAKE)
-    upset = folder / "contingencies" / "upset.txt"
-    (folder / "contingencies" / "kills.txt").write_text(upset.read_text() + "# kill_the_worker\n")
-    (folder / "contingencies" / "sleeps.txt").write_text(upset.read_text() + "# take_long\n")
+    upset = folder / "contingencies" / "upset.scenario"
+    (folder / "contingencies" / "kills.scenario").write_text(upset.read_text() + "# kill_the_worker\n")
+    (folder / "contingencies" / "sleeps.scenario").write_text(upset.read_text() + "# take_long\n")
     (folder / "PLAN.toml").write_text(plan_text(fake, "0..3", "seconds = 1"))
     assert run(folder) == 2
     told = {(row[0], row[1]) for row in rows(folder, "scenario, outcome")}
     assert told == {
-        ("contingencies/kills.txt", "worker died"),
-        ("contingencies/sleeps.txt", "time limit"),
-        ("contingencies/stalled.txt", "ran"),
-        ("contingencies/upset.txt", "ran"),
+        ("contingencies/kills.scenario", "worker died"),
+        ("contingencies/sleeps.scenario", "time limit"),
+        ("contingencies/stalled.scenario", "ran"),
+        ("contingencies/upset.scenario", "ran"),
         ("stalls", "ran"),
     }
     assert len(rows(folder)) == 16

@@ -111,9 +111,9 @@ def test_logs_part_where_their_lines_do() -> None:
         ("batch = 4", "batch = true", "PLAN.toml: batch: True isn't of the type int"),
         ('"apps_next.table"', '"apps_text.table"', "PLAN.toml: sets.next[0]: "),
         ('"apps_next.table"', "7", "PLAN.toml: sets.next: it is a list of strings"),
-        ("contingencies/*.txt", "contingencies/*.text", "PLAN.toml: scenarios[0]: no file of "),
-        ("contingencies/*.txt", "", "PLAN.toml: scenarios[0]: no file of "),
-        ("contingencies/*.txt", "drill:9..1", "PLAN.toml: scenarios[0]: '9..1' ends before it begins"),
+        ("contingencies/*.scenario", "contingencies/*.text", "PLAN.toml: scenarios[0]: no file of "),
+        ("contingencies/*.scenario", "", "PLAN.toml: scenarios[0]: no file of "),
+        ("contingencies/*.scenario", "drill:9..1", "PLAN.toml: scenarios[0]: '9..1' ends before it begins"),
         ("never drop any", "never drop all", "PLAN.toml: questions[0]: a drop is written as"),
         ("CS any", "CS 101 type 3", "PLAN.toml: allow[0]: "),
         ("0..9", "0-9", "PLAN.toml: drawn[0].seeds: '0-9' is no number and no span"),
@@ -138,9 +138,9 @@ def test_a_plan_s_fault_is_told_with_its_place(folder: Path, old: str, new: str,
 
 
 def test_faults_over_a_bad_scenario_are_refused_with_its_line(folder: Path) -> None:
-    path = folder / "contingencies" / "upset.txt"
+    path = folder / "contingencies" / "upset.scenario"
     path.write_text(path.read_text().replace("app LOAD 3", "app LOAD -3"))
-    with pytest.raises(Wrong, match=r"drawn\[0\].scenario: .*upset.txt: line 10: '-3' isn't a number .*reason 2"):
+    with pytest.raises(Wrong, match=r"drawn\[0\].scenario: .*upset.scenario: line 9: '-3' isn't a number .*reason 2"):
         Plan.read(folder / "PLAN.toml")
 
 

@@ -16,7 +16,7 @@ from campaign.faults import KINDS, Hang, Upset, perturbed
 from campaign.scenario import Refused, Scenario
 
 REHEARSED = ["checksum", "commands", "dwell", "eeprom", "first", "health", "held", "limits", "loads", "refused_file", "refused_scenario", "reset", "sequence_mistake", "sequences", "standby", "subjects"]
-SCENARIOS = [*(CASES / name / "scenario.txt" for name in REHEARSED), *sorted(EXAMPLES.glob("campaign/contingencies/*.txt"))]
+SCENARIOS = [*(CASES / name / "scenario.txt" for name in REHEARSED), *sorted(EXAMPLES.glob("campaign/contingencies/*.scenario"))]
 FULL_FRAME = "app LOAD 1\n" * 63 + "activate 2\ntick\n"
 HEAD = "epoch 7\nregion RAM 0x1000 16\nstart\n"
 EDGES = {

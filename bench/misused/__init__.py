@@ -1,0 +1,1 @@
+"""Parts of bench/hostile that stand in files of their own."""
