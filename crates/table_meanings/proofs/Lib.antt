@@ -1,0 +1,11 @@
+pub mod MeaningLemmas
+pub mod ChunkLemmas
+pub mod PlacedLemmas
+pub mod SaidLemmas
+pub mod KindLemmas
+pub mod FrontLemmas
+pub mod MessageLemmas
+pub mod CommandLemmas
+pub mod TimedLemmas
+pub mod ItemLemmas
+pub mod TextLemmas

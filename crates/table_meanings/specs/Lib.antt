@@ -1,0 +1,6 @@
+pub mod Meanings
+pub mod Entries
+pub mod Tables
+pub mod Sequences
+pub mod Texts
+pub mod Worked

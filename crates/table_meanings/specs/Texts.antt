@@ -1,0 +1,64 @@
+-- What the texts of tables mean: the entries that the tables' loaders read in their files.
+use Rattle.std.specs.Prelude.{◌≡◌, ℕ, ◌==◌, false, List, [], ◌∷◌, map, Option, Some, None, option_map, Result, Ok, Err}
+use Rattle.table_files.specs.Headers.{payload_of_file}
+use Rattle.table_files.specs.declared.kinds.TableKind.{TableKind}
+use Rattle.table_files.specs.declared.kinds.TableKind.TheVariants.{AppMon, EventMon, ExeCount, MsgActs, Ats, Rts, Dwell, Eeprom, Memory, Wdt, Adt}
+use Rattle.table_texts.specs.Lines.{Numbered, kept_of}
+use Rattle.table_texts.specs.Endings.{behind_first}
+use Rattle.hs_tables.specs.Apps as apps
+use Rattle.hs_tables.specs.Events as events
+use Rattle.hs_tables.specs.Counters as counters
+use Rattle.hs_tables.specs.Actions as actions
+use Rattle.md_dwell.specs.Tables.{dwell_of}
+use Rattle.cs_slices.specs.Tables.{segments_of}
+use Rattle.lc_watch.specs.Watchpoints as watchpoints
+use Rattle.lc_watch.specs.Actionpoints as actionpoints
+use Rattle.sc_tables.specs.Absolute.{stored_ats}
+use Rattle.sc_tables.specs.Relative.{stored_rts}
+use Rattle.table_forms.specs.declared.fault.TableFault.{TableFault}
+use Rattle.table_forms.specs.declared.forms.TextForms.{TextForms}
+use Rattle.table_forms.specs.Layouts.{all_layouts}
+use Rattle.table_forms.specs.Reading.{First, first_said}
+use Rattle.table_meanings.specs.Meanings.{meanings_said, amount_in}
+use Rattle.table_meanings.specs.Entries.{EntryMeaning, entries_meant}
+use Rattle.table_meanings.specs.Tables.{counters_meaning, apps_meaning, events_meaning, messages_meaning, dwells_meaning, segments_meaning, watchpoints_meaning, actionpoints_meaning}
+use Rattle.table_meanings.specs.Sequences.{timed_meant, relative_meant, has_raw, commands_meant}
+
+-- a loader's entries are those that lines mean, so many
+abbrev pub Mean : {E : Type 0} → EntryMeaning E → ℕ → List Numbered → List E → Type 0
+Mean m count lines entries = map Some entries ≡ entries_meant m count lines
+
+-- a dwell table's first line says whether it is enabled, and the lines behind it its entries
+pub record DwellMeans (epoch : Option ℕ) (head : Numbered) (more : List Numbered) (payload : List ℕ) : Type 0 where
+  pub enabled : option_map (λ ms. amount_in ms 0 == 1) (meanings_said epoch all_layouts.head.now (behind_first head.words)) ≡ Some (dwell_of payload).enabled
+  pub entries : Mean (dwells_meaning epoch) 25 more (dwell_of payload).entries
+
+abbrev pub HeadedMeans : Option ℕ → List Numbered → List ℕ → Type 0
+HeadedMeans epoch [] payload = ⊥
+HeadedMeans epoch (head ∷ more) payload = DwellMeans epoch head more payload
+
+-- what is stored of a payload are the commands of the lines, where none of these has bytes in place of words
+abbrev pub SequenceMeans : {E F : Type 0} → (List (List ℕ) → Option E) → List Numbered → Result (List E) F → Type 0
+SequenceMeans {E = E} said lines stored = has_raw lines ≡ false → (commands : List E) × (commands_meant said lines ≡ Some commands) × (stored ≡ Ok commands)
+
+-- the entries that the loader of a kind reads in a payload are those that these lines mean
+abbrev pub PayloadMeans : TextForms → TableKind → List Numbered → List ℕ → Type 0
+PayloadMeans f AppMon lines payload = Mean (apps_meaning f.epoch) 32 lines (apps.rows_of payload)
+PayloadMeans f EventMon lines payload = Mean (events_meaning f.epoch) 16 lines (events.rows_of payload)
+PayloadMeans f ExeCount lines payload = Mean (counters_meaning f.epoch) 32 lines (counters.rows_of payload)
+PayloadMeans f MsgActs lines payload = Mean (messages_meaning f.epoch f.commands.now) 8 lines (actions.rows_of payload)
+PayloadMeans f (Ats n) lines payload = SequenceMeans (timed_meant f.epoch f.commands.now) lines (stored_ats payload)
+PayloadMeans f (Rts n) lines payload = SequenceMeans (relative_meant f.epoch f.commands.now) lines (stored_rts payload)
+PayloadMeans f (Dwell n) lines payload = HeadedMeans f.epoch lines payload
+PayloadMeans f Eeprom lines payload = Mean (segments_meaning f.epoch) 16 lines (segments_of payload)
+PayloadMeans f Memory lines payload = Mean (segments_meaning f.epoch) 16 lines (segments_of payload)
+PayloadMeans f Wdt lines payload = Mean (watchpoints_meaning f.epoch) 32 lines (watchpoints.rows_of payload)
+PayloadMeans f Adt lines payload = Mean (actionpoints_meaning f.epoch) 16 lines (actionpoints.rows_of payload)
+
+abbrev pub FirstMeans : TextForms → Result First TableFault → List ℕ → Type 0
+FirstMeans f (Ok first) file = PayloadMeans f first.kind first.more (payload_of_file file)
+FirstMeans f (Err fault) file = ⊥
+
+-- the entries that the loader of the table that a text names reads in a file are those that the text's lines mean
+abbrev pub TextMeans : TextForms → List ℕ → List ℕ → Type 0
+TextMeans f text file = FirstMeans f (first_said (kept_of 1 text)) file
