@@ -7,21 +7,22 @@ use Rattle.std.proofs.Math.Seq.{drop-append-add}
 use Rattle.packet_forms.specs.Numbers.{be16_at, be32_at}
 
 -- an entry of zero bytes among others of them
+gap_by : (s i d all left : ℕ) (behind : List ℕ) → all ≡ s * i + left → left ≡ s + d * s → take s (drop (s * i) (replicate all 0 ++ behind)) ≡ replicate s 0
+gap_by s i d all left behind whole rest =
+    let long : length {A = ℕ} (replicate all 0) ≡ all = length-replicate all 0 in
+    let long_left : length {A = ℕ} (replicate left 0) ≡ left = length-replicate left 0 in
+    let few : s * i ≤ length {A = ℕ} (replicate all 0) = omega (arith, whole, long) in
+    let room : s ≤ length {A = ℕ} (replicate left 0) = omega (arith, rest, long_left) in
+    let same : all - s * i ≡ left = omega (arith, whole) in
+    let cut : drop (s * i) (replicate all 0 ++ behind) ≡ replicate left 0 ++ behind =
+        drop-append-le (s * i) (replicate all 0) behind few ∙ ap (λ (xs : List ℕ). xs ++ behind) (drop-replicate (s * i) all 0 ∙ ap (λ (n : ℕ). replicate n 0) same) in
+    ap (take s) cut ∙ take-append-le s (replicate left 0) behind room ∙ take-replicate s left 0 (omega (arith, rest))
+
 pub chunk_gap : (s m i : ℕ) (behind : List ℕ) → i < m → take s (drop (s * i) (replicate (m * s) 0 ++ behind)) ≡ replicate s 0
 chunk_gap s m i behind before =
-    let d = m - 1 - i in
-    let parts : m ≡ i + 1 + d = omega arith in
-    let whole : (i + 1 + d) * s ≡ s * i + s + d * s = omega arith in
-    let same : m * s ≡ s * i + s + d * s = ap (λ (k : ℕ). k * s) parts ∙ whole in
-    let long : length {A = ℕ} (replicate (m * s) 0) ≡ m * s = length-replicate (m * s) 0 in
-    let left : m * s - s * i ≡ s + d * s = omega (arith, same) in
-    let long_left : length {A = ℕ} (replicate (m * s - s * i) 0) ≡ m * s - s * i = length-replicate (m * s - s * i) 0 in
-    let few : s * i ≤ length {A = ℕ} (replicate (m * s) 0) = omega (arith, same, long) in
-    let room : s ≤ length {A = ℕ} (replicate (m * s - s * i) 0) = omega (arith, left, long_left) in
-    let within : s ≤ m * s - s * i = omega (arith, left) in
-    ap (take s) (drop-append-le (s * i) (replicate (m * s) 0) behind few ∙ ap (λ (xs : List ℕ). xs ++ behind) (drop-replicate (s * i) (m * s) 0))
-    ∙ take-append-le s (replicate (m * s - s * i) 0) behind room
-    ∙ take-replicate s (m * s - s * i) 0 within
+    let parts : m ≡ i + 1 + (m - 1 - i) = omega (arith, before) in
+    let whole : (i + 1 + (m - 1 - i)) * s ≡ s * i + (s + (m - 1 - i) * s) = omega arith in
+    gap_by s i (m - 1 - i) (m * s) (s + (m - 1 - i) * s) behind (ap (λ (k : ℕ). k * s) parts ∙ whole) refl
 
 -- the entry behind zero bytes
 pub chunk_here : (s m : ℕ) (value rest : List ℕ) → length value ≡ s → take s (drop (s * m) ((replicate (m * s) 0 ++ value) ++ rest)) ≡ value
@@ -57,7 +58,7 @@ be32_cut n a k j p room e =
       byte_cut n a k j p (omega (arith, room)) e,
       byte_cut n a (k + 1) (j + 1) p (omega (arith, room)) (omega (arith, e)),
       byte_cut n a (k + 2) (j + 2) p (omega (arith, room)) (omega (arith, e)),
-      byte_cut n a (k + 3) (j + 3) p room (omega (arith, e))
+      byte_cut n a (k + 3) (j + 3) p room (omega (arith, e)),
     ) refl
 
 -- numbers behind so many bytes
@@ -91,5 +92,6 @@ range_same {A = A} f g a b (suc n) each =
         let pa : a + 1 + i ≡ a + (i + 1) = omega arith in
         let pb : b + 1 + i ≡ b + (i + 1) = omega arith in
         ap f pa ∙ each (i + 1) (omega arith) ∙ ap g (sym pb)
+
     ap2 : {x y : A} {xs ys : List A} → x ≡ y → xs ≡ ys → x ∷ xs ≡ y ∷ ys
     ap2 p q = cc

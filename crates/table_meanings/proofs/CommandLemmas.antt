@@ -24,7 +24,8 @@ use Rattle.sc_tables.specs.Grammar.{EntryForm, read_from, read_of, unless_refuse
 use Rattle.sc_tables.specs.Grammar as grammar
 use Rattle.sc_tables.proofs.Progress.{from_end, from_entry, some_left}
 use Rattle.sc_tables.proofs.Spelled.{IsTaken}
-use Rattle.table_meanings.specs.Sequences.{begins_raw, has_raw, command_meant, command_before, commands_meant}
+use Rattle.table_forms.specs.Payloads.{begins}
+use Rattle.table_meanings.specs.Sequences.{has_raw, command_meant, command_before, commands_meant}
 
 -- ---- what a sequence's loader reads, for every kind of command
 
@@ -65,7 +66,7 @@ read_step form spelled most done c rest entries is e =
     let one : suc most ≡ most + 1 = omega arith in
     let cut : drop (length (spelled c)) (spelled c ++ rest) ≡ rest = drop_at (spelled c) rest (length (spelled c)) refl in
     let step : read_from form (suc most) done (spelled c ++ rest) ≡ read_from form most (done ++ c ∷ []) rest =
-        rw one (from_entry form most done (spelled c ++ rest) taken.going taken.sound ∙ rw (taken.entry, taken.size, cut) refl) in
+    rw one (from_entry form most done (spelled c ++ rest) taken.going taken.sound ∙ rw (taken.entry, taken.size, cut) refl) in
     sym step ∙ e
 
 some_read : {E : Type 0} (form : EntryForm E) (spelled : E → List ℕ) (c : E) (rest : List ℕ) → IsRead form spelled c → 0 < length (spelled c ++ rest)
@@ -87,9 +88,9 @@ end_empty : grammar.is_end [] ≡ true
 unfolding grammar.is_end
 end_empty = refl
 
-raw_parts : (line : Numbered) (more : List Numbered) → has_raw (line ∷ more) ≡ false → (begins_raw line ≡ false) × (has_raw more ≡ false)
+raw_parts : (line : Numbered) (more : List Numbered) → has_raw (line ∷ more) ≡ false → (begins (codes "raw") line.words ≡ false) × (has_raw more ≡ false)
 unfolding has_raw
-raw_parts line more e = by (begins_raw line) (list_any begins_raw more) e where
+raw_parts line more e = by (begins (codes "raw") line.words) (list_any (λ line. begins (codes "raw") line.words) more) e where
   by : (a b : Bool) → (a || b) ≡ false → (a ≡ false) × (b ≡ false)
   by true b h = absurd (cc)
   by false b h = (refl, h)
@@ -107,7 +108,7 @@ unfolding sequence_said
 never_ends epoch cs fs n bytes e = cc
 
 module _ {E : Type 0} (form : EntryForm E) (spelled : E → List ℕ) (said : List (List ℕ) → Option E) (epoch : Option ℕ) (cs : List Command) (fs : List Field)
-    (item : (line : Numbered) (bytes : List ℕ) → begins_raw line ≡ false → item_said epoch cs fs line.words ≡ Ok bytes → IsItem form spelled said line.words bytes) where
+    (item : (line : Numbered) (bytes : List ℕ) → begins (codes "raw") line.words ≡ false → item_said epoch cs fs line.words ≡ Ok bytes → IsItem form spelled said line.words bytes) where
   -- what lines say is read as what they mean
   abbrev Reads : List Numbered → Type 0
   Reads lines = (n most : ℕ) (done entries : List E) (bytes : List ℕ) → has_raw lines ≡ false → sequence_said epoch cs fs n lines ≡ Ok bytes → read_from form most done bytes ≡ Ok entries → length bytes ≤ most → IsMeant said lines done entries

@@ -89,6 +89,7 @@ then_parts (Ok bytes) (Ok more) front e = (bytes, more, refl, refl, ap bytes_or 
   bytes_or : Result Front RowFault → List ℕ
   bytes_or (Ok f) = f.bytes
   bytes_or (Err fault) = []
+
   rest_or : Result Front RowFault → List (List ℕ)
   rest_or (Ok f) = f.rest
   rest_or (Err fault) = []
@@ -108,6 +109,7 @@ front_row epoch n [] ws front values e = record { said = ap Ok (ap bytes_or e); 
   bytes_or : Result Front RowFault → List ℕ
   bytes_or (Ok f) = f.bytes
   bytes_or (Err fault) = []
+
   rest_or : Result Front RowFault → List (List ℕ)
   rest_or (Ok f) = f.rest
   rest_or (Err fault) = []
@@ -160,4 +162,4 @@ stored_is epoch cs fs known ws bytes e values said =
     let long : length fs ≡ length known = sym (length-map fs placed_field) ∙ ap length e in
     let same : front_said epoch 2 fs ws ≡ front_said epoch 2 known ws = sym (front_placed epoch 2 fs ws) ∙ ap (λ (xs : List Field). front_said epoch 2 xs ws) e in
     behind_is epoch cs known ws bytes (front_said epoch 2 known ws) values refl
-      (ap (λ (k : ℕ). behind_front epoch cs (k + 2) (front_said epoch 2 known ws)) (sym long) ∙ ap (behind_front epoch cs (length fs + 2)) (sym same) ∙ said)
+    (ap (λ (k : ℕ). behind_front epoch cs (k + 2) (front_said epoch 2 known ws)) (sym long) ∙ ap (behind_front epoch cs (length fs + 2)) (sym same) ∙ said)

@@ -23,8 +23,9 @@ use Rattle.sc_tables.specs.Absolute.{timed_form}
 use Rattle.sc_tables.specs.Relative.{relative_form}
 use Rattle.sc_tables.specs.Spelling.{timed_spelled, relative_spelled}
 use Rattle.table_forms.specs.Layouts.{all_layouts, placed_field}
+use Rattle.table_forms.specs.Payloads.{begins}
 use Rattle.table_meanings.specs.Meanings.{Meaning, Amount, meanings_said, meanings_in}
-use Rattle.table_meanings.specs.Sequences.{timed_of, relative_of, timed_meant, relative_meant, begins_raw, command_meant}
+use Rattle.table_meanings.specs.Sequences.{timed_of, relative_of, timed_meant, relative_meant, command_meant}
 use Rattle.table_meanings.proofs.MeaningLemmas.{row_meanings}
 use Rattle.table_meanings.proofs.FrontLemmas.{said_packet, IsStored, stored_is}
 use Rattle.table_meanings.proofs.CommandLemmas.{IsRead, IsItem}
@@ -55,12 +56,12 @@ timed_stored epoch cs w ws bytes good named is =
     let form = said_packet epoch 4 cs (drop 2 ws) is.packet good is.command in
     let command : Timed = record { number = be16_at front 0; tag = be32_at (drop 2 front) 0; packet = is.packet } in
     let meanings : meanings_said epoch all_layouts.absolute.now (take 2 ws) ≡ Some (Amount (be16_at front 0) ∷ Amount (be32_at (drop 2 front) 0) ∷ []) =
-        row_meanings epoch 2 all_layouts.absolute.now (take 2 ws) front is.said ∙ ap Some (absolute_meanings front) in
+    row_meanings epoch 2 all_layouts.absolute.now (take 2 ws) front is.said ∙ ap Some (absolute_meanings front) in
     record {
       command = command;
       meant = rw named (
-        ap (λ (ms : Option (List Meaning)). timed_of ms (command_said epoch 4 cs (drop 2 ws))) meanings
-        ∙ ap (timed_of (Some (Amount (be16_at front 0) ∷ Amount (be32_at (drop 2 front) 0) ∷ []))) is.command);
+          ap (λ (ms : Option (List Meaning)). timed_of ms (command_said epoch 4 cs (drop 2 ws))) meanings
+          ∙ ap (timed_of (Some (Amount (be16_at front 0) ∷ Amount (be32_at (drop 2 front) 0) ∷ []))) is.command);
       bytes_are = timed_there command front is.packet bytes refl row is.bytes_are;
       read = timed_read command row.number row.tag form;
     }
@@ -87,12 +88,12 @@ relative_stored epoch cs w ws bytes good named is =
     let form = said_packet epoch 3 cs (drop 1 ws) is.packet good is.command in
     let command : Relative = record { tag = be16_at front 0; packet = is.packet } in
     let meanings : meanings_said epoch all_layouts.relative.now (take 1 ws) ≡ Some (Amount (be16_at front 0) ∷ []) =
-        row_meanings epoch 2 all_layouts.relative.now (take 1 ws) front is.said ∙ ap Some (relative_meanings front) in
+    row_meanings epoch 2 all_layouts.relative.now (take 1 ws) front is.said ∙ ap Some (relative_meanings front) in
     record {
       command = command;
       meant = rw named (
-        ap (λ (ms : Option (List Meaning)). relative_of ms (command_said epoch 3 cs (drop 1 ws))) meanings
-        ∙ ap (relative_of (Some (Amount (be16_at front 0) ∷ []))) is.command);
+          ap (λ (ms : Option (List Meaning)). relative_of ms (command_said epoch 3 cs (drop 1 ws))) meanings
+          ∙ ap (relative_of (Some (Amount (be16_at front 0) ∷ []))) is.command);
       bytes_are = relative_there command front is.packet bytes refl row is.bytes_are;
       read = relative_read command row.tag form;
     }
@@ -111,19 +112,19 @@ by_word : (epoch : Option ℕ) (cs : List Command) (fs : List Field) (w : List �
 by_word epoch cs fs w ws bytes true named plain e = record { w = w; ws = ws; words_are = refl; named = named; said = sym (item_command epoch cs fs (w ∷ ws) w ws refl named) ∙ e }
 by_word epoch cs fs w ws bytes false named plain e = absurd (let wrong : ◌≡◌ {A = Result (List ℕ) LineFault} (Err faults.Word) (Ok bytes) = sym (item_other epoch cs fs (w ∷ ws) w ws refl named plain) ∙ e in cc)
 
-command_line : (epoch : Option ℕ) (cs : List Command) (fs : List Field) (line : Numbered) (bytes : List ℕ) → begins_raw line ≡ false → item_said epoch cs fs line.words ≡ Ok bytes → IsCommandLine epoch cs fs line.words bytes
+command_line : (epoch : Option ℕ) (cs : List Command) (fs : List Field) (line : Numbered) (bytes : List ℕ) → begins (codes "raw") line.words ≡ false → item_said epoch cs fs line.words ≡ Ok bytes → IsCommandLine epoch cs fs line.words bytes
 command_line epoch cs fs line bytes = by_words line.number line.words bytes where
-  by_words : (n : ℕ) (words : List (List ℕ)) (bytes : List ℕ) → begins_raw (record { number = n; words = words }) ≡ false → item_said epoch cs fs words ≡ Ok bytes → IsCommandLine epoch cs fs words bytes
+  by_words : (n : ℕ) (words : List (List ℕ)) (bytes : List ℕ) → begins (codes "raw") words ≡ false → item_said epoch cs fs words ≡ Ok bytes → IsCommandLine epoch cs fs words bytes
   by_words n [] bytes plain e = absurd (let wrong : ◌≡◌ {A = Result (List ℕ) LineFault} (Err faults.Word) (Ok bytes) = sym (item_none epoch cs fs [] refl) ∙ e in cc)
   by_words n (w ∷ ws) bytes plain e = by_word epoch cs fs w ws bytes (bytes_eq w (codes "command")) refl plain e
 
-pub timed_item : (epoch : Option ℕ) (cs : List Command) (fs : List Field) → are_good cs ≡ true → map placed_field fs ≡ all_layouts.absolute.now → (line : Numbered) (bytes : List ℕ) → begins_raw line ≡ false → item_said epoch cs fs line.words ≡ Ok bytes → IsItem timed_form timed_spelled (timed_meant epoch cs) line.words bytes
+pub timed_item : (epoch : Option ℕ) (cs : List Command) (fs : List Field) → are_good cs ≡ true → map placed_field fs ≡ all_layouts.absolute.now → (line : Numbered) (bytes : List ℕ) → begins (codes "raw") line.words ≡ false → item_said epoch cs fs line.words ≡ Ok bytes → IsItem timed_form timed_spelled (timed_meant epoch cs) line.words bytes
 unfolding all_layouts
 timed_item epoch cs fs good known line bytes plain e =
     let is = command_line epoch cs fs line bytes plain e in
     rw is.words_are (timed_stored epoch cs is.w is.ws bytes good is.named (stored_is epoch cs fs all_layouts.absolute.now is.ws bytes known refl is.said))
 
-pub relative_item : (epoch : Option ℕ) (cs : List Command) (fs : List Field) → are_good cs ≡ true → map placed_field fs ≡ all_layouts.relative.now → (line : Numbered) (bytes : List ℕ) → begins_raw line ≡ false → item_said epoch cs fs line.words ≡ Ok bytes → IsItem relative_form relative_spelled (relative_meant epoch cs) line.words bytes
+pub relative_item : (epoch : Option ℕ) (cs : List Command) (fs : List Field) → are_good cs ≡ true → map placed_field fs ≡ all_layouts.relative.now → (line : Numbered) (bytes : List ℕ) → begins (codes "raw") line.words ≡ false → item_said epoch cs fs line.words ≡ Ok bytes → IsItem relative_form relative_spelled (relative_meant epoch cs) line.words bytes
 unfolding all_layouts
 relative_item epoch cs fs good known line bytes plain e =
     let is = command_line epoch cs fs line bytes plain e in

@@ -60,9 +60,9 @@ rows_fit : {E : Type 0} (epoch : Option ℕ) (cs : List Command) (l known : Layo
 rows_fit epoch cs l known m made is plain means blank same = record {
   zero = ap (λ (n : ℕ). m.read (replicate n 0)) is.size ∙ blank;
   said = λ ws bytes e.
-    ap (λ (said : List (List ℕ) → Option _). said ws) means
-    ∙ ap (option_map made) (known_row epoch l.fields.now known.fields.now ws bytes is.fields (row_is epoch cs l ws bytes (ap (λ (n : ℕ). n == 0) is.area ∙ plain) e))
-    ∙ ap Some (same bytes);
+      ap (λ (said : List (List ℕ) → Option _). said ws) means
+      ∙ ap (option_map made) (known_row epoch l.fields.now known.fields.now ws bytes is.fields (row_is epoch cs l ws bytes (ap (λ (n : ℕ). n == 0) is.area ∙ plain) e))
+      ∙ ap Some (same bytes);
 }
 
 -- ---- execution counters
@@ -79,7 +79,7 @@ pub counter_cut : (payload : List ℕ) (i : ℕ) → counters.row_at payload i �
 counter_cut payload i =
     rw (
       take-take 20 22 (drop (22 * i) payload) (omega arith),
-      be16_cut 22 (22 * i) 20 (22 * i + 20) payload (omega arith) refl
+      be16_cut 22 (22 * i) 20 (22 * i + 20) payload (omega arith) refl,
     ) refl
 
 -- ---- application monitors
@@ -97,7 +97,7 @@ app_cut payload i =
     rw (
       take-take 20 24 (drop (24 * i) payload) (omega arith),
       be16_cut 24 (24 * i) 20 (24 * i + 20) payload (omega arith) refl,
-      be16_cut 24 (24 * i) 22 (24 * i + 22) payload (omega arith) refl
+      be16_cut 24 (24 * i) 22 (24 * i + 22) payload (omega arith) refl,
     ) refl
 
 -- ---- event monitors
@@ -115,7 +115,7 @@ event_cut payload i =
     rw (
       take-take 20 24 (drop (24 * i) payload) (omega arith),
       be16_cut 24 (24 * i) 20 (24 * i + 20) payload (omega arith) refl,
-      be16_cut 24 (24 * i) 22 (24 * i + 22) payload (omega arith) refl
+      be16_cut 24 (24 * i) 22 (24 * i + 22) payload (omega arith) refl,
     ) refl
 
 -- ---- checksum tables
@@ -134,7 +134,7 @@ segment_cut payload i =
     rw (
       be16_cut 12 (12 * i) 0 (12 * i) payload (omega arith) first,
       be32_cut 12 (12 * i) 4 (12 * i + 4) payload (omega arith) refl,
-      be32_cut 12 (12 * i) 8 (12 * i + 8) payload (omega arith) refl
+      be32_cut 12 (12 * i) 8 (12 * i + 8) payload (omega arith) refl,
     ) refl
 
 -- ---- watchpoints
@@ -156,7 +156,7 @@ watchpoint_cut payload i =
       be16_cut 16 (16 * i) 4 (16 * i + 4) payload (omega arith) refl,
       be16_cut 16 (16 * i) 6 (16 * i + 6) payload (omega arith) refl,
       be32_cut 16 (16 * i) 8 (16 * i + 8) payload (omega arith) refl,
-      be32_cut 16 (16 * i) 12 (16 * i + 12) payload (omega arith) refl
+      be32_cut 16 (16 * i) 12 (16 * i + 12) payload (omega arith) refl,
     ) refl
 
 -- ---- actionpoints
@@ -169,7 +169,7 @@ words_by (suc n) k from bytes =
     let same : from + 2 * k + 0 ≡ from + 2 * k = omega arith in
     let next : from + 2 * k + 2 ≡ from + 2 * (k + 1) = omega arith in
     let later : map word_of (steps_at n (drop 2 (drop (from + 2 * k) bytes))) ≡ map (word_at bytes from) (range_with_len (k + 1) n) =
-        ap (λ (xs : List ℕ). map word_of (steps_at n xs)) (drop-drop 2 (from + 2 * k) bytes ∙ ap (λ (j : ℕ). drop j bytes) next) ∙ words_by n (k + 1) from bytes in
+    ap (λ (xs : List ℕ). map word_of (steps_at n xs)) (drop-drop 2 (from + 2 * k) bytes ∙ ap (λ (j : ℕ). drop j bytes) next) ∙ words_by n (k + 1) from bytes in
     joined (ap word_of (first ∙ ap (be16_at bytes) same)) later
   where
     joined : {x y : Word} {xs ys : List Word} → x ≡ y → xs ≡ ys → x ∷ xs ≡ y ∷ ys
@@ -201,7 +201,7 @@ actionpoint_cut payload i =
       be16_cut 40 (40 * i) 2 (40 * i + 2) payload (omega arith) refl,
       be16_cut 40 (40 * i) 4 (40 * i + 4) payload (omega arith) refl,
       be16_cut 40 (40 * i) 6 (40 * i + 6) payload (omega arith) refl,
-      words_cut payload i
+      words_cut payload i,
     ) refl
 
 -- ---- dwell tables

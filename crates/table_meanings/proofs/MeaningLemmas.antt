@@ -28,7 +28,7 @@ use Rattle.row_forms.specs.Worked.{choices_at}
 use Rattle.row_forms.proofs.RowNumberLemmas.{then_parts, check_parts}
 use Rattle.row_forms.proofs.SizeLemmas.{said_number, field_size}
 use Rattle.hs_tables.specs.Names.{name_of_bytes}
-use Rattle.table_meanings.specs.Meanings.{Meaning, Amount, Called, Steps, expression_meant, amount_said, meaning_before, word_meanings, meanings_said, kind_meanings, meanings_in}
+use Rattle.table_meanings.specs.Meanings.{Meaning, Amount, Called, Steps, expression_meant, text_meaning, meaning_before, word_meanings, meanings_said, kind_meanings, meanings_in}
 
 -- ---- numbers
 
@@ -152,17 +152,17 @@ is_said_expression : (epoch : Option ℕ) (words : Bor (List Choice)) (text valu
 unfolding value_said
 is_said_expression epoch words text value e = e
 
-number_meaning : (epoch : Option ℕ) (w : Width) (s : Spelling) (text value rest : List ℕ) → value_said epoch (Number w s) text ≡ Some value → amount_said epoch (Number w s) text ≡ Some (Amount (number_at w (value ++ rest)))
+number_meaning : (epoch : Option ℕ) (w : Width) (s : Spelling) (text value rest : List ℕ) → value_said epoch (Number w s) text ≡ Some value → text_meaning epoch (Number w s) text ≡ Some (Amount (number_at w (value ++ rest)))
 number_meaning epoch w s text value rest e =
     let is = said_number epoch w s text value e in
     rw (first_number w value rest is.size) (ap (option_map Amount) is.number)
 
-called_meaning : (epoch : Option ℕ) (text value rest : List ℕ) → length value ≡ 20 → value_said epoch Name text ≡ Some value → amount_said epoch Name text ≡ Some (Called (name_of_bytes (take 20 (value ++ rest))))
+called_meaning : (epoch : Option ℕ) (text value rest : List ℕ) → length value ≡ 20 → value_said epoch Name text ≡ Some value → text_meaning epoch Name text ≡ Some (Called (name_of_bytes (take 20 (value ++ rest))))
 called_meaning epoch text value rest long e =
     let said = is_said_name epoch text value e in
     rw (take_at value rest 20 long, named_meaning text value said) (ap (option_map (λ name. Called (Some name))) said)
 
-steps_meaning : (epoch : Option ℕ) (words : Bor (List Choice)) (text value rest : List ℕ) → value_said epoch (Expression words) text ≡ Some value → amount_said epoch (Expression words) text ≡ Some (Steps (be16_at (value ++ rest) 0) (steps_at 16 (drop 2 (value ++ rest))))
+steps_meaning : (epoch : Option ℕ) (words : Bor (List Choice)) (text value rest : List ℕ) → value_said epoch (Expression words) text ≡ Some value → text_meaning epoch (Expression words) text ≡ Some (Steps (be16_at (value ++ rest) 0) (steps_at 16 (drop 2 (value ++ rest))))
 steps_meaning epoch words text value rest e =
     let is = expression_text words.now text value (is_said_expression epoch words text value e) in
     ap (option_map expression_meant) is.1 ∙ ap Some (sym (expression_by is.0 value rest (nat_le (length is.0) 16) refl (steps_two words.now (parts text) is.0 is.1) is.2))

@@ -69,7 +69,7 @@ message_bytes epoch cs ws bytes zeros good is room pad =
     let area : take 64 rest ≡ rest = take_all 64 rest (omega (arith, size)) in
     let found : actions.packet_in (take 64 rest) ≡ Some packet = ap actions.packet_in area ∙ packet_there packet (replicate zeros 0) form (omega (arith, long, room)) in
     let meant : meanings_said epoch all_layouts.actions.fields.now (take 2 ws) ≡ Some (Amount (be16_at front 0) ∷ Amount (be16_at (drop 2 front) 0) ∷ []) =
-        row_meanings epoch 2 all_layouts.actions.fields.now (take 2 ws) front is.said ∙ ap Some (fields_meant front) in
+    row_meanings epoch 2 all_layouts.actions.fields.now (take 2 ws) front is.said ∙ ap Some (fields_meant front) in
     ap (λ (ms : Option (List Meaning)). message_of ms (command_said epoch 4 cs (drop 2 ws))) meant
     ∙ ap (message_of (Some (Amount (be16_at front 0) ∷ Amount (be16_at (drop 2 front) 0) ∷ []))) is.command
     ∙ ap (λ (p : Option (List ℕ)). Some (record { state = be16_at front 0; cooldown = be16_at (drop 2 front) 0; packet = p })) (sym found)
@@ -105,5 +105,5 @@ message_cut payload i =
     rw (
       be16_cut 68 (68 * i) 0 (68 * i) payload (omega arith) first,
       be16_cut 68 (68 * i) 2 (68 * i + 2) payload (omega arith) refl,
-      area_cut payload i
+      area_cut payload i,
     ) refl

@@ -54,7 +54,7 @@ use Rattle.table_meanings.specs.Meanings.{Meaning, Amount, meanings_said, meanin
 use Rattle.table_meanings.specs.Entries.{EntryMeaning, entries_meant}
 use Rattle.table_meanings.specs.Tables.{counters_meaning, apps_meaning, events_meaning, messages_meaning, dwells_meaning, segments_meaning, watchpoints_meaning, actionpoints_meaning}
 use Rattle.table_meanings.specs.Sequences.{timed_meant, relative_meant, has_raw, commands_meant}
-use Rattle.table_meanings.specs.Texts.{Mean, DwellMeans, HeadedMeans, SequenceMeans, PayloadMeans, FirstMeans, TextMeans}
+use Rattle.table_meanings.specs.Texts.{Mean, DwellMeans, HeadedMeans, SequenceMeans, PayloadMeans, FirstMeans, TextMeans, AreKnownForms}
 use Rattle.table_meanings.proofs.MeaningLemmas.{row_meanings}
 use Rattle.table_meanings.proofs.PlacedLemmas.{row_placed}
 use Rattle.table_meanings.proofs.SaidLemmas.{Fits, entries_are}
@@ -177,7 +177,7 @@ dwells_mean f l head more payload good e fields is =
     let flag : be16_at front 0 ≡ be16_at payload 0 = front_flag front rest four ∙ ap (λ (xs : List ℕ). be16_at xs 0) is.payload_is in
     let meant : meanings_said f.epoch all_layouts.head.now ws ≡ Some (Amount (be16_at front 0) ∷ Amount (be16_at (drop 2 front) 0) ∷ []) = row_meanings f.epoch 2 all_layouts.head.now ws front said ∙ ap Some (head_meanings front) in
     let cut : (i : ℕ) → entry_at payload i ≡ entry_at (0 ∷ 0 ∷ 0 ∷ 0 ∷ take 8 (drop (8 * i) rest)) 0 =
-        λ i. dwell_cut payload i ∙ ap (λ (xs : List ℕ). entry_at (0 ∷ 0 ∷ 0 ∷ 0 ∷ take 8 (drop (8 * i) xs)) 0) behind in
+    λ i. dwell_cut payload i ∙ ap (λ (xs : List ℕ). entry_at (0 ∷ 0 ∷ 0 ∷ 0 ∷ take 8 (drop (8 * i) xs)) 0) behind in
     record {
       enabled = ap (option_map (λ ms. amount_in ms 0 == 1)) meant ∙ ap (λ (n : ℕ). Some (n == 1)) flag ∙ ap Some (sym (flag_is payload));
       entries = ap (map Some) (dwell_entries payload) ∙ entries_mean f.epoch f.commands.now l all_layouts.dwells (dwells_meaning f.epoch) (head.number + 1) more rest (entry_at payload) good e (dwells_fit f.epoch f.commands.now l e) cut (table_ok (entries_said f.epoch f.commands.now l 0 (head.number + 1) more) rest is.entries);
@@ -324,7 +324,7 @@ first_means f (Ok first) file kinds known good commands e taken =
     subst (PayloadMeans f first.kind first.more) (sym same) (payload_means f first.kind (first.number + 1) first.more made.payload known good commands made.payload_is well)
 
 -- a text that is taken gives a file whose entries are those that the text means
-pub texts_mean : (f : TextForms) (text file : List ℕ) → placed f.layouts.now ≡ all_layouts → are_layouts f.layouts.now ≡ true → are_good f.commands.now ≡ true → table_said f text ≡ Ok file → TextMeans f text file
-texts_mean f text file known layouts commands e =
+pub texts_mean : (f : TextForms) (text file : List ℕ) → AreKnownForms f → table_said f text ≡ Ok file → TextMeans f text file
+texts_mean f text file forms e =
     let lines = kept_of 1 text in
-    first_means f (first_said lines) file (first_known lines) known (layouts_are f.layouts.now layouts) commands (judged_ok (first_filed f (first_said lines)) file e) (texts_are_taken f text file e)
+    first_means f (first_said lines) file (first_known lines) forms.known (layouts_are f.layouts.now forms.layouts) forms.commands (judged_ok (first_filed f (first_said lines)) file e) (texts_are_taken f text file e)

@@ -39,7 +39,6 @@ use Rattle.sc_tables.proofs.Spellings.{timed_spelling, relative_spelling}
 use Rattle.sc_tables.proofs.Stored.{sound}
 use Rattle.table_forms.specs.Layouts.{all_layouts, placed_field}
 use Rattle.table_meanings.specs.Meanings.{Meaning, Amount, meanings_said, meanings_in}
-use Rattle.table_meanings.specs.Sequences.{timed_of, relative_of, timed_meant, relative_meant, begins_raw, command_meant}
 use Rattle.table_meanings.proofs.MeaningLemmas.{first_number, field_text, row_meanings}
 use Rattle.table_meanings.proofs.FrontLemmas.{said_packet, IsStored, stored_is}
 use Rattle.table_meanings.proofs.CommandLemmas.{IsRead, IsItem}

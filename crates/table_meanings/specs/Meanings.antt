@@ -24,11 +24,11 @@ abbrev pub expression_meant : List ℕ → Meaning
 expression_meant steps = Steps (length steps) (steps ++ replicate (16 - length steps) 0)
 
 -- what a text means
-abbrev pub amount_said : Option ℕ → Kind → List ℕ → Option Meaning
-amount_said epoch (Number w spelling) text = option_map Amount (number_said epoch w spelling text)
-amount_said epoch Name text = option_map (λ name. Called (Some name)) (name_said text)
-amount_said epoch Block text = None
-amount_said epoch (Expression words) text = option_map expression_meant (steps_said words.now (parts text))
+abbrev pub text_meaning : Option ℕ → Kind → List ℕ → Option Meaning
+text_meaning epoch (Number w spelling) text = option_map Amount (number_said epoch w spelling text)
+text_meaning epoch Name text = option_map (λ name. Called (Some name)) (name_said text)
+text_meaning epoch Block text = None
+text_meaning epoch (Expression words) text = option_map expression_meant (steps_said words.now (parts text))
 
 abbrev pub meaning_before : Option Meaning → Option (List Meaning) → Option (List Meaning)
 meaning_before (Some m) (Some ms) = Some (m ∷ ms)
@@ -36,10 +36,10 @@ meaning_before m ms = None
 
 -- what a word means, and what those behind it do; a block's bytes, and what is behind them, aren't told
 abbrev pub word_meanings : Option ℕ → List ℕ → Kind → List ℕ → Option (List Meaning) → Option (List Meaning)
-word_meanings epoch key (Number w spelling) word rest = meaning_before (option_and_then (amount_said epoch (Number w spelling)) (behind_key key word)) rest
-word_meanings epoch key Name word rest = meaning_before (option_and_then (amount_said epoch Name) (behind_key key word)) rest
+word_meanings epoch key (Number w spelling) word rest = meaning_before (option_and_then (text_meaning epoch (Number w spelling)) (behind_key key word)) rest
+word_meanings epoch key Name word rest = meaning_before (option_and_then (text_meaning epoch Name) (behind_key key word)) rest
 word_meanings epoch key Block word rest = Some []
-word_meanings epoch key (Expression words) word rest = meaning_before (option_and_then (amount_said epoch (Expression words)) (behind_key key word)) rest
+word_meanings epoch key (Expression words) word rest = meaning_before (option_and_then (text_meaning epoch (Expression words)) (behind_key key word)) rest
 
 -- what the words of a row mean, in their order
 unfoldable pub meanings_said : Option ℕ → List Field → List (List ℕ) → Option (List Meaning)

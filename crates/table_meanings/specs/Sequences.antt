@@ -8,6 +8,7 @@ use Rattle.telecommands.specs.Commands.{command_said}
 use Rattle.table_texts.specs.Lines.{Numbered}
 use Rattle.table_texts.specs.Endings.{is_end}
 use Rattle.table_forms.specs.Layouts.{all_layouts}
+use Rattle.table_forms.specs.Payloads.{begins}
 use Rattle.sc_tables.specs.declared.absolute.Timed.{Timed}
 use Rattle.sc_tables.specs.declared.relative.Relative.{Relative}
 use Rattle.table_meanings.specs.Meanings.{Meaning, meanings_said, amount_in}
@@ -31,16 +32,11 @@ timed_meant epoch cs ws = timed_of (meanings_said epoch all_layouts.absolute.now
 unfoldable pub relative_meant : Option ℕ → List Command → List (List ℕ) → Option Relative
 relative_meant epoch cs ws = relative_of (meanings_said epoch all_layouts.relative.now (take 1 ws)) (command_said epoch 3 cs (drop 1 ws))
 
-abbrev pub begins_raw : Numbered → Bool
-begins_raw line = by_words line.words where
-  by_words : List (List ℕ) → Bool
-  by_words [] = false
-  by_words (w ∷ ws) = bytes_eq w (codes "raw")
-
 -- whether a line has bytes in place of words
 unfoldable pub has_raw : List Numbered → Bool
-has_raw lines = list_any begins_raw lines
+has_raw lines = list_any (λ line. begins (codes "raw") line.words) lines
 
+-- what a line means: a command, by the words behind its first one
 abbrev pub command_meant : {E : Type 0} → (List (List ℕ) → Option E) → List (List ℕ) → Option E
 command_meant said [] = None
 command_meant said (w ∷ ws) = if bytes_eq w (codes "command") then said ws else None

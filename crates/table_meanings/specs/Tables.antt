@@ -65,55 +65,31 @@ actionpoint_of ms = record {
 abbrev pub row_meant : {E : Type 0} → Option ℕ → List Field → (List Meaning → E) → List (List ℕ) → Option E
 row_meant epoch fs made ws = option_map made (meanings_said epoch fs ws)
 
+-- entries of one row each, which the loader reads by their place
+abbrev pub rows_meaning : {E : Type 0} → Option ℕ → List Field → (List Meaning → E) → (List ℕ → ℕ → E) → E → EntryMeaning E
+rows_meaning epoch fs made row_at unused = record { said = row_meant epoch fs made; read = λ bytes. row_at bytes 0; unused = unused }
+
 unfoldable pub counters_meaning : Option ℕ → EntryMeaning CountRow
-counters_meaning epoch = record {
-  said = row_meant epoch all_layouts.counters.fields.now counter_of;
-  read = λ bytes. counters.row_at bytes 0;
-  unused = counters.blank_row;
-}
+counters_meaning epoch = rows_meaning epoch all_layouts.counters.fields.now counter_of counters.row_at counters.blank_row
 
 unfoldable pub apps_meaning : Option ℕ → EntryMeaning AppRow
-apps_meaning epoch = record {
-  said = row_meant epoch all_layouts.apps.fields.now app_of;
-  read = λ bytes. apps.row_at bytes 0;
-  unused = apps.blank_row;
-}
+apps_meaning epoch = rows_meaning epoch all_layouts.apps.fields.now app_of apps.row_at apps.blank_row
 
 unfoldable pub events_meaning : Option ℕ → EntryMeaning EventRow
-events_meaning epoch = record {
-  said = row_meant epoch all_layouts.events.fields.now event_of;
-  read = λ bytes. events.row_at bytes 0;
-  unused = events.blank_row;
-}
+events_meaning epoch = rows_meaning epoch all_layouts.events.fields.now event_of events.row_at events.blank_row
 
--- a dwell table's entries stand behind 4 bytes
+-- a dwell table's entries stand behind the 4 bytes of its head
 unfoldable pub dwells_meaning : Option ℕ → EntryMeaning DwellEntry
-dwells_meaning epoch = record {
-  said = row_meant epoch all_layouts.dwells.fields.now dwell_entry_of;
-  read = λ bytes. entry_at (0 ∷ 0 ∷ 0 ∷ 0 ∷ bytes) 0;
-  unused = blank_entry;
-}
+dwells_meaning epoch = rows_meaning epoch all_layouts.dwells.fields.now dwell_entry_of (λ bytes. entry_at (0 ∷ 0 ∷ 0 ∷ 0 ∷ bytes)) blank_entry
 
 unfoldable pub segments_meaning : Option ℕ → EntryMeaning Segment
-segments_meaning epoch = record {
-  said = row_meant epoch all_layouts.checksums.fields.now segment_of;
-  read = λ bytes. segment_at bytes 0;
-  unused = blank_segment;
-}
+segments_meaning epoch = rows_meaning epoch all_layouts.checksums.fields.now segment_of segment_at blank_segment
 
 unfoldable pub watchpoints_meaning : Option ℕ → EntryMeaning WatchRow
-watchpoints_meaning epoch = record {
-  said = row_meant epoch all_layouts.watchpoints.fields.now watchpoint_of;
-  read = λ bytes. watchpoints.row_at bytes 0;
-  unused = watchpoints.blank_row;
-}
+watchpoints_meaning epoch = rows_meaning epoch all_layouts.watchpoints.fields.now watchpoint_of watchpoints.row_at watchpoints.blank_row
 
 unfoldable pub actionpoints_meaning : Option ℕ → EntryMeaning ActRow
-actionpoints_meaning epoch = record {
-  said = row_meant epoch all_layouts.actionpoints.fields.now actionpoint_of;
-  read = λ bytes. actionpoints.row_at bytes 0;
-  unused = actionpoints.blank_row;
-}
+actionpoints_meaning epoch = rows_meaning epoch all_layouts.actionpoints.fields.now actionpoint_of actionpoints.row_at actionpoints.blank_row
 
 -- ---- message actions, which have a telecommand behind their fields
 

@@ -1,8 +1,9 @@
 -- What the texts of tables mean: the entries that the tables' loaders read in their files.
-use Rattle.std.specs.Prelude.{◌≡◌, ℕ, ◌==◌, false, List, [], ◌∷◌, map, Option, Some, None, option_map, Result, Ok, Err}
+use Rattle.std.specs.Prelude.{◌≡◌, ℕ, ◌==◌, true, false, List, [], ◌∷◌, map, Option, Some, None, option_map, Result, Ok, Err}
 use Rattle.table_files.specs.Headers.{payload_of_file}
 use Rattle.table_files.specs.declared.kinds.TableKind.{TableKind}
 use Rattle.table_files.specs.declared.kinds.TableKind.TheVariants.{AppMon, EventMon, ExeCount, MsgActs, Ats, Rts, Dwell, Eeprom, Memory, Wdt, Adt}
+use Rattle.telecommands.specs.Commands.{are_good}
 use Rattle.table_texts.specs.Lines.{Numbered, kept_of}
 use Rattle.table_texts.specs.Endings.{behind_first}
 use Rattle.hs_tables.specs.Apps as apps
@@ -17,7 +18,7 @@ use Rattle.sc_tables.specs.Absolute.{stored_ats}
 use Rattle.sc_tables.specs.Relative.{stored_rts}
 use Rattle.table_forms.specs.declared.fault.TableFault.{TableFault}
 use Rattle.table_forms.specs.declared.forms.TextForms.{TextForms}
-use Rattle.table_forms.specs.Layouts.{all_layouts}
+use Rattle.table_forms.specs.Layouts.{all_layouts, are_layouts, placed}
 use Rattle.table_forms.specs.Reading.{First, first_said}
 use Rattle.table_meanings.specs.Meanings.{meanings_said, amount_in}
 use Rattle.table_meanings.specs.Entries.{EntryMeaning, entries_meant}
@@ -62,3 +63,9 @@ FirstMeans f (Err fault) file = ⊥
 -- the entries that the loader of the table that a text names reads in a file are those that the text's lines mean
 abbrev pub TextMeans : TextForms → List ℕ → List ℕ → Type 0
 TextMeans f text file = FirstMeans f (first_said (kept_of 1 text)) file
+
+-- the layouts are those of docs/FILES.md, wherever they lie, and the telecommands are good ones
+pub record AreKnownForms (f : TextForms) : Type 0 where
+  pub known : placed f.layouts.now ≡ all_layouts
+  pub layouts : are_layouts f.layouts.now ≡ true
+  pub commands : are_good f.commands.now ≡ true

@@ -6,5 +6,7 @@ ghost use Rattle.table_meanings.specs.Meanings.{meanings_said, meanings_in};
 
 /// What the words of a row mean stands in its bytes, field by field: numbers, names, and the steps of expressions.
 pub fn rows_say_meanings()
-    ensures { (epoch : Option ℕ) (n : ℕ) (fields : List Field) (ws : List (List ℕ)) (bytes : List ℕ) → row_said epoch n fields ws ≡ Ok bytes → meanings_said epoch fields ws ≡ Some (meanings_in fields bytes) }
+    ensures { (epoch : Option ℕ) (n : ℕ) (fields : List Field) (ws : List (List ℕ)) (bytes : List ℕ)
+        → row_said epoch n fields ws ≡ Ok bytes
+        → meanings_said epoch fields ws ≡ Some (meanings_in fields bytes) }
 {}
