@@ -1,8 +1,8 @@
 -- Lemmas on the bytes of one entry among those of all.
-use Rattle.std.proofs.Common.{◌≡◌, ℕ, zero, suc, ◌+◌, ◌-◌, ◌*◌, ◌<◌, ◌≤◌, List, [], ◌∷◌, ◌++◌, length, take, drop, map, refl, ap, sym, ◌∙◌, arith, append_assoc, length-append, length-take, length-drop}
+use Rattle.std.proofs.Common.{◌≡◌, ℕ, zero, suc, ◌+◌, ◌-◌, ◌*◌, ◌<◌, ◌≤◌, List, ◌∷◌, ◌++◌, length, take, drop, map, refl, ap, sym, ◌∙◌, arith, append_assoc, length-append}
 use Rattle.std.specs.Prelude.{replicate, get_or}
 use Rattle.std.specs.List.{range_with_len}
-use Rattle.std.proofs.lemmas.List.{length-replicate, take_at, drop_at, take-append-le, drop-append-le, take-replicate, drop-replicate, take-take, get_or-take, get_or-drop}
+use Rattle.std.proofs.lemmas.List.{length-replicate, take_at, drop_at, take-append-le, drop-append-le, take-replicate, drop-replicate, get_or-take, get_or-drop}
 use Rattle.std.proofs.Math.Seq.{drop-append-add}
 use Rattle.packet_forms.specs.Numbers.{be16_at, be32_at}
 
@@ -15,7 +15,7 @@ gap_by s i d all left behind whole rest =
     let room : s ≤ length {A = ℕ} (replicate left 0) = omega (arith, rest, long_left) in
     let same : all - s * i ≡ left = omega (arith, whole) in
     let cut : drop (s * i) (replicate all 0 ++ behind) ≡ replicate left 0 ++ behind =
-        drop-append-le (s * i) (replicate all 0) behind few ∙ ap (λ (xs : List ℕ). xs ++ behind) (drop-replicate (s * i) all 0 ∙ ap (λ (n : ℕ). replicate n 0) same) in
+    drop-append-le (s * i) (replicate all 0) behind few ∙ ap (λ (xs : List ℕ). xs ++ behind) (drop-replicate (s * i) all 0 ∙ ap (λ (n : ℕ). replicate n 0) same) in
     ap (take s) cut ∙ take-append-le s (replicate left 0) behind room ∙ take-replicate s left 0 (omega (arith, rest))
 
 pub chunk_gap : (s m i : ℕ) (behind : List ℕ) → i < m → take s (drop (s * i) (replicate (m * s) 0 ++ behind)) ≡ replicate s 0

@@ -1,23 +1,15 @@
 -- Lemmas on the commands of sequences.
-use Rattle.std.proofs.Common.{◌≡◌, ℕ, zero, suc, ◌+◌, ◌-◌, ◌*◌, ◌<◌, ◌≤◌, ◌^◌, ◌/◌, Bool, true, false, List, [], ◌∷◌, ◌++◌, length, take, drop, map, get_or, Option, Some, None, refl, ap, sym, ◌∙◌, arith, append_assoc, append-nil, length-append}
-use Rattle.std.specs.Prelude.{◌==◌, nat_le, codes, slice_index, if◌then◌else◌, is_none, ◌||◌, Result, Ok, Err, replicate}
-use Rattle.std.specs.List.{list_all, list_any}
-use Rattle.std.specs.Str.{bytes_eq}
-use Rattle.std.proofs.lemmas.Bool.Decides.{nat_tests}
-use Rattle.std.proofs.lemmas.List.{drop_at, length-replicate, get_or-replicate, get_or_append_left}
-use Rattle.packet_forms.specs.Numbers.{be16_at, be32_at, be16_bytes, be32_bytes}
-use Rattle.packet_forms.specs.Packets.{IsPacket, is_command, sequence_flags}
+use Rattle.std.proofs.Common.{◌≡◌, ℕ, zero, suc, ◌+◌, ◌<◌, ◌≤◌, Bool, true, false, List, [], ◌∷◌, ◌++◌, length, drop, Option, Some, None, refl, ap, sym, ◌∙◌, arith, append_assoc, append-nil, length-append}
+use Rattle.std.specs.Prelude.{codes, ◌||◌, Result, Ok, Err}
+use Rattle.std.specs.List.{list_any}
+use Rattle.std.proofs.lemmas.List.{drop_at}
 use Rattle.row_forms.specs.declared.field.Field.{Field}
-use Rattle.row_forms.specs.Rows.{with_front, row_said, row_size}
-use Rattle.row_forms.proofs.SizeLemmas.{row_sizes}
 use Rattle.telecommands.specs.declared.command.Command.{Command}
-use Rattle.telecommands.specs.declared.fault.CommandFault.{CommandFault}
-use Rattle.telecommands.specs.Commands.{are_good, command_said}
 use Rattle.table_files.specs.declared.fault.EntryFault.{EntryFault}
 use Rattle.table_texts.specs.declared.fault.LineFault.{LineFault}
 use Rattle.table_texts.specs.declared.fault.TextFault.{TextFault}
 use Rattle.table_texts.specs.Lines.{Numbered}
-use Rattle.table_texts.specs.Endings.{ended, is_end, behind_first, fault_on}
+use Rattle.table_texts.specs.Endings.{ended, is_end, behind_first}
 use Rattle.table_texts.specs.Sequences.{item_said, then_item, sequence_said}
 use Rattle.table_texts.proofs.SequenceLemmas.{sequence_end, sequence_line}
 use Rattle.sc_tables.specs.Grammar.{EntryForm, read_from, read_of, unless_refused}

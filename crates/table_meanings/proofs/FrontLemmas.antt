@@ -1,6 +1,6 @@
 -- Lemmas on fields with a telecommand behind them.
-use Rattle.std.proofs.Common.{◌≡◌, ℕ, zero, suc, ◌+◌, ◌-◌, ◌*◌, ◌<◌, ◌≤◌, Bool, true, false, cond, List, [], ◌∷◌, ◌++◌, length, take, drop, map, Option, Some, None, refl, ap, sym, subst, ◌∙◌, arith, append-nil}
-use Rattle.std.specs.Prelude.{◌==◌, nat_le, codes, if◌then◌else◌, ◌&&◌, Result, Ok, Err, slice_index}
+use Rattle.std.proofs.Common.{◌≡◌, ℕ, ◌+◌, Bool, true, false, List, [], ◌∷◌, ◌++◌, length, take, drop, map, Option, Some, None, refl, ap, sym, subst, ◌∙◌, arith, append-nil}
+use Rattle.std.specs.Prelude.{nat_le, codes, if◌then◌else◌, Result, Ok, Err}
 use Rattle.std.specs.List.{list_all}
 use Rattle.std.specs.Str.{bytes_eq}
 use Rattle.std.proofs.lemmas.Bool.Decides.{nat_tests}
@@ -12,7 +12,6 @@ use Rattle.packet_forms.specs.Packets.{IsPacket}
 use Rattle.packet_forms.proofs.Forms.{packet_of_none, command_reads_back}
 use Rattle.row_forms.specs.declared.field.Field.{Field}
 use Rattle.row_forms.specs.declared.field.Field.TheVariants.{Value, Zeros, Check}
-use Rattle.row_forms.specs.declared.field.Kind.{Kind}
 use Rattle.row_forms.specs.declared.fault.Reason.{Reason}
 use Rattle.row_forms.specs.declared.fault.RowFault.{RowFault}
 use Rattle.row_forms.specs.Words.{hex_said}
@@ -22,7 +21,6 @@ use Rattle.telecommands.specs.declared.fault.CommandFault.{CommandFault}
 use Rattle.telecommands.specs.declared.fault.CommandFault.TheVariants as command_faults
 use Rattle.telecommands.specs.Commands.{is_good, are_good, named, sent, named_said, whole_packet, packet_said, word_said, command_said}
 use Rattle.telecommands.proofs.CommandLemmas.{and_both, good_is}
-use Rattle.table_texts.specs.declared.fault.LineFault.{LineFault}
 use Rattle.table_texts.specs.Fronts.{is_value, Front, then_front, front_said, stored, behind_front}
 use Rattle.table_forms.specs.Layouts.{placed_field}
 use Rattle.table_meanings.proofs.PlacedLemmas.{row_placed}

@@ -1,15 +1,13 @@
 -- Lemmas on the lines of sequences.
-use Rattle.std.proofs.Common.{◌≡◌, ℕ, ◌+◌, Bool, true, false, List, [], ◌∷◌, ◌++◌, length, take, drop, map, Option, Some, None, refl, ap, sym, ◌∙◌, append_assoc}
+use Rattle.std.proofs.Common.{◌≡◌, ℕ, ◌+◌, Bool, true, false, List, [], ◌∷◌, ◌++◌, length, take, drop, map, Option, Some, refl, ap, sym, ◌∙◌, append_assoc}
 use Rattle.std.specs.Prelude.{codes, Result, Ok, Err}
 use Rattle.std.specs.Str.{bytes_eq}
 use Rattle.packet_forms.specs.Numbers.{be16_at, be32_at, be16_bytes, be32_bytes}
-use Rattle.packet_forms.specs.Packets.{IsPacket}
 use Rattle.row_forms.specs.declared.field.Field.{Field}
 use Rattle.row_forms.specs.Rows.{row_said}
 use Rattle.row_forms.specs.Worked.{text_at}
 use Rattle.row_forms.specs.declared.field.Spelling.TheVariants as spellings
 use Rattle.telecommands.specs.declared.command.Command.{Command}
-use Rattle.telecommands.specs.declared.fault.CommandFault.{CommandFault}
 use Rattle.telecommands.specs.Commands.{are_good, command_said}
 use Rattle.table_texts.specs.declared.fault.LineFault.{LineFault}
 use Rattle.table_texts.specs.declared.fault.LineFault.TheVariants as faults
@@ -25,10 +23,10 @@ use Rattle.sc_tables.specs.Spelling.{timed_spelled, relative_spelled}
 use Rattle.table_forms.specs.Layouts.{all_layouts, placed_field}
 use Rattle.table_forms.specs.Payloads.{begins}
 use Rattle.table_meanings.specs.Meanings.{Meaning, Amount, meanings_said, meanings_in}
-use Rattle.table_meanings.specs.Sequences.{timed_of, relative_of, timed_meant, relative_meant, command_meant}
+use Rattle.table_meanings.specs.Sequences.{timed_of, relative_of, timed_meant, relative_meant}
 use Rattle.table_meanings.proofs.MeaningLemmas.{row_meanings}
 use Rattle.table_meanings.proofs.FrontLemmas.{said_packet, IsStored, stored_is}
-use Rattle.table_meanings.proofs.CommandLemmas.{IsRead, IsItem}
+use Rattle.table_meanings.proofs.CommandLemmas.{IsItem}
 use Rattle.table_meanings.proofs.TimedLemmas.{IsTimedRow, timed_row, IsRelativeRow, relative_row, timed_read, relative_read}
 
 -- ---- absolute sequences

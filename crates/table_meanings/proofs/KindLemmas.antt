@@ -1,6 +1,6 @@
 -- Lemmas on the entries that loaders read, kind by kind.
-use Rattle.std.proofs.Common.{◌≡◌, ℕ, zero, suc, ◌+◌, ◌-◌, ◌*◌, ◌<◌, Bool, true, false, List, [], ◌∷◌, ◌++◌, length, take, drop, map, Option, Some, None, refl, ap, sym, ◌∙◌, arith}
-use Rattle.std.specs.Prelude.{◌==◌, Result, Ok, Err, replicate, option_map}
+use Rattle.std.proofs.Common.{◌≡◌, ℕ, zero, suc, ◌+◌, ◌*◌, ◌<◌, true, List, ◌∷◌, take, drop, map, Option, Some, refl, ap, sym, ◌∙◌, arith}
+use Rattle.std.specs.Prelude.{◌==◌, Ok, replicate, option_map}
 use Rattle.std.specs.List.{range_with_len}
 use Rattle.std.proofs.lemmas.List.{take-take, drop-drop, get_or-drop}
 use Rattle.packet_forms.specs.Names.{is_name, is_name_text, name_text}
@@ -10,17 +10,12 @@ use Rattle.row_forms.specs.Rows.{row_said}
 use Rattle.row_forms.specs.Values.{steps_at}
 use Rattle.telecommands.specs.declared.command.Command.{Command}
 use Rattle.table_texts.specs.declared.layout.Layout.{Layout}
-use Rattle.table_texts.specs.Entries.{values_said}
-use Rattle.hs_tables.specs.Names.{name_of_bytes}
 use Rattle.hs_tables.specs.Apps as apps
 use Rattle.hs_tables.specs.Events as events
 use Rattle.hs_tables.specs.Counters as counters
-use Rattle.hs_tables.specs.declared.apps.AppRow.{AppRow}
-use Rattle.hs_tables.specs.declared.events.EventRow.{EventRow}
-use Rattle.hs_tables.specs.declared.counters.CountRow.{CountRow}
-use Rattle.md_dwell.specs.Tables.{entry_at, blank_entry}
+use Rattle.md_dwell.specs.Tables.{entry_at}
 use Rattle.md_dwell.specs.declared.tables.DwellEntry.{DwellEntry}
-use Rattle.cs_slices.specs.Tables.{segment_at, blank_segment}
+use Rattle.cs_slices.specs.Tables.{segment_at}
 use Rattle.lc_watch.specs.Watchpoints as watchpoints
 use Rattle.lc_watch.specs.Actionpoints as actionpoints
 use Rattle.lc_watch.specs.Expressions.{word_of, word_at, words_at}

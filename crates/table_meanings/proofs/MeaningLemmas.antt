@@ -1,5 +1,5 @@
 -- Lemmas on what rows mean.
-use Rattle.std.proofs.Common.{◌≡◌, ℕ, zero, suc, ◌+◌, ◌-◌, ◌*◌, ◌/◌, ◌%◌, ◌≤◌, Bool, true, false, List, [], ◌∷◌, ◌++◌, length, take, drop, Option, Some, None, refl, ap, sym, ◌∙◌, arith, append_assoc, Bor}
+use Rattle.std.proofs.Common.{◌≡◌, ℕ, zero, suc, ◌+◌, ◌-◌, ◌*◌, ◌≤◌, Bool, true, false, List, [], ◌∷◌, ◌++◌, length, take, drop, Option, Some, None, refl, ap, sym, ◌∙◌, arith, Bor}
 use Rattle.std.specs.Prelude.{Result, Ok, Err, replicate, nat_le, option_map, option_and_then}
 use Rattle.std.specs.List.{flat_map, AllByRecursion}
 use Rattle.std.proofs.lemmas.Bool.Decides.{nat_tests}
@@ -20,15 +20,15 @@ use Rattle.row_forms.specs.declared.field.Width.TheVariants.{U8, U16, U32}
 use Rattle.row_forms.specs.declared.fault.Reason.{Reason}
 use Rattle.row_forms.specs.declared.fault.RowFault.{RowFault}
 use Rattle.row_forms.specs.Lists.{parts}
-use Rattle.row_forms.specs.Numbers.{bytes_of, number_at, number_said, choice_said}
+use Rattle.row_forms.specs.Numbers.{bytes_of, number_at, choice_said}
 use Rattle.row_forms.specs.Values.{value_said, width, reason_of, steps_said, steps_at, expression_of, expression_said}
-use Rattle.row_forms.specs.Rows.{with_front, with_check, behind_key, value_or, keyed_said, field_said, then_said, row_said}
+use Rattle.row_forms.specs.Rows.{with_front, behind_key, value_or, keyed_said, field_said, row_said}
 use Rattle.row_forms.specs.Words.{name_said}
 use Rattle.row_forms.specs.Worked.{choices_at}
 use Rattle.row_forms.proofs.RowNumberLemmas.{then_parts, check_parts}
 use Rattle.row_forms.proofs.SizeLemmas.{said_number, field_size}
 use Rattle.hs_tables.specs.Names.{name_of_bytes}
-use Rattle.table_meanings.specs.Meanings.{Meaning, Amount, Called, Steps, expression_meant, text_meaning, meaning_before, word_meanings, meanings_said, kind_meanings, meanings_in}
+use Rattle.table_meanings.specs.Meanings.{Meaning, Amount, Called, Steps, expression_meant, text_meaning, word_meanings, meanings_said, kind_meanings, meanings_in}
 
 -- ---- numbers
 

@@ -1,28 +1,26 @@
 -- Lemmas on message actions.
-use Rattle.std.proofs.Common.{◌≡◌, ℕ, zero, suc, ◌+◌, ◌-◌, ◌*◌, ◌<◌, ◌≤◌, Bool, true, false, List, [], ◌∷◌, ◌++◌, length, take, drop, map, get_or, Option, Some, None, refl, ap, sym, ◌∙◌, arith, append_assoc, length-append}
-use Rattle.std.specs.Prelude.{◌==◌, nat_le, slice_index, is_none, Result, Ok, Err, replicate, option_map}
+use Rattle.std.proofs.Common.{◌≡◌, ℕ, ◌+◌, ◌-◌, ◌*◌, ◌≤◌, true, List, [], ◌∷◌, ◌++◌, length, take, drop, Option, Some, refl, ap, sym, ◌∙◌, arith, append_assoc, length-append}
+use Rattle.std.specs.Prelude.{◌==◌, nat_le, Ok, replicate}
 use Rattle.std.proofs.lemmas.Bool.Decides.{nat_tests}
 use Rattle.std.proofs.lemmas.List.{take-take, drop-drop, drop-take, take_all, take_at, length-replicate, get_or_append_left}
 use Rattle.packet_forms.specs.Faults.{fault_of}
 use Rattle.packet_forms.specs.Numbers.{be16_at}
 use Rattle.packet_forms.specs.Packets.{IsPacket, length_field}
 use Rattle.packet_forms.proofs.Forms.{none_of_packet}
-use Rattle.row_forms.specs.declared.field.Field.{Field}
 use Rattle.row_forms.specs.Rows.{row_said, row_size}
 use Rattle.row_forms.proofs.SizeLemmas.{row_sizes}
 use Rattle.telecommands.specs.declared.command.Command.{Command}
-use Rattle.telecommands.specs.declared.fault.CommandFault.{CommandFault}
 use Rattle.telecommands.specs.Commands.{are_good, command_said}
 use Rattle.table_texts.specs.declared.layout.Layout.{Layout}
 use Rattle.table_texts.specs.Entries.{values_said}
 use Rattle.hs_tables.specs.Actions as actions
-use Rattle.table_forms.specs.Layouts.{all_layouts, placed_layout, placed_field}
+use Rattle.table_forms.specs.Layouts.{all_layouts, placed_layout}
 use Rattle.table_meanings.specs.Meanings.{Meaning, Amount, meanings_said, meanings_in}
 use Rattle.table_meanings.specs.Tables.{message_of, message_meant, messages_meaning}
 use Rattle.table_meanings.proofs.MeaningLemmas.{row_meanings}
 use Rattle.table_meanings.proofs.ChunkLemmas.{be16_cut}
 use Rattle.table_meanings.proofs.FrontLemmas.{said_packet, IsStored, stored_is}
-use Rattle.table_meanings.proofs.KindLemmas.{IsKnown, known_is}
+use Rattle.table_meanings.proofs.KindLemmas.{known_is}
 use Rattle.table_meanings.proofs.SaidLemmas.{Fits, area_is}
 
 -- a packet that begins an area

@@ -1,6 +1,6 @@
 -- Lemmas on fields whose texts lie elsewhere: they say what words say as these fields do.
-use Rattle.std.proofs.Common.{◌≡◌, ℕ, ◌+◌, Bool, List, [], ◌∷◌, ◌++◌, map, Option, Some, None, refl, ap, sym, ◌∙◌, Bor}
-use Rattle.std.specs.Prelude.{Result, Ok, Err, if◌then◌else◌, option_map, option_and_then, replicate}
+use Rattle.std.proofs.Common.{◌≡◌, ℕ, ◌+◌, List, [], ◌∷◌, map, Option, Some, None, refl, ap, ◌∙◌}
+use Rattle.std.specs.Prelude.{Result, if◌then◌else◌, option_map, option_and_then, replicate}
 use Rattle.std.specs.Str.{bytes_eq}
 use Rattle.row_forms.specs.declared.field.Choice.{Choice}
 use Rattle.row_forms.specs.declared.field.Field.{Field}
@@ -12,13 +12,12 @@ use Rattle.row_forms.specs.declared.field.Spelling.TheVariants as spellings
 use Rattle.row_forms.specs.declared.field.Width.{Width}
 use Rattle.row_forms.specs.declared.field.Width.TheVariants.{U8, U16, U32}
 use Rattle.row_forms.specs.declared.fault.Reason.{Reason}
-use Rattle.row_forms.specs.declared.fault.RowFault.{RowFault}
 use Rattle.row_forms.specs.Lists.{parts}
 use Rattle.row_forms.specs.Numbers.{number_bytes, number_said, choice_said, most_of}
 use Rattle.row_forms.specs.Words.{at_most}
 use Rattle.row_forms.specs.Values.{value_said, reason_of, reason_of_number, steps_said, expression_of, expression_said}
 use Rattle.row_forms.specs.Rows.{behind_key, value_or, keyed_said, field_said, then_said, with_front, with_check, row_said}
-use Rattle.table_forms.specs.Layouts.{placed_choice, placed_choices, placed_spelling, placed_kind, placed_field}
+use Rattle.table_forms.specs.Layouts.{placed_choice, placed_spelling, placed_kind, placed_field}
 
 choice_placed : (most : ℕ) (cs : List Choice) (text : List ℕ) → choice_said most (map placed_choice cs) text ≡ choice_said most cs text
 unfolding choice_said

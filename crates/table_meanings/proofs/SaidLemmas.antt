@@ -22,7 +22,7 @@ use Rattle.table_texts.specs.Entries.{Placed, behind_gap, sized, block_placed, r
 use Rattle.table_texts.specs.Endings.{ended, is_end, behind_first, fault_on}
 use Rattle.table_texts.proofs.EntryLemmas.{entry_none, entry_raw, entry_row, entries_nil, entries_end, entries_line}
 use Rattle.table_texts.proofs.LayoutLemmas.{IsLayout, row_of}
-use Rattle.table_meanings.specs.Entries.{first_number, entry_number, is_number, line_about, raw_bytes, EntryMeaning, line_meant, entries_meant}
+use Rattle.table_meanings.specs.Entries.{first_number, entry_number, line_about, raw_bytes, EntryMeaning, line_meant, entries_meant}
 use Rattle.table_meanings.proofs.ChunkLemmas.{chunk_gap, chunk_here, chunk_behind, range_same}
 
 -- ---- the bytes that one line says

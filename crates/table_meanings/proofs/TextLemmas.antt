@@ -1,14 +1,14 @@
 -- Lemmas on whole texts.
-use Rattle.std.proofs.Common.{◌≡◌, ℕ, zero, suc, ◌+◌, ◌-◌, ◌*◌, Bool, true, false, List, [], ◌∷◌, ◌++◌, length, take, drop, map, Option, Some, None, refl, ap, sym, subst, ◌∙◌, arith, append_assoc, length-append, length-take, length-drop}
+use Rattle.std.proofs.Common.{◌≡◌, ℕ, zero, suc, ◌+◌, ◌-◌, ◌*◌, Bool, true, false, List, [], ◌∷◌, ◌++◌, length, take, drop, map, Option, Some, None, refl, ap, sym, subst, ◌∙◌, arith, length-append, length-take, length-drop}
 use Rattle.std.specs.Prelude.{◌==◌, codes, option_map, Result, Ok, Err, replicate}
 use Rattle.std.specs.List.{range_with_len}
 use Rattle.std.proofs.lemmas.Bool.Decides.{nat_tests}
-use Rattle.std.proofs.lemmas.List.{drop_at, length-replicate}
+use Rattle.std.proofs.lemmas.List.{drop_at}
 use Rattle.std.proofs.Math.Seq.{drop-append-add}
 use Rattle.packet_forms.specs.Numbers.{be16_at, be32_at, be32_bytes}
 use Rattle.row_forms.specs.declared.field.Field.{Field}
 use Rattle.row_forms.specs.declared.fault.RowFault.{RowFault}
-use Rattle.row_forms.specs.Rows.{with_front, row_said, row_size}
+use Rattle.row_forms.specs.Rows.{row_said, row_size}
 use Rattle.row_forms.proofs.SizeLemmas.{row_sizes}
 use Rattle.table_files.specs.declared.fault.EntryFault.{EntryFault}
 use Rattle.table_files.specs.declared.kinds.TableKind.{TableKind}
@@ -29,36 +29,36 @@ use Rattle.hs_tables.specs.Apps as apps
 use Rattle.hs_tables.specs.Events as events
 use Rattle.hs_tables.specs.Counters as counters
 use Rattle.hs_tables.specs.Actions as actions
-use Rattle.md_dwell.specs.Tables.{DwellTable, dwell_of, entry_at, entries_in}
+use Rattle.md_dwell.specs.Tables.{dwell_of, entry_at, entries_in}
 use Rattle.cs_slices.specs.Tables.{segments_of, segment_at}
 use Rattle.lc_watch.specs.Watchpoints as watchpoints
 use Rattle.lc_watch.specs.Actionpoints as actionpoints
 use Rattle.sc_tables.specs.Absolute.{stored_ats, ats_fault_of, timed_form}
 use Rattle.sc_tables.specs.Relative.{stored_rts, rts_fault_of, relative_form}
-use Rattle.sc_tables.specs.Grammar.{EntryForm, read_of, fault_in}
+use Rattle.sc_tables.specs.Grammar.{read_of, fault_in}
 use Rattle.sc_tables.specs.Spelling.{timed_spelled, relative_spelled}
 use Rattle.table_forms.specs.declared.fault.TableFault.{TableFault}
 use Rattle.table_forms.specs.declared.forms.TextForms.{TextForms}
 use Rattle.table_forms.specs.declared.layouts.Layouts.{Layouts}
 use Rattle.table_forms.specs.Headers.{in_file, whole_header, header_said, table_file}
-use Rattle.table_forms.specs.Judging.{entry_fault_of, refusal_of, unless_refused, judged, IsTaken}
-use Rattle.table_forms.specs.Layouts.{all_layouts, placed, placed_layout, placed_field, are_layouts, form_of}
+use Rattle.table_forms.specs.Judging.{entry_fault_of, refusal_of, unless_refused, judged}
+use Rattle.table_forms.specs.Layouts.{all_layouts, placed, placed_layout, placed_field, form_of}
 use Rattle.table_forms.specs.Names.{kind_said, name_field}
 use Rattle.table_forms.specs.Payloads.{begins, as_table, entries_by, head_then, headed_said, payload_said}
-use Rattle.table_forms.specs.Reading.{First, kind_first, named_first, first_said, filed, first_filed, file_said, table_said, IsTakenAs}
+use Rattle.table_forms.specs.Reading.{First, kind_first, named_first, first_said, filed, first_filed, table_said, IsTakenAs}
 use Rattle.table_forms.proofs.KnownLemmas.{field_long}
-use Rattle.table_forms.proofs.LayoutsLemmas.{AreLayouts, HasBytes, layouts_are}
+use Rattle.table_forms.proofs.LayoutsLemmas.{AreLayouts, layouts_are}
 use Rattle.table_forms.proofs.NameLemmas.{said_known}
 use Rattle.table_forms.proofs.TakenLemmas.{texts_are_taken}
-use Rattle.table_meanings.specs.Meanings.{Meaning, Amount, meanings_said, meanings_in, amount_in}
+use Rattle.table_meanings.specs.Meanings.{Amount, meanings_said, meanings_in, amount_in}
 use Rattle.table_meanings.specs.Entries.{EntryMeaning, entries_meant}
 use Rattle.table_meanings.specs.Tables.{counters_meaning, apps_meaning, events_meaning, messages_meaning, dwells_meaning, segments_meaning, watchpoints_meaning, actionpoints_meaning}
-use Rattle.table_meanings.specs.Sequences.{timed_meant, relative_meant, has_raw, commands_meant}
+use Rattle.table_meanings.specs.Sequences.{timed_meant, relative_meant}
 use Rattle.table_meanings.specs.Texts.{Mean, DwellMeans, HeadedMeans, SequenceMeans, PayloadMeans, FirstMeans, TextMeans, AreKnownForms}
 use Rattle.table_meanings.proofs.MeaningLemmas.{row_meanings}
 use Rattle.table_meanings.proofs.PlacedLemmas.{row_placed}
 use Rattle.table_meanings.proofs.SaidLemmas.{Fits, entries_are}
-use Rattle.table_meanings.proofs.KindLemmas.{IsKnown as IsKnownLayout, known_is, known_row, counters_fit, counter_cut, apps_fit, app_cut, events_fit, event_cut, segments_fit, segment_cut, watchpoints_fit, watchpoint_cut, actionpoints_fit, actionpoint_cut, dwells_fit, dwell_cut}
+use Rattle.table_meanings.proofs.KindLemmas.{known_is, counters_fit, counter_cut, apps_fit, app_cut, events_fit, event_cut, segments_fit, segment_cut, watchpoints_fit, watchpoint_cut, actionpoints_fit, actionpoint_cut, dwells_fit, dwell_cut}
 use Rattle.table_meanings.proofs.MessageLemmas.{messages_fit, message_cut}
 use Rattle.table_meanings.proofs.CommandLemmas.{sequence_read}
 use Rattle.table_meanings.proofs.ItemLemmas.{timed_item, relative_item}

@@ -1,8 +1,6 @@
 -- Lemmas on one command of a sequence, absolute or relative.
-use Rattle.std.proofs.Common.{◌≡◌, ℕ, zero, suc, ◌+◌, ◌-◌, ◌*◌, ◌<◌, ◌≤◌, ◌^◌, ◌/◌, ◌%◌, Bool, true, false, List, [], ◌∷◌, ◌++◌, length, take, drop, map, get_or, Option, Some, None, refl, ap, sym, ◌∙◌, arith, append_assoc, append-nil, length-append, inl, inr, Bor}
-use Rattle.std.specs.Prelude.{◌==◌, codes, slice_index, if◌then◌else◌, is_none, option_map, Result, Ok, Err, replicate}
-use Rattle.std.specs.List.{list_all}
-use Rattle.std.specs.Str.{bytes_eq}
+use Rattle.std.proofs.Common.{◌≡◌, ℕ, zero, suc, ◌+◌, ◌<◌, ◌≤◌, true, false, List, [], ◌∷◌, ◌++◌, length, drop, get_or, Option, Some, None, refl, ap, sym, ◌∙◌, arith, append-nil, inl, inr, Bor}
+use Rattle.std.specs.Prelude.{slice_index, option_map, Ok, replicate}
 use Rattle.std.proofs.lemmas.Bool.{cases_Bool}
 use Rattle.std.proofs.lemmas.List.{drop_at, length-replicate, get_or-replicate, get_or_append_left}
 use Rattle.packet_forms.specs.Numbers.{be16_at, be32_at, be16_bytes, be32_bytes}
@@ -13,35 +11,23 @@ use Rattle.row_forms.specs.declared.field.Kind.TheVariants.{Number}
 use Rattle.row_forms.specs.declared.field.Spelling.{Spelling}
 use Rattle.row_forms.specs.declared.field.Width.{Width}
 use Rattle.row_forms.specs.declared.field.Width.TheVariants.{U16, U32}
-use Rattle.row_forms.specs.declared.fault.RowFault.{RowFault}
 use Rattle.row_forms.specs.Numbers.{bytes_of, most_of, number_at, number_bytes, number_said}
-use Rattle.row_forms.specs.Values.{value_said, IsSaidNumber}
-use Rattle.row_forms.specs.Rows.{behind_key, field_said, row_said}
+use Rattle.row_forms.specs.Values.{value_said}
+use Rattle.row_forms.specs.Rows.{field_said, row_said}
 use Rattle.row_forms.proofs.RowNumberLemmas.{then_parts}
 use Rattle.row_forms.proofs.SizeLemmas.{said_number}
-use Rattle.telecommands.specs.declared.command.Command.{Command}
-use Rattle.telecommands.specs.declared.fault.CommandFault.{CommandFault}
-use Rattle.telecommands.specs.Commands.{are_good, command_said}
-use Rattle.table_texts.specs.declared.fault.LineFault.{LineFault}
-use Rattle.table_texts.specs.Lines.{Numbered}
-use Rattle.table_texts.specs.Fronts.{front_said, behind_front}
-use Rattle.table_texts.specs.Sequences.{item_said}
-use Rattle.table_texts.proofs.SequenceLemmas.{item_none, item_command, item_other}
 use Rattle.sc_tables.specs.declared.absolute.Timed.{Timed}
 use Rattle.sc_tables.specs.declared.relative.Relative.{Relative}
 use Rattle.sc_tables.specs.Absolute.{is_used, timed_form, timed_reason}
 use Rattle.sc_tables.specs.Relative.{relative_form, relative_reason}
 use Rattle.sc_tables.specs.Grammar as grammar
-use Rattle.sc_tables.specs.Spelling.{IsTimed, IsRelative, timed_spelled, relative_spelled}
+use Rattle.sc_tables.specs.Spelling.{IsTimed, timed_spelled, relative_spelled}
 use Rattle.sc_tables.proofs.Fronts.{command_kept, timed_front, timed_unused, relative_front}
 use Rattle.sc_tables.proofs.Spelled.{end_is, IsTaken}
 use Rattle.sc_tables.proofs.Spellings.{timed_spelling, relative_spelling}
 use Rattle.sc_tables.proofs.Stored.{sound}
-use Rattle.table_forms.specs.Layouts.{all_layouts, placed_field}
-use Rattle.table_meanings.specs.Meanings.{Meaning, Amount, meanings_said, meanings_in}
-use Rattle.table_meanings.proofs.MeaningLemmas.{first_number, field_text, row_meanings}
-use Rattle.table_meanings.proofs.FrontLemmas.{said_packet, IsStored, stored_is}
-use Rattle.table_meanings.proofs.CommandLemmas.{IsRead, IsItem}
+use Rattle.table_meanings.proofs.MeaningLemmas.{first_number, field_text}
+use Rattle.table_meanings.proofs.CommandLemmas.{IsRead}
 
 -- ---- numbers in front
 

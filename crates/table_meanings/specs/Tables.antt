@@ -1,5 +1,5 @@
 -- The entries that lines mean, kind by kind.
-use Rattle.std.specs.Prelude.{◌≡◌, ℕ, ◌==◌, Bool, true, false, List, [], ◌∷◌, map, codes, Option, Some, None, option_map, Result, Ok, Err, take, drop}
+use Rattle.std.specs.Prelude.{ℕ, List, ◌∷◌, map, Option, Some, None, option_map, Result, Ok, Err, take, drop}
 use Rattle.row_forms.specs.declared.field.Field.{Field}
 use Rattle.telecommands.specs.declared.command.Command.{Command}
 use Rattle.telecommands.specs.declared.fault.CommandFault.{CommandFault}

@@ -1,5 +1,5 @@
 -- A text of each kind of table, with the entries that it means, written by hand.
-use Rattle.std.specs.Prelude.{ℕ, true, false, List, [], ◌∷◌, ◌++◌, drop, map, replicate, codes, Option, Some, None, Result, Ok, Err}
+use Rattle.std.specs.Prelude.{ℕ, true, List, [], ◌∷◌, ◌++◌, drop, replicate, codes, Option, Some, None, Result, Ok, Err}
 use Rattle.table_files.specs.Headers.{payload_of_file}
 use Rattle.table_texts.specs.Lines.{Numbered, kept_of}
 use Rattle.hs_tables.specs.Apps as apps

@@ -38,7 +38,7 @@ use Rattle.table_meanings.specs.Meanings.{meanings_said}
 use Rattle.table_meanings.specs.Entries.{entry_number, line_about}
 use Rattle.table_meanings.specs.Tables.{counter_of, app_of, event_of, dwell_entry_of, segment_of, watchpoint_of, actionpoint_of, counters_meaning, apps_meaning, events_meaning, dwells_meaning, segments_meaning, watchpoints_meaning, actionpoints_meaning, message_meant, messages_meaning}
 use Rattle.table_meanings.specs.Sequences.{timed_meant, relative_meant, commands_meant}
-use Rattle.table_meanings.specs.Worked.{counters_text, counters_rows, apps_text, apps_rows, events_text, events_rows, dwell_text, dwell_table, checksum_text, checksum_rows, watch_text, watch_rows, points_text, points_rows, messages_text, messages_rows, absolute_text, absolute_commands, relative_text, relative_commands}
+use Rattle.table_meanings.specs.Worked.{absolute_text, absolute_commands, relative_text, relative_commands}
 use Rattle.table_meanings.proofs.worked.sequence_texts_in_commands.Goals as goal
 
 pub returns-clause-absolute : goal.returns-clause-absolute
