@@ -22,7 +22,7 @@ use Rattle.sc_tables.specs.Relative.{relative_form}
 use Rattle.sc_tables.specs.Spelling.{timed_spelled, relative_spelled}
 use Rattle.table_forms.specs.Layouts.{all_layouts, placed_field}
 use Rattle.table_forms.specs.Payloads.{begins}
-use Rattle.table_meanings.specs.Meanings.{Meaning, Amount, meanings_said, meanings_in}
+use Rattle.table_meanings.specs.Meanings.{Keyed, keyed, Amount, meanings_said, meanings_in}
 use Rattle.table_meanings.specs.Sequences.{timed_of, relative_of, timed_meant, relative_meant}
 use Rattle.table_meanings.proofs.MeaningLemmas.{row_meanings}
 use Rattle.table_meanings.proofs.FrontLemmas.{said_packet, IsStored, stored_is}
@@ -35,7 +35,7 @@ absolute_row : (epoch : Option ℕ) (ws : List (List ℕ)) (front : List ℕ) �
 unfolding all_layouts
 absolute_row epoch ws front said = timed_row epoch 2 (text_at (codes "number")) (text_at (codes "time")) spellings.Decimal spellings.Time ws front said
 
-absolute_meanings : (front : List ℕ) → meanings_in all_layouts.absolute.now front ≡ Amount (be16_at front 0) ∷ Amount (be32_at (drop 2 front) 0) ∷ []
+absolute_meanings : (front : List ℕ) → meanings_in all_layouts.absolute.now front ≡ keyed (codes "number") (Amount (be16_at front 0)) ∷ keyed (codes "time") (Amount (be32_at (drop 2 front) 0)) ∷ []
 unfolding all_layouts meanings_in
 absolute_meanings front = refl
 
@@ -53,13 +53,13 @@ timed_stored epoch cs w ws bytes good named is =
     let row = absolute_row epoch (take 2 ws) front is.said in
     let form = said_packet epoch 4 cs (drop 2 ws) is.packet good is.command in
     let command : Timed = record { number = be16_at front 0; tag = be32_at (drop 2 front) 0; packet = is.packet } in
-    let meanings : meanings_said epoch all_layouts.absolute.now (take 2 ws) ≡ Some (Amount (be16_at front 0) ∷ Amount (be32_at (drop 2 front) 0) ∷ []) =
+    let meanings : meanings_said epoch all_layouts.absolute.now (take 2 ws) ≡ Some (keyed (codes "number") (Amount (be16_at front 0)) ∷ keyed (codes "time") (Amount (be32_at (drop 2 front) 0)) ∷ []) =
     row_meanings epoch 2 all_layouts.absolute.now (take 2 ws) front is.said ∙ ap Some (absolute_meanings front) in
     record {
       command = command;
       meant = rw named (
-          ap (λ (ms : Option (List Meaning)). timed_of ms (command_said epoch 4 cs (drop 2 ws))) meanings
-          ∙ ap (timed_of (Some (Amount (be16_at front 0) ∷ Amount (be32_at (drop 2 front) 0) ∷ []))) is.command);
+          ap (λ (ms : Option (List Keyed)). timed_of ms (command_said epoch 4 cs (drop 2 ws))) meanings
+          ∙ ap (timed_of (Some (keyed (codes "number") (Amount (be16_at front 0)) ∷ keyed (codes "time") (Amount (be32_at (drop 2 front) 0)) ∷ []))) is.command);
       bytes_are = timed_there command front is.packet bytes refl row is.bytes_are;
       read = timed_read command row.number row.tag form;
     }
@@ -70,7 +70,7 @@ relatives_row : (epoch : Option ℕ) (ws : List (List ℕ)) (front : List ℕ) �
 unfolding all_layouts
 relatives_row epoch ws front said = relative_row epoch 2 (text_at (codes "after")) spellings.Decimal ws front said
 
-relative_meanings : (front : List ℕ) → meanings_in all_layouts.relative.now front ≡ Amount (be16_at front 0) ∷ []
+relative_meanings : (front : List ℕ) → meanings_in all_layouts.relative.now front ≡ keyed (codes "after") (Amount (be16_at front 0)) ∷ []
 unfolding all_layouts meanings_in
 relative_meanings front = refl
 
@@ -85,13 +85,13 @@ relative_stored epoch cs w ws bytes good named is =
     let row = relatives_row epoch (take 1 ws) front is.said in
     let form = said_packet epoch 3 cs (drop 1 ws) is.packet good is.command in
     let command : Relative = record { tag = be16_at front 0; packet = is.packet } in
-    let meanings : meanings_said epoch all_layouts.relative.now (take 1 ws) ≡ Some (Amount (be16_at front 0) ∷ []) =
+    let meanings : meanings_said epoch all_layouts.relative.now (take 1 ws) ≡ Some (keyed (codes "after") (Amount (be16_at front 0)) ∷ []) =
     row_meanings epoch 2 all_layouts.relative.now (take 1 ws) front is.said ∙ ap Some (relative_meanings front) in
     record {
       command = command;
       meant = rw named (
-          ap (λ (ms : Option (List Meaning)). relative_of ms (command_said epoch 3 cs (drop 1 ws))) meanings
-          ∙ ap (relative_of (Some (Amount (be16_at front 0) ∷ []))) is.command);
+          ap (λ (ms : Option (List Keyed)). relative_of ms (command_said epoch 3 cs (drop 1 ws))) meanings
+          ∙ ap (relative_of (Some (keyed (codes "after") (Amount (be16_at front 0)) ∷ []))) is.command);
       bytes_are = relative_there command front is.packet bytes refl row is.bytes_are;
       read = relative_read command row.tag form;
     }

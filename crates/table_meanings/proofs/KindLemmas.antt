@@ -21,7 +21,7 @@ use Rattle.lc_watch.specs.Actionpoints as actionpoints
 use Rattle.lc_watch.specs.Expressions.{word_of, word_at, words_at}
 use Rattle.lc_watch.specs.declared.expressions.Word.{Word}
 use Rattle.table_forms.specs.Layouts.{all_layouts, placed_layout, placed_field}
-use Rattle.table_meanings.specs.Meanings.{Meaning, meanings_said, meanings_in}
+use Rattle.table_meanings.specs.Meanings.{Keyed, meanings_said, meanings_in}
 use Rattle.table_meanings.specs.Entries.{EntryMeaning}
 use Rattle.table_meanings.specs.Tables.{counter_of, app_of, event_of, dwell_entry_of, segment_of, watchpoint_of, actionpoint_of, row_meant, counters_meaning, apps_meaning, events_meaning, dwells_meaning, segments_meaning, watchpoints_meaning, actionpoints_meaning}
 use Rattle.table_meanings.proofs.MeaningLemmas.{row_meanings}
@@ -51,7 +51,7 @@ pub known_row : (epoch : Option ℕ) (fs known : List Field) (ws : List (List �
 known_row epoch fs known ws bytes e said =
     row_meanings epoch 2 known ws bytes (ap (λ (xs : List Field). row_said epoch 2 xs ws) (sym e) ∙ row_placed epoch 2 fs ws ∙ said)
 
-rows_fit : {E : Type 0} (epoch : Option ℕ) (cs : List Command) (l known : Layout) (m : EntryMeaning E) (made : List Meaning → E) → IsKnown l known → (known.area == 0) ≡ true → m.said ≡ row_meant epoch known.fields.now made → m.read (replicate known.size 0) ≡ m.unused → ((bytes : List ℕ) → made (meanings_in known.fields.now bytes) ≡ m.read bytes) → Fits epoch cs l m
+rows_fit : {E : Type 0} (epoch : Option ℕ) (cs : List Command) (l known : Layout) (m : EntryMeaning E) (made : List Keyed → E) → IsKnown l known → (known.area == 0) ≡ true → m.said ≡ row_meant epoch known.fields.now made → m.read (replicate known.size 0) ≡ m.unused → ((bytes : List ℕ) → made (meanings_in known.fields.now bytes) ≡ m.read bytes) → Fits epoch cs l m
 rows_fit epoch cs l known m made is plain means blank same = record {
   zero = ap (λ (n : ℕ). m.read (replicate n 0)) is.size ∙ blank;
   said = λ ws bytes e.

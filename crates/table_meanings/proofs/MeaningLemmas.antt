@@ -28,7 +28,7 @@ use Rattle.row_forms.specs.Worked.{choices_at}
 use Rattle.row_forms.proofs.RowNumberLemmas.{then_parts, check_parts}
 use Rattle.row_forms.proofs.SizeLemmas.{said_number, field_size}
 use Rattle.hs_tables.specs.Names.{name_of_bytes}
-use Rattle.table_meanings.specs.Meanings.{Meaning, Amount, Called, Steps, expression_meant, text_meaning, word_meanings, meanings_said, kind_meanings, meanings_in}
+use Rattle.table_meanings.specs.Meanings.{Meaning, Amount, Called, Steps, Keyed, expression_meant, text_meaning, word_meanings, meanings_said, kind_meanings, meanings_in}
 
 -- ---- numbers
 
@@ -168,7 +168,7 @@ steps_meaning epoch words text value rest e =
     ap (option_map expression_meant) is.1 ∙ ap Some (sym (expression_by is.0 value rest (nat_le (length is.0) 16) refl (steps_two words.now (parts text) is.0 is.1) is.2))
 
 -- a word, and those behind it
-value_step : (epoch : Option ℕ) (key : List ℕ) (kind : Kind) (word value rest : List ℕ) (behind : Option (List Meaning)) (fs : List Field) → field_said epoch key kind word ≡ Ok value → behind ≡ Some (meanings_in fs rest) → word_meanings epoch key kind word behind ≡ Some (kind_meanings kind (value ++ rest) (meanings_in fs (drop (width kind (value ++ rest)) (value ++ rest))))
+value_step : (epoch : Option ℕ) (key : List ℕ) (kind : Kind) (word value rest : List ℕ) (behind : Option (List Keyed)) (fs : List Field) → field_said epoch key kind word ≡ Ok value → behind ≡ Some (meanings_in fs rest) → word_meanings epoch key kind word behind ≡ Some (kind_meanings key kind (value ++ rest) (meanings_in fs (drop (width kind (value ++ rest)) (value ++ rest))))
 value_step epoch key (Number w s) word value rest behind fs said more =
     let is = field_text epoch key (Number w s) word value said in
     let long = (said_number epoch w s is.0 value is.2).size in

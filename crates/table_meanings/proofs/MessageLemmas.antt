@@ -1,6 +1,6 @@
 -- Lemmas on message actions.
 use Rattle.std.proofs.Common.{◌≡◌, ℕ, ◌+◌, ◌-◌, ◌*◌, ◌≤◌, true, List, [], ◌∷◌, ◌++◌, length, take, drop, Option, Some, refl, ap, sym, ◌∙◌, arith, append_assoc, length-append}
-use Rattle.std.specs.Prelude.{◌==◌, nat_le, Ok, replicate}
+use Rattle.std.specs.Prelude.{codes, ◌==◌, nat_le, Ok, replicate}
 use Rattle.std.proofs.lemmas.Bool.Decides.{nat_tests}
 use Rattle.std.proofs.lemmas.List.{take-take, drop-drop, drop-take, take_all, take_at, length-replicate, get_or_append_left}
 use Rattle.packet_forms.specs.Faults.{fault_of}
@@ -15,7 +15,7 @@ use Rattle.table_texts.specs.declared.layout.Layout.{Layout}
 use Rattle.table_texts.specs.Entries.{values_said}
 use Rattle.hs_tables.specs.Actions as actions
 use Rattle.table_forms.specs.Layouts.{all_layouts, placed_layout}
-use Rattle.table_meanings.specs.Meanings.{Meaning, Amount, meanings_said, meanings_in}
+use Rattle.table_meanings.specs.Meanings.{Keyed, keyed, Amount, meanings_said, meanings_in}
 use Rattle.table_meanings.specs.Tables.{message_of, message_meant, messages_meaning}
 use Rattle.table_meanings.proofs.MeaningLemmas.{row_meanings}
 use Rattle.table_meanings.proofs.ChunkLemmas.{be16_cut}
@@ -45,7 +45,7 @@ front_read (a ∷ b ∷ c ∷ []) rest long = absurd (omega (arith, long))
 front_read (a ∷ b ∷ c ∷ d ∷ []) rest long = refl
 front_read (a ∷ b ∷ c ∷ d ∷ e ∷ front) rest long = absurd (omega (arith, long))
 
-fields_meant : (front : List ℕ) → meanings_in all_layouts.actions.fields.now front ≡ Amount (be16_at front 0) ∷ Amount (be16_at (drop 2 front) 0) ∷ []
+fields_meant : (front : List ℕ) → meanings_in all_layouts.actions.fields.now front ≡ keyed (codes "state") (Amount (be16_at front 0)) ∷ keyed (codes "cooldown") (Amount (be16_at (drop 2 front) 0)) ∷ []
 unfolding all_layouts meanings_in
 fields_meant front = refl
 
@@ -66,10 +66,10 @@ message_bytes epoch cs ws bytes zeros good is room pad =
     let size : length rest ≡ 64 = length-append packet (replicate zeros 0) ∙ ap (λ (n : ℕ). length packet + n) (length-replicate zeros 0) ∙ omega (arith, pad, long, room) in
     let area : take 64 rest ≡ rest = take_all 64 rest (omega (arith, size)) in
     let found : actions.packet_in (take 64 rest) ≡ Some packet = ap actions.packet_in area ∙ packet_there packet (replicate zeros 0) form (omega (arith, long, room)) in
-    let meant : meanings_said epoch all_layouts.actions.fields.now (take 2 ws) ≡ Some (Amount (be16_at front 0) ∷ Amount (be16_at (drop 2 front) 0) ∷ []) =
+    let meant : meanings_said epoch all_layouts.actions.fields.now (take 2 ws) ≡ Some (keyed (codes "state") (Amount (be16_at front 0)) ∷ keyed (codes "cooldown") (Amount (be16_at (drop 2 front) 0)) ∷ []) =
     row_meanings epoch 2 all_layouts.actions.fields.now (take 2 ws) front is.said ∙ ap Some (fields_meant front) in
-    ap (λ (ms : Option (List Meaning)). message_of ms (command_said epoch 4 cs (drop 2 ws))) meant
-    ∙ ap (message_of (Some (Amount (be16_at front 0) ∷ Amount (be16_at (drop 2 front) 0) ∷ []))) is.command
+    ap (λ (ms : Option (List Keyed)). message_of ms (command_said epoch 4 cs (drop 2 ws))) meant
+    ∙ ap (message_of (Some (keyed (codes "state") (Amount (be16_at front 0)) ∷ keyed (codes "cooldown") (Amount (be16_at (drop 2 front) 0)) ∷ []))) is.command
     ∙ ap (λ (p : Option (List ℕ)). Some (record { state = be16_at front 0; cooldown = be16_at (drop 2 front) 0; packet = p })) (sym found)
     ∙ ap Some (front_read front rest four ∙ ap (λ (xs : List ℕ). actions.row_at xs 0) whole)
 

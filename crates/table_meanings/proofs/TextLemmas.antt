@@ -50,7 +50,7 @@ use Rattle.table_forms.proofs.KnownLemmas.{field_long}
 use Rattle.table_forms.proofs.LayoutsLemmas.{AreLayouts, layouts_are}
 use Rattle.table_forms.proofs.NameLemmas.{said_known}
 use Rattle.table_forms.proofs.TakenLemmas.{texts_are_taken}
-use Rattle.table_meanings.specs.Meanings.{Amount, meanings_said, meanings_in, amount_in}
+use Rattle.table_meanings.specs.Meanings.{Keyed, keyed, Amount, meanings_said, meanings_in, amount_in}
 use Rattle.table_meanings.specs.Entries.{EntryMeaning, entries_meant}
 use Rattle.table_meanings.specs.Tables.{counters_meaning, apps_meaning, events_meaning, messages_meaning, dwells_meaning, segments_meaning, watchpoints_meaning, actionpoints_meaning}
 use Rattle.table_meanings.specs.Sequences.{timed_meant, relative_meant}
@@ -147,7 +147,7 @@ head_size : (epoch : Option ℕ) (ws : List (List ℕ)) (front : List ℕ) → r
 unfolding all_layouts row_size
 head_size epoch ws front said = row_sizes epoch 2 4 all_layouts.head.now ws front refl said
 
-head_meanings : (front : List ℕ) → meanings_in all_layouts.head.now front ≡ Amount (be16_at front 0) ∷ Amount (be16_at (drop 2 front) 0) ∷ []
+head_meanings : (front : List ℕ) → meanings_in all_layouts.head.now front ≡ keyed (codes "enabled") (Amount (be16_at front 0)) ∷ keyed (codes "spare") (Amount (be16_at (drop 2 front) 0)) ∷ []
 unfolding all_layouts meanings_in
 head_meanings front = refl
 
@@ -175,11 +175,11 @@ dwells_mean f l head more payload good e fields is =
     let four = head_size f.epoch ws front said in
     let behind : drop 4 payload ≡ rest = ap (drop 4) (sym is.payload_is) ∙ drop_at front rest 4 four in
     let flag : be16_at front 0 ≡ be16_at payload 0 = front_flag front rest four ∙ ap (λ (xs : List ℕ). be16_at xs 0) is.payload_is in
-    let meant : meanings_said f.epoch all_layouts.head.now ws ≡ Some (Amount (be16_at front 0) ∷ Amount (be16_at (drop 2 front) 0) ∷ []) = row_meanings f.epoch 2 all_layouts.head.now ws front said ∙ ap Some (head_meanings front) in
+    let meant : meanings_said f.epoch all_layouts.head.now ws ≡ Some (keyed (codes "enabled") (Amount (be16_at front 0)) ∷ keyed (codes "spare") (Amount (be16_at (drop 2 front) 0)) ∷ []) = row_meanings f.epoch 2 all_layouts.head.now ws front said ∙ ap Some (head_meanings front) in
     let cut : (i : ℕ) → entry_at payload i ≡ entry_at (0 ∷ 0 ∷ 0 ∷ 0 ∷ take 8 (drop (8 * i) rest)) 0 =
     λ i. dwell_cut payload i ∙ ap (λ (xs : List ℕ). entry_at (0 ∷ 0 ∷ 0 ∷ 0 ∷ take 8 (drop (8 * i) xs)) 0) behind in
     record {
-      enabled = ap (option_map (λ ms. amount_in ms 0 == 1)) meant ∙ ap (λ (n : ℕ). Some (n == 1)) flag ∙ ap Some (sym (flag_is payload));
+      enabled = ap (option_map (λ ms. amount_in ms (codes "enabled") == 1)) meant ∙ ap (λ (n : ℕ). Some (n == 1)) flag ∙ ap Some (sym (flag_is payload));
       entries = ap (map Some) (dwell_entries payload) ∙ entries_mean f.epoch f.commands.now l all_layouts.dwells (dwells_meaning f.epoch) (head.number + 1) more rest (entry_at payload) good e (dwells_fit f.epoch f.commands.now l e) cut (table_ok (entries_said f.epoch f.commands.now l 0 (head.number + 1) more) rest is.entries);
     }
 

@@ -1,5 +1,6 @@
 -- What the words of a row mean, field by field, and what stands in its bytes.
-use Rattle.std.specs.Prelude.{ℕ, ◌-◌, List, [], ◌∷◌, ◌++◌, length, take, drop, replicate, get_or, Option, Some, None, option_map, option_and_then}
+use Rattle.std.specs.Prelude.{ℕ, ◌-◌, List, [], ◌∷◌, ◌++◌, length, take, drop, replicate, if◌then◌else◌, Option, Some, None, option_map, option_and_then}
+use Rattle.std.specs.Str.{bytes_eq}
 use Rattle.packet_forms.specs.Numbers.{be16_at}
 use Rattle.row_forms.specs.declared.field.Field.{Field}
 use Rattle.row_forms.specs.declared.field.Field.TheVariants.{Value, Zeros, Check}
@@ -30,39 +31,52 @@ text_meaning epoch Name text = option_map (λ name. Called (Some name)) (name_sa
 text_meaning epoch Block text = None
 text_meaning epoch (Expression words) text = option_map expression_meant (steps_said words.now (parts text))
 
-abbrev pub meaning_before : Option Meaning → Option (List Meaning) → Option (List Meaning)
-meaning_before (Some m) (Some ms) = Some (m ∷ ms)
-meaning_before m ms = None
+-- what a field means, by its key
+pub record Keyed : Type 0 where
+  pub key : List ℕ
+  pub meaning : Meaning
+
+abbrev pub keyed : List ℕ → Meaning → Keyed
+keyed key meaning = record { key = key; meaning = meaning }
+
+abbrev pub keyed_before : List ℕ → Option Meaning → Option (List Keyed) → Option (List Keyed)
+keyed_before key (Some m) (Some ms) = Some (keyed key m ∷ ms)
+keyed_before key m ms = None
 
 -- what a word means, and what those behind it do; a block's bytes, and what is behind them, aren't told
-abbrev pub word_meanings : Option ℕ → List ℕ → Kind → List ℕ → Option (List Meaning) → Option (List Meaning)
-word_meanings epoch key (Number w spelling) word rest = meaning_before (option_and_then (text_meaning epoch (Number w spelling)) (behind_key key word)) rest
-word_meanings epoch key Name word rest = meaning_before (option_and_then (text_meaning epoch Name) (behind_key key word)) rest
+abbrev pub word_meanings : Option ℕ → List ℕ → Kind → List ℕ → Option (List Keyed) → Option (List Keyed)
+word_meanings epoch key (Number w spelling) word rest = keyed_before key (option_and_then (text_meaning epoch (Number w spelling)) (behind_key key word)) rest
+word_meanings epoch key Name word rest = keyed_before key (option_and_then (text_meaning epoch Name) (behind_key key word)) rest
 word_meanings epoch key Block word rest = Some []
-word_meanings epoch key (Expression words) word rest = meaning_before (option_and_then (text_meaning epoch (Expression words)) (behind_key key word)) rest
+word_meanings epoch key (Expression words) word rest = keyed_before key (option_and_then (text_meaning epoch (Expression words)) (behind_key key word)) rest
 
 -- what the words of a row mean, in their order
-unfoldable pub meanings_said : Option ℕ → List Field → List (List ℕ) → Option (List Meaning)
+unfoldable pub meanings_said : Option ℕ → List Field → List (List ℕ) → Option (List Keyed)
 meanings_said epoch [] ws = Some []
 meanings_said epoch (Value key kind ∷ fs) [] = None
 meanings_said epoch (Value key kind ∷ fs) (w ∷ ws) = word_meanings epoch key.now kind w (meanings_said epoch fs ws)
 meanings_said epoch (Zeros count ∷ fs) ws = meanings_said epoch fs ws
 meanings_said epoch (Check ∷ fs) ws = meanings_said epoch fs ws
 
-abbrev pub kind_meanings : Kind → List ℕ → List Meaning → List Meaning
-kind_meanings (Number w spelling) bytes rest = Amount (number_at w bytes) ∷ rest
-kind_meanings Name bytes rest = Called (name_of_bytes (take 20 bytes)) ∷ rest
-kind_meanings Block bytes rest = []
-kind_meanings (Expression words) bytes rest = Steps (be16_at bytes 0) (steps_at 16 (drop 2 bytes)) ∷ rest
+abbrev pub kind_meanings : List ℕ → Kind → List ℕ → List Keyed → List Keyed
+kind_meanings key (Number w spelling) bytes rest = keyed key (Amount (number_at w bytes)) ∷ rest
+kind_meanings key Name bytes rest = keyed key (Called (name_of_bytes (take 20 bytes))) ∷ rest
+kind_meanings key Block bytes rest = []
+kind_meanings key (Expression words) bytes rest = keyed key (Steps (be16_at bytes 0) (steps_at 16 (drop 2 bytes))) ∷ rest
 
 -- what the bytes of a row mean, in their order
-unfoldable pub meanings_in : List Field → List ℕ → List Meaning
+unfoldable pub meanings_in : List Field → List ℕ → List Keyed
 meanings_in [] bytes = []
-meanings_in (Value key kind ∷ fs) bytes = kind_meanings kind bytes (meanings_in fs (drop (width kind bytes) bytes))
+meanings_in (Value key kind ∷ fs) bytes = kind_meanings key.now kind bytes (meanings_in fs (drop (width kind bytes) bytes))
 meanings_in (Zeros count ∷ fs) bytes = meanings_in fs (drop count bytes)
 meanings_in (Check ∷ fs) bytes = meanings_in fs (drop 2 bytes)
 
--- ---- one of them, by its place from 0
+-- ---- one of them, by its key
+
+-- what the field of a key means, and the number 0 where there is none
+abbrev pub meaning_of : List Keyed → List ℕ → Meaning
+meaning_of [] key = Amount 0
+meaning_of (m ∷ ms) key = if bytes_eq m.key key then m.meaning else meaning_of ms key
 
 abbrev pub amount_of : Meaning → ℕ
 amount_of (Amount n) = n
@@ -79,11 +93,11 @@ steps_of (Amount n) = []
 steps_of (Called name) = []
 steps_of (Steps count steps) = steps
 
-abbrev pub amount_in : List Meaning → ℕ → ℕ
-amount_in meanings place = amount_of (get_or meanings place (Amount 0))
+abbrev pub amount_in : List Keyed → List ℕ → ℕ
+amount_in ms key = amount_of (meaning_of ms key)
 
-abbrev pub name_meant_in : List Meaning → ℕ → Option (List ℕ)
-name_meant_in meanings place = name_meant (get_or meanings place (Amount 0))
+abbrev pub name_meant_in : List Keyed → List ℕ → Option (List ℕ)
+name_meant_in ms key = name_meant (meaning_of ms key)
 
-abbrev pub steps_in : List Meaning → ℕ → List ℕ
-steps_in meanings place = steps_of (get_or meanings place (Amount 0))
+abbrev pub steps_in : List Keyed → List ℕ → List ℕ
+steps_in ms key = steps_of (meaning_of ms key)

@@ -11,17 +11,17 @@ use Rattle.table_forms.specs.Layouts.{all_layouts}
 use Rattle.table_forms.specs.Payloads.{begins}
 use Rattle.sc_tables.specs.declared.absolute.Timed.{Timed}
 use Rattle.sc_tables.specs.declared.relative.Relative.{Relative}
-use Rattle.table_meanings.specs.Meanings.{Meaning, meanings_said, amount_in}
+use Rattle.table_meanings.specs.Meanings.{Keyed, meanings_said, amount_in}
 
 -- a command with its number and its time, and the packet that its telecommand says
-abbrev pub timed_of : Option (List Meaning) → Result (List ℕ) CommandFault → Option Timed
-timed_of (Some ms) (Ok packet) = Some (record { number = amount_in ms 0; tag = amount_in ms 1; packet = packet })
+abbrev pub timed_of : Option (List Keyed) → Result (List ℕ) CommandFault → Option Timed
+timed_of (Some ms) (Ok packet) = Some (record { number = amount_in ms (codes "number"); tag = amount_in ms (codes "time"); packet = packet })
 timed_of (Some ms) (Err fault) = None
 timed_of None said = None
 
 -- a command with the seconds before it
-abbrev pub relative_of : Option (List Meaning) → Result (List ℕ) CommandFault → Option Relative
-relative_of (Some ms) (Ok packet) = Some (record { tag = amount_in ms 0; packet = packet })
+abbrev pub relative_of : Option (List Keyed) → Result (List ℕ) CommandFault → Option Relative
+relative_of (Some ms) (Ok packet) = Some (record { tag = amount_in ms (codes "after"); packet = packet })
 relative_of (Some ms) (Err fault) = None
 relative_of None said = None
 

@@ -1,5 +1,5 @@
 -- The entries that lines mean, kind by kind.
-use Rattle.std.specs.Prelude.{ℕ, List, ◌∷◌, map, Option, Some, None, option_map, Result, Ok, Err, take, drop}
+use Rattle.std.specs.Prelude.{ℕ, List, ◌∷◌, map, Option, Some, None, option_map, Result, Ok, Err, take, drop, codes}
 use Rattle.row_forms.specs.declared.field.Field.{Field}
 use Rattle.telecommands.specs.declared.command.Command.{Command}
 use Rattle.telecommands.specs.declared.fault.CommandFault.{CommandFault}
@@ -22,51 +22,51 @@ use Rattle.lc_watch.specs.Actionpoints as actionpoints
 use Rattle.lc_watch.specs.Expressions.{word_of}
 use Rattle.lc_watch.specs.declared.actionpoints.ActRow.{ActRow}
 use Rattle.table_forms.specs.Layouts.{all_layouts}
-use Rattle.table_meanings.specs.Meanings.{Meaning, meanings_said, amount_in, name_meant_in, steps_in}
+use Rattle.table_meanings.specs.Meanings.{Keyed, meanings_said, amount_in, name_meant_in, steps_in}
 use Rattle.table_meanings.specs.Entries.{EntryMeaning}
 
 -- ---- the entry of what the words behind a number mean
 
-unfoldable pub counter_of : List Meaning → CountRow
-counter_of ms = record { name = name_meant_in ms 0; sort = amount_in ms 1 }
+unfoldable pub counter_of : List Keyed → CountRow
+counter_of ms = record { name = name_meant_in ms (codes "app"); sort = amount_in ms (codes "type") }
 
-unfoldable pub app_of : List Meaning → AppRow
-app_of ms = record { name = name_meant_in ms 0; cycles = amount_in ms 1; action = amount_in ms 2 }
+unfoldable pub app_of : List Keyed → AppRow
+app_of ms = record { name = name_meant_in ms (codes "app"); cycles = amount_in ms (codes "cycles"); action = amount_in ms (codes "action") }
 
-unfoldable pub event_of : List Meaning → EventRow
-event_of ms = record { name = name_meant_in ms 0; id = amount_in ms 1; action = amount_in ms 2 }
+unfoldable pub event_of : List Keyed → EventRow
+event_of ms = record { name = name_meant_in ms (codes "app"); id = amount_in ms (codes "event"); action = amount_in ms (codes "action") }
 
-unfoldable pub dwell_entry_of : List Meaning → DwellEntry
-dwell_entry_of ms = record { len = amount_in ms 0; delay = amount_in ms 1; at = amount_in ms 2 }
+unfoldable pub dwell_entry_of : List Keyed → DwellEntry
+dwell_entry_of ms = record { len = amount_in ms (codes "length"); delay = amount_in ms (codes "delay"); at = amount_in ms (codes "address") }
 
-unfoldable pub segment_of : List Meaning → Segment
-segment_of ms = record { state = amount_in ms 0; start = amount_in ms 1; len = amount_in ms 2 }
+unfoldable pub segment_of : List Keyed → Segment
+segment_of ms = record { state = amount_in ms (codes "state"); start = amount_in ms (codes "start"); len = amount_in ms (codes "length") }
 
-unfoldable pub watchpoint_of : List Meaning → WatchRow
+unfoldable pub watchpoint_of : List Keyed → WatchRow
 watchpoint_of ms = record {
-  kind = amount_in ms 0;
-  id = amount_in ms 1;
-  offset = amount_in ms 2;
-  operator = watchpoints.operator_of (amount_in ms 3);
-  mask = amount_in ms 4;
-  limit = amount_in ms 5;
+  kind = amount_in ms (codes "type");
+  id = amount_in ms (codes "id");
+  offset = amount_in ms (codes "offset");
+  operator = watchpoints.operator_of (amount_in ms (codes "operator"));
+  mask = amount_in ms (codes "mask");
+  limit = amount_in ms (codes "limit");
 }
 
-unfoldable pub actionpoint_of : List Meaning → ActRow
+unfoldable pub actionpoint_of : List Keyed → ActRow
 actionpoint_of ms = record {
-  state = amount_in ms 0;
-  rts = amount_in ms 1;
-  failures = amount_in ms 2;
-  size = amount_in ms 3;
-  words = map word_of (steps_in ms 3);
+  state = amount_in ms (codes "state");
+  rts = amount_in ms (codes "sequence");
+  failures = amount_in ms (codes "failures");
+  size = amount_in ms (codes "when");
+  words = map word_of (steps_in ms (codes "when"));
 }
 
 -- the words of a row as an entry
-abbrev pub row_meant : {E : Type 0} → Option ℕ → List Field → (List Meaning → E) → List (List ℕ) → Option E
+abbrev pub row_meant : {E : Type 0} → Option ℕ → List Field → (List Keyed → E) → List (List ℕ) → Option E
 row_meant epoch fs made ws = option_map made (meanings_said epoch fs ws)
 
 -- entries of one row each, which the loader reads by their place
-abbrev pub rows_meaning : {E : Type 0} → Option ℕ → List Field → (List Meaning → E) → (List ℕ → ℕ → E) → E → EntryMeaning E
+abbrev pub rows_meaning : {E : Type 0} → Option ℕ → List Field → (List Keyed → E) → (List ℕ → ℕ → E) → E → EntryMeaning E
 rows_meaning epoch fs made row_at unused = record { said = row_meant epoch fs made; read = λ bytes. row_at bytes 0; unused = unused }
 
 unfoldable pub counters_meaning : Option ℕ → EntryMeaning CountRow
@@ -94,8 +94,8 @@ actionpoints_meaning epoch = rows_meaning epoch all_layouts.actionpoints.fields.
 -- ---- message actions, which have a telecommand behind their fields
 
 -- what two fields mean, and the packet that a telecommand says
-abbrev pub message_of : Option (List Meaning) → Result (List ℕ) CommandFault → Option messages.ActRow
-message_of (Some ms) (Ok packet) = Some (record { state = amount_in ms 0; cooldown = amount_in ms 1; packet = Some packet })
+abbrev pub message_of : Option (List Keyed) → Result (List ℕ) CommandFault → Option messages.ActRow
+message_of (Some ms) (Ok packet) = Some (record { state = amount_in ms (codes "state"); cooldown = amount_in ms (codes "cooldown"); packet = Some packet })
 message_of (Some ms) (Err fault) = None
 message_of None said = None
 

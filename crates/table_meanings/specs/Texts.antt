@@ -1,5 +1,5 @@
 -- What the texts of tables mean: the entries that the tables' loaders read in their files.
-use Rattle.std.specs.Prelude.{◌≡◌, ℕ, ◌==◌, true, false, List, [], ◌∷◌, map, Option, Some, option_map, Result, Ok, Err}
+use Rattle.std.specs.Prelude.{◌≡◌, ℕ, ◌==◌, true, false, List, [], ◌∷◌, map, Option, Some, option_map, Result, Ok, Err, codes}
 use Rattle.table_files.specs.Headers.{payload_of_file}
 use Rattle.table_files.specs.declared.kinds.TableKind.{TableKind}
 use Rattle.table_files.specs.declared.kinds.TableKind.TheVariants.{AppMon, EventMon, ExeCount, MsgActs, Ats, Rts, Dwell, Eeprom, Memory, Wdt, Adt}
@@ -31,7 +31,7 @@ Mean m count lines entries = map Some entries ≡ entries_meant m count lines
 
 -- a dwell table's first line says whether it is enabled, and the lines behind it its entries
 pub record DwellMeans (epoch : Option ℕ) (head : Numbered) (more : List Numbered) (payload : List ℕ) : Type 0 where
-  pub enabled : option_map (λ ms. amount_in ms 0 == 1) (meanings_said epoch all_layouts.head.now (behind_first head.words)) ≡ Some (dwell_of payload).enabled
+  pub enabled : option_map (λ ms. amount_in ms (codes "enabled") == 1) (meanings_said epoch all_layouts.head.now (behind_first head.words)) ≡ Some (dwell_of payload).enabled
   pub entries : Mean (dwells_meaning epoch) 25 more (dwell_of payload).entries
 
 abbrev pub HeadedMeans : Option ℕ → List Numbered → List ℕ → Type 0

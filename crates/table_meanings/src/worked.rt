@@ -1,6 +1,7 @@
 //! A text of each kind of table, and the entries that it means. What its words mean, and what the loader reads in its file, are the entries
 //! that are written by hand.
-ghost use Rattle.std.specs.Prelude.{◌≡◌, map, drop, Some, None, Ok};
+ghost use Rattle.std.specs.Prelude.{◌≡◌, ◌∷◌, ◌++◌, [], map, drop, codes, decimal, Some, None, Ok};
+ghost use Rattle.std.specs.List.{range_with_len};
 ghost use Rattle.hs_tables.specs.Apps as apps;
 ghost use Rattle.hs_tables.specs.Events as events;
 ghost use Rattle.hs_tables.specs.Counters as counters;
@@ -8,6 +9,11 @@ ghost use Rattle.hs_tables.specs.Actions as actions;
 ghost use Rattle.md_dwell.specs.Tables.{dwell_of};
 ghost use Rattle.cs_slices.specs.Tables.{segments_of};
 ghost use Rattle.lc_watch.specs.Watchpoints as watchpoints;
+ghost use Rattle.lc_watch.specs.Watchpoints.{operator_of};
+ghost use Rattle.lc_watch.specs.declared.watchpoints.Operator.TheVariants.{Less, LessOrEqual, NotEqual, Equal, GreaterOrEqual, Greater};
+ghost use Rattle.lc_watch.specs.Expressions.{word_of};
+ghost use Rattle.lc_watch.specs.declared.expressions.Word.TheVariants.{Watch, And, Or, Xor, Not};
+ghost use Rattle.table_forms.specs.Layouts.{operators, steps};
 ghost use Rattle.lc_watch.specs.Actionpoints as actionpoints;
 ghost use Rattle.sc_tables.specs.Absolute.{stored_ats};
 ghost use Rattle.sc_tables.specs.Relative.{stored_rts};
@@ -51,4 +57,12 @@ pub fn sequence_texts_in_commands()
     ensures absolute_read { loaded stored_ats absolute_text ≡ Some (Ok absolute_commands) }
     ensures relative { commands_meant (relative_meant None dictionary) (behind_name relative_text) ≡ Some relative_commands }
     ensures relative_read { loaded stored_rts relative_text ≡ Some (Ok relative_commands) }
+{}
+
+/// The words of operators and of the steps of expressions, and what the loader makes of their numbers.
+pub fn choices_in_entries()
+    ensures operators { map (λ c. c.text.now) operators ≡ codes "<" ∷ codes "<=" ∷ codes "!=" ∷ codes "==" ∷ codes ">=" ∷ codes ">" ∷ [] }
+    ensures compared { map (λ c. operator_of c.number) operators ≡ map Some (Less ∷ LessOrEqual ∷ NotEqual ∷ Equal ∷ GreaterOrEqual ∷ Greater ∷ []) }
+    ensures steps { map (λ c. c.text.now) steps ≡ map (λ n. codes "w" ++ decimal n) (range_with_len 1 32) ++ (codes "and" ∷ codes "or" ∷ codes "xor" ∷ codes "not" ∷ []) }
+    ensures worked { map (λ c. word_of c.number) steps ≡ map Watch (range_with_len 0 32) ++ (And ∷ Or ∷ Xor ∷ Not ∷ []) }
 {}
