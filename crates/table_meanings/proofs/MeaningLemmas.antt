@@ -28,7 +28,7 @@ use Rattle.row_forms.specs.Worked.{choices_at}
 use Rattle.row_forms.proofs.RowNumberLemmas.{then_parts, check_parts}
 use Rattle.row_forms.proofs.SizeLemmas.{said_number, field_size}
 use Rattle.hs_tables.specs.Names.{name_of_bytes}
-use Rattle.table_meanings.specs.Meanings.{Meaning, Amount, Called, Steps, Keyed, expression_meant, text_meaning, word_meanings, meanings_said, kind_meanings, meanings_in}
+use Rattle.table_meanings.specs.Meanings.{Amount, Called, Steps, Keyed, expression_meant, text_meaning, word_meanings, meanings_said, kind_meanings, meanings_in}
 
 -- ---- numbers
 

@@ -50,7 +50,7 @@ use Rattle.table_forms.proofs.KnownLemmas.{field_long}
 use Rattle.table_forms.proofs.LayoutsLemmas.{AreLayouts, layouts_are}
 use Rattle.table_forms.proofs.NameLemmas.{said_known}
 use Rattle.table_forms.proofs.TakenLemmas.{texts_are_taken}
-use Rattle.table_meanings.specs.Meanings.{Keyed, keyed, Amount, meanings_said, meanings_in, amount_in}
+use Rattle.table_meanings.specs.Meanings.{keyed, Amount, meanings_said, meanings_in, amount_in}
 use Rattle.table_meanings.specs.Entries.{EntryMeaning, entries_meant}
 use Rattle.table_meanings.specs.Tables.{counters_meaning, apps_meaning, events_meaning, messages_meaning, dwells_meaning, segments_meaning, watchpoints_meaning, actionpoints_meaning}
 use Rattle.table_meanings.specs.Sequences.{timed_meant, relative_meant}
