@@ -128,11 +128,19 @@ address = Number U32 spellings.Hex
 abbrev pub chosen : List Choice → Kind
 chosen choices = Number U16 (spellings.Choice (choices_at choices))
 
-unfoldable pub actions : List Choice
-actions =
-    choice_of (codes "none") 0 ∷ choice_of (codes "reset") 1 ∷ choice_of (codes "restart") 2 ∷ choice_of (codes "event") 3
+-- the actions of monitors, of which the third is another for each kind
+abbrev pub actions_with : List ℕ → List Choice
+actions_with third =
+    choice_of (codes "none") 0 ∷ choice_of (codes "reset") 1 ∷ choice_of (codes "restart") 2 ∷ choice_of third 3
     ∷ choice_of (codes "message1") 4 ∷ choice_of (codes "message2") 5 ∷ choice_of (codes "message3") 6 ∷ choice_of (codes "message4") 7
     ∷ choice_of (codes "message5") 8 ∷ choice_of (codes "message6") 9 ∷ choice_of (codes "message7") 10 ∷ choice_of (codes "message8") 11 ∷ []
+
+unfoldable pub actions : List Choice
+actions = actions_with (codes "event")
+
+-- an event monitor asks to delete an application
+unfoldable pub event_actions : List Choice
+event_actions = actions_with (codes "delete")
 
 unfoldable pub message_states : List Choice
 message_states = choice_of (codes "disabled") 0 ∷ choice_of (codes "enabled") 1 ∷ choice_of (codes "silent") 2 ∷ []
@@ -168,7 +176,7 @@ entries count size fs = record { count = count; size = size; fields = fields_at 
 unfoldable pub all_layouts : Layouts
 all_layouts = record {
   apps = entries 32 24 (field (codes "app") Name ∷ field (codes "cycles") counted ∷ field (codes "action") (chosen actions) ∷ []);
-  events = entries 16 24 (field (codes "app") Name ∷ field (codes "event") counted ∷ field (codes "action") (chosen actions) ∷ []);
+  events = entries 16 24 (field (codes "app") Name ∷ field (codes "event") counted ∷ field (codes "action") (chosen event_actions) ∷ []);
   counters = entries 32 22 (field (codes "app") Name ∷ field (codes "type") counted ∷ []);
   actions = record {
     count = 8;

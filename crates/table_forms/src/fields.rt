@@ -24,23 +24,32 @@ const LENGTH: Kind = Number(U32, Decimal);
 
 const ADDRESS: Kind = Number(U32, Hex);
 
-const ACTION: Kind = Number(
-    U16,
-    Spelling::Choice(&[
-        word!("none", 0),
-        word!("reset", 1),
-        word!("restart", 2),
-        word!("event", 3),
-        word!("message1", 4),
-        word!("message2", 5),
-        word!("message3", 6),
-        word!("message4", 7),
-        word!("message5", 8),
-        word!("message6", 9),
-        word!("message7", 10),
-        word!("message8", 11),
-    ]),
-);
+/// The actions of monitors, of which the third is another for each kind.
+macro_rules! actions {
+    ($third:expr) => {
+        Number(
+            U16,
+            Spelling::Choice(&[
+                word!("none", 0),
+                word!("reset", 1),
+                word!("restart", 2),
+                word!($third, 3),
+                word!("message1", 4),
+                word!("message2", 5),
+                word!("message3", 6),
+                word!("message4", 7),
+                word!("message5", 8),
+                word!("message6", 9),
+                word!("message7", 10),
+                word!("message8", 11),
+            ]),
+        )
+    };
+}
+
+const APP_ACTION: Kind = actions!("event");
+
+const EVENT_ACTION: Kind = actions!("delete");
 
 const MESSAGE_STATE: Kind = Number(
     U16,
@@ -126,13 +135,13 @@ const STEPS: Kind = Expression(&[
 pub(crate) const APPS: &[Field] = &[
     Value("app", Name),
     Value("cycles", COUNT),
-    Value("action", ACTION),
+    Value("action", APP_ACTION),
 ];
 
 pub(crate) const EVENTS: &[Field] = &[
     Value("app", Name),
     Value("event", COUNT),
-    Value("action", ACTION),
+    Value("action", EVENT_ACTION),
 ];
 
 pub(crate) const COUNTERS: &[Field] = &[Value("app", Name), Value("type", COUNT)];

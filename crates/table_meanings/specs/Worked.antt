@@ -65,10 +65,11 @@ apps_rows =
     ∷ record { name = named (codes "A") 19; cycles = 12; action = 1 } ∷ replicate 28 apps.blank_row
 
 unfoldable pub events_text : List ℕ
-events_text = joined (codes "table HS.EventMon_Tbl" ∷ codes "1 app=MM event=0x0109 action=message8" ∷ codes "end" ∷ [])
+events_text = joined (codes "table HS.EventMon_Tbl" ∷ codes "1 app=MM event=0x0109 action=message8" ∷ codes "2 app=NAV event=7 action=delete" ∷ codes "end" ∷ [])
 
 unfoldable pub events_rows : List EventRow
-events_rows = record { name = named (codes "MM") 18; id = 265; action = 11 } ∷ replicate 15 events.blank_row
+events_rows =
+    record { name = named (codes "MM") 18; id = 265; action = 11 } ∷ record { name = named (codes "NAV") 17; id = 7; action = 3 } ∷ replicate 14 events.blank_row
 
 unfoldable pub dwell_text : List ℕ
 dwell_text = joined (

@@ -30,7 +30,7 @@ use Rattle.sc_tables.specs.Relative.{stored_rts, relative_at, relative_size, rel
 use Rattle.sc_tables.specs.Heads.{packet_size, is_command_head, packet_reason, packet_of}
 use Rattle.sc_tables.specs.Grammar.{is_end, read_from, read_of}
 use Rattle.table_forms.specs.Headers.{header_said}
-use Rattle.table_forms.specs.Layouts.{all_layouts, actions as action_words, message_states, entry_states, point_states, value_types, operators, steps}
+use Rattle.table_forms.specs.Layouts.{all_layouts, actions as action_words, event_actions, message_states, entry_states, point_states, value_types, operators, steps}
 use Rattle.table_forms.specs.Names.{name_of, kinds, kind_among, kind_said}
 use Rattle.table_forms.specs.Payloads.{headed_said}
 use Rattle.table_forms.specs.Reading.{first_said}
@@ -42,17 +42,17 @@ use Rattle.table_meanings.specs.Worked.{dwell_text, dwell_table, checksum_text, 
 use Rattle.table_meanings.proofs.worked.memory_texts_in_entries.Goals as goal
 
 pub returns-clause-dwell : goal.returns-clause-dwell
-unfolding command_of primary_header with_checksum fault_of is_name is_name_text name_text named_bytes be16_at be32_at be16_bytes be32_bytes version_of sequence_flags length_field checksum_of message_id is_command words digits number hex_said name_said choice_said time_said steps_said expression_said steps_at value_said behind_key field_said row_said named command_said dictionary hs_rows mm_rows md_rows cs_rows sc_rows lc_rows lines_of kept all_layouts action_words message_states entry_states point_states value_types operators steps meanings_said entry_number line_about counter_of app_of event_of dwell_entry_of segment_of watchpoint_of actionpoint_of counters_meaning apps_meaning events_meaning dwells_meaning segments_meaning watchpoints_meaning actionpoints_meaning message_meant messages_meaning timed_meant relative_meant commands_meant actions.packet_in words_at dwell_text dwell_table
+unfolding command_of primary_header with_checksum fault_of is_name is_name_text name_text named_bytes be16_at be32_at be16_bytes be32_bytes version_of sequence_flags length_field checksum_of message_id is_command words digits number hex_said name_said choice_said time_said steps_said expression_said steps_at value_said behind_key field_said row_said named command_said dictionary hs_rows mm_rows md_rows cs_rows sc_rows lc_rows lines_of kept all_layouts action_words event_actions message_states entry_states point_states value_types operators steps meanings_said entry_number line_about counter_of app_of event_of dwell_entry_of segment_of watchpoint_of actionpoint_of counters_meaning apps_meaning events_meaning dwells_meaning segments_meaning watchpoints_meaning actionpoints_meaning message_meant messages_meaning timed_meant relative_meant commands_meant actions.packet_in words_at dwell_text dwell_table
 returns-clause-dwell c = refl
 
 pub returns-clause-dwell_read : goal.returns-clause-dwell_read
-unfolding command_of primary_header with_checksum fault_of is_name is_name_text name_text named_bytes be16_at be32_at be16_bytes be32_bytes version_of sequence_flags length_field checksum_of message_id is_command words digits number hex_said name_said choice_said time_said steps_said expression_said steps_at value_said behind_key field_said row_said named command_said dictionary hs_rows mm_rows md_rows cs_rows sc_rows lc_rows lines_of kept all_layouts action_words message_states entry_states point_states value_types operators steps payload_of_file is_load subtype table_entries.entries_in values_said entry_said entries_said front_said item_said sequence_said apps.rows_of events.rows_of counters.rows_of actions.rows_of actions.packet_in dwell_of entries_in segments_of watchpoints.rows_of actionpoints.rows_of words_at stored_ats timed_at timed_size timed_reason stored_rts relative_at relative_size relative_reason packet_size is_command_head packet_reason packet_of is_end read_from read_of header_said name_of kinds kind_among kind_said headed_said first_said dwell_text dwell_table
+unfolding command_of primary_header with_checksum fault_of is_name is_name_text name_text named_bytes be16_at be32_at be16_bytes be32_bytes version_of sequence_flags length_field checksum_of message_id is_command words digits number hex_said name_said choice_said time_said steps_said expression_said steps_at value_said behind_key field_said row_said named command_said dictionary hs_rows mm_rows md_rows cs_rows sc_rows lc_rows lines_of kept all_layouts action_words event_actions message_states entry_states point_states value_types operators steps payload_of_file is_load subtype table_entries.entries_in values_said entry_said entries_said front_said item_said sequence_said apps.rows_of events.rows_of counters.rows_of actions.rows_of actions.packet_in dwell_of entries_in segments_of watchpoints.rows_of actionpoints.rows_of words_at stored_ats timed_at timed_size timed_reason stored_rts relative_at relative_size relative_reason packet_size is_command_head packet_reason packet_of is_end read_from read_of header_said name_of kinds kind_among kind_said headed_said first_said dwell_text dwell_table
 returns-clause-dwell_read c = refl
 
 pub returns-clause-checksum : goal.returns-clause-checksum
-unfolding command_of primary_header with_checksum fault_of is_name is_name_text name_text named_bytes be16_at be32_at be16_bytes be32_bytes version_of sequence_flags length_field checksum_of message_id is_command words digits number hex_said name_said choice_said time_said steps_said expression_said steps_at value_said behind_key field_said row_said named command_said dictionary hs_rows mm_rows md_rows cs_rows sc_rows lc_rows lines_of kept all_layouts action_words message_states entry_states point_states value_types operators steps meanings_said entry_number line_about counter_of app_of event_of dwell_entry_of segment_of watchpoint_of actionpoint_of counters_meaning apps_meaning events_meaning dwells_meaning segments_meaning watchpoints_meaning actionpoints_meaning message_meant messages_meaning timed_meant relative_meant commands_meant actions.packet_in words_at checksum_text checksum_rows
+unfolding command_of primary_header with_checksum fault_of is_name is_name_text name_text named_bytes be16_at be32_at be16_bytes be32_bytes version_of sequence_flags length_field checksum_of message_id is_command words digits number hex_said name_said choice_said time_said steps_said expression_said steps_at value_said behind_key field_said row_said named command_said dictionary hs_rows mm_rows md_rows cs_rows sc_rows lc_rows lines_of kept all_layouts action_words event_actions message_states entry_states point_states value_types operators steps meanings_said entry_number line_about counter_of app_of event_of dwell_entry_of segment_of watchpoint_of actionpoint_of counters_meaning apps_meaning events_meaning dwells_meaning segments_meaning watchpoints_meaning actionpoints_meaning message_meant messages_meaning timed_meant relative_meant commands_meant actions.packet_in words_at checksum_text checksum_rows
 returns-clause-checksum c = refl
 
 pub returns-clause-checksum_read : goal.returns-clause-checksum_read
-unfolding command_of primary_header with_checksum fault_of is_name is_name_text name_text named_bytes be16_at be32_at be16_bytes be32_bytes version_of sequence_flags length_field checksum_of message_id is_command words digits number hex_said name_said choice_said time_said steps_said expression_said steps_at value_said behind_key field_said row_said named command_said dictionary hs_rows mm_rows md_rows cs_rows sc_rows lc_rows lines_of kept all_layouts action_words message_states entry_states point_states value_types operators steps payload_of_file is_load subtype table_entries.entries_in values_said entry_said entries_said front_said item_said sequence_said apps.rows_of events.rows_of counters.rows_of actions.rows_of actions.packet_in dwell_of entries_in segments_of watchpoints.rows_of actionpoints.rows_of words_at stored_ats timed_at timed_size timed_reason stored_rts relative_at relative_size relative_reason packet_size is_command_head packet_reason packet_of is_end read_from read_of header_said name_of kinds kind_among kind_said headed_said first_said checksum_text checksum_rows
+unfolding command_of primary_header with_checksum fault_of is_name is_name_text name_text named_bytes be16_at be32_at be16_bytes be32_bytes version_of sequence_flags length_field checksum_of message_id is_command words digits number hex_said name_said choice_said time_said steps_said expression_said steps_at value_said behind_key field_said row_said named command_said dictionary hs_rows mm_rows md_rows cs_rows sc_rows lc_rows lines_of kept all_layouts action_words event_actions message_states entry_states point_states value_types operators steps payload_of_file is_load subtype table_entries.entries_in values_said entry_said entries_said front_said item_said sequence_said apps.rows_of events.rows_of counters.rows_of actions.rows_of actions.packet_in dwell_of entries_in segments_of watchpoints.rows_of actionpoints.rows_of words_at stored_ats timed_at timed_size timed_reason stored_rts relative_at relative_size relative_reason packet_size is_command_head packet_reason packet_of is_end read_from read_of header_said name_of kinds kind_among kind_said headed_said first_said checksum_text checksum_rows
 returns-clause-checksum_read c = refl
