@@ -1,1 +1,3 @@
 pub mod ShownLemmas
+pub mod ReadLemmas
+pub mod PlainLemmas

@@ -31,11 +31,11 @@ shown_all cs told come lines old whole is none =
 
 -- ---- the scenario's own lines
 
-plain_nil : plain_lines [] ≡ []
+pub plain_nil : plain_lines [] ≡ []
 unfolding plain_lines
 plain_nil = refl
 
-plain_cons : (l : Numbered) (more : List Numbered) → plain_lines (l ∷ more) ≡ plain_words l.words ++ plain_lines more
+pub plain_cons : (l : Numbered) (more : List Numbered) → plain_lines (l ∷ more) ≡ plain_words l.words ++ plain_lines more
 unfolding plain_lines
 plain_cons l more = refl
 

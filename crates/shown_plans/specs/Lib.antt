@@ -1,1 +1,3 @@
+pub mod KeptFrames
 pub mod Shown
+pub mod Worked

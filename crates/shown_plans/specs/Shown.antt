@@ -1,5 +1,5 @@
 -- A scenario shown as a plan.
-use Rattle.std.specs.Prelude.{◌≡◌, ◌≢◌, ◌≤◌, ℕ, ◌+◌, ◌==◌, length, if◌then◌else◌, nat_eq, List, [], ◌∷◌, ◌++◌, codes, decimal, Option, Some, None, Result, Ok, Err}
+use Rattle.std.specs.Prelude.{◌≡◌, ◌≢◌, ◌≤◌, ℕ, ◌+◌, ◌==◌, Bool, false, length, if◌then◌else◌, nat_eq, List, [], ◌∷◌, ◌++◌, codes, decimal, Option, Some, None, Result, Ok, Err}
 use Rattle.std.specs.List.{starts_with}
 use Rattle.std.specs.Str.{bytes_eq}
 use Rattle.std.proofs.Common.{Vec, Global}
@@ -11,10 +11,26 @@ use Rattle.telecommands.specs.declared.command.Command.{Command}
 use Rattle.telecommands.specs.Commands.{command_shown}
 use Rattle.table_texts.specs.Lines.{Numbered, kept_of}
 use Rattle.plan_text.specs.Lines.{line_text, sent_line}
-use Rattle.timed_plans.specs.Checks.{scenario_said}
+use Rattle.timed_plans.specs.Checks.{answered, scenario_said}
 use Rattle.shown_plans.specs.declared.plan.ShowError.{ShowError}
 use Rattle.shown_plans.specs.declared.plan.ShowError.TheVariants as errors
 use Rattle.shown_plans.specs.declared.line.Ended.{Ended}
+use Rattle.shown_plans.specs.KeptFrames.{GivesEnd}
+
+-- ---- which texts are shown
+
+-- a line, by its words, begins with `epoch`
+abbrev pub is_epoch_line : List (List ℕ) → Bool
+is_epoch_line [] = false
+is_epoch_line (first ∷ others) = bytes_eq first (codes "epoch")
+
+abbrev pub begins_epoch : List Numbered → Bool
+begins_epoch [] = false
+begins_epoch (line ∷ more) = is_epoch_line line.words
+
+-- the first line that isn't skipped begins with `epoch`, as that of a plan does too
+unfoldable pub is_scenario_text : List ℕ → Bool
+is_scenario_text text = begins_epoch (kept_of 1 text)
 
 -- ---- one line
 
@@ -92,10 +108,11 @@ plain_of text = plain_lines (kept_of 1 text)
 
 -- ---- what the code gives
 
--- the plan is shown, and its scenario has the lines that were shown; or it isn't taken, or says other lines
+-- the plan is shown, and its scenario has the lines that were shown; or the text is no scenario, or the plan isn't taken, or says other lines
 abbrev pub GivesShown : List Command → List ℕ → Result (Vec ℕ Global) ShowError → Type 0
 GivesShown cs text (Ok shown) = (shown.items ≡ plan_shown cs text) × (scenario_said cs (plan_shown cs text) ≡ Ok (plain_of text))
 GivesShown cs text (Err (errors.Memory e)) = Unit {0}
+GivesShown cs text (Err (errors.Scenario fault)) = GivesEnd (answered text) (Err fault)
 GivesShown cs text (Err errors.Long) = 4294967295 ≤ length (plan_shown cs text)
 GivesShown cs text (Err (errors.Plan fault)) = scenario_said cs (plan_shown cs text) ≡ Err fault
 GivesShown cs text (Err errors.Differs) = scenario_said cs (plan_shown cs text) ≢ Ok (plain_of text)

@@ -2,10 +2,13 @@
 ghost use Rattle.std.specs.Prelude.{◌≡◌, ◌<◌, ◌+◌, ◌^◌, ◌++◌, length, true, OnOk, IfOk};
 ghost use Rattle.telecommands.specs.Commands.{are_good};
 ghost use Rattle.shown_plans.specs.Shown.{plan_shown, GivesShown};
+ghost use Rattle.shown_plans.specs.KeptFrames.{GivesPlanOf};
 
+use crate::check::{ScenarioFault, read_to_end};
 use crate::line::{Ended, show_line};
 use crate::plain::plain_text;
 use plan_text::{PlanError, PlanFault};
+use scenario::Reader;
 use std::alloc::{AllocError, Global};
 use table_texts::next_line;
 use telecommands::Command;
@@ -20,6 +23,9 @@ const MOST_BYTES: usize = 4_294_967_295;
 pub enum ShowError {
     #[error("out of memory")]
     Memory(AllocError),
+    /// The text is no scenario.
+    #[error("{0}")]
+    Scenario(ScenarioFault),
     /// The plan's text is too large to be read.
     #[error("the plan would have over 4294967294 bytes")]
     Long,
@@ -44,10 +50,8 @@ fn shown_text(alloc: Global, commands: &[Command], text: &[u8]) -> Result<Vec<u8
     }
 }
 
-/// Shows a scenario as a plan (docs/PLANS.md), with the words of these commands: a run of `tick` is the heading `frame N`, a `send` whose
-/// packet a command says has the command's words, and any other line stands as it is, with one space between two words. The plan is read
-/// before it is given: its scenario is the one that was shown, line by line.
-pub fn show_plan(alloc: Global, commands: &[Command], text: &[u8]) -> Result<Vec<u8>, ShowError>
+/// Shows a text in which a scenario's reader finds no fault.
+fn show_good(alloc: Global, commands: &[Command], text: &[u8]) -> Result<Vec<u8>, ShowError>
     requires commands { are_good commands.now ≡ true }
     requires short { 1 + length text.now < 2 ^ 32 }
     ensures { GivesShown commands.now text.now result }
@@ -73,6 +77,25 @@ pub fn show_plan(alloc: Global, commands: &[Command], text: &[u8]) -> Result<Vec
         }
         Err(PlanError::Memory(error)) => Err(ShowError::Memory(error)),
         Err(PlanError::Plan(fault)) => Err(ShowError::Plan(fault)),
+    }
+}
+
+/// Shows a scenario as a plan (docs/PLANS.md), with the words of these commands: a run of `tick` is the heading `frame N`, a `send` whose
+/// packet a command says has the command's words, and any other line stands as it is, with one space between two words. A text that is no
+/// scenario is told by its first line with a fault. The plan is read before it is given: its scenario has the lines that were shown, and
+/// a scenario's reader finds in both the header and the frames of the other.
+pub fn show_plan(alloc: Global, commands: &[Command], text: &[u8]) -> Result<Vec<u8>, ShowError>
+    requires commands { are_good commands.now ≡ true }
+    requires short { 1 + length text.now < 2 ^ 32 }
+    ensures shown { GivesShown commands.now text.now result }
+    ensures frames { GivesPlanOf commands.now text.now result }
+{
+    let Ok(mut reader) = Reader::open(alloc) else {
+        return Err(ShowError::Memory(AllocError));
+    };
+    match read_to_end(&mut reader, text) {
+        Ok(()) => show_good(alloc, commands, text),
+        Err(fault) => Err(ShowError::Scenario(fault)),
     }
 }
 
