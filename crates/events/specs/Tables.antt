@@ -108,7 +108,7 @@ cs_events =
     ∷ row (codes "CS") 4 Error (codes "no_table") (codes "a command was refused: the table isn't 1 or 2")
     ∷ row (codes "CS") 5 Error (codes "no_entry") (codes "a command was refused: the entry isn't 1 to 16")
     ∷ row (codes "CS") 6 Error (codes "empty_entry") (codes "a command was refused: the entry's state in its file is 0")
-    ∷ row (codes "CS") 101 Error (codes "miscompare") (codes "a pass has another CRC than the baseline")
+    ∷ row (codes "CS") 101 Error (codes "miscompare") (codes "the bytes that were read have another CRC than the baseline")
     ∷ []
 
 -- the events of Stored Command

@@ -505,7 +505,7 @@ static EVENTS: [Event; COUNT_OF_EVENTS] = [
         number: 101,
         kind: Error,
         name: "miscompare",
-        sentence: "a pass has another CRC than the baseline",
+        sentence: "the bytes that were read have another CRC than the baseline",
     },
     Event {
         application: "SC",

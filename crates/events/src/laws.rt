@@ -19,7 +19,7 @@ pub fn worked_sentences()
     ensures checksum { event_said event_table (codes "HS") 1 3 ≡ codes "HS: a command was refused: its checksum is wrong" }
     ensures acted { event_said event_table (codes "HS") 105 3 ≡ codes "HS: an application monitor acted: as many resets were made as may be, and none is asked for" }
     ensures dwell { event_said event_table (codes "MD") 20 2 ≡ codes "MD: command jam was accepted" }
-    ensures miscompare { event_said event_table (codes "CS") 101 3 ≡ codes "CS: a pass has another CRC than the baseline" }
+    ensures miscompare { event_said event_table (codes "CS") 101 3 ≡ codes "CS: the bytes that were read have another CRC than the baseline" }
     ensures ended { event_said event_table (codes "SC") 103 2 ≡ codes "SC: the absolute sequence ended" }
     ensures fired { event_said event_table (codes "LC") 101 3 ≡ codes "LC: an actionpoint fired, and starts its relative sequence" }
     ensures running { event_said event_table (codes "TBL") 3 3 ≡ codes "TBL: the file's sequence runs, and its table didn't become active" }

@@ -15,11 +15,12 @@ fn push_owner(out: &mut Vec<u8>, sender: &Sender) -> Result<(), AllocError> {
     }
 }
 
-/// Appends how many commands an application was sent, where there were some.
+/// Appends how many commands applications sent to this one, where there were some. What the scenario sends has no line in a log.
 fn push_sent(out: &mut Vec<u8>, sender: &Sender) -> Result<(), AllocError> {
     if sender.commands > 0 {
         out.extend_from_slice(b", and was sent ")?;
         push_count(out, sender.commands, "command")?;
+        out.extend_from_slice(b" by applications")?;
     }
     out.extend_from_slice(b"\n")
 }
