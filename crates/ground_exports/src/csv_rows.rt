@@ -1,36 +1,20 @@
 //! A log as rows of comma-separated fields.
 
-use crate::row_cells::{line_cells, value_of};
-use csv::{Error, ErrorKind, Writer, WriterBuilder};
+ghost use Rattle.std.specs.Prelude.{◌≡◌, ◌++◌, ◌∷◌, [], ℕ, List, Some, length, map, decimal, IfOk, OnOk};
+ghost use Rattle.csv.specs.Records.{fields_of, partial_of};
+ghost use Rattle.csv.specs.Writing.{row_text, default_writer};
+ghost use Rattle.ground_exports.specs.Rows.{kind_cell, pipe_cell, cause_cell, packet_cell, fixed_columns, AreCells, IsRow, AreRowsOf};
+
+use crate::row_cells::{Cells, line_cells, value_of};
+use csv::{ByteRecord, WriterBuilder};
 use ground_files::Fault;
-use ground_logs::{GoodLines, Telling};
+use ground_logs::{LineMaker, Telling, write_made};
 use log_lines::LogLine;
-use row_forms::Field;
+use row_forms::{Field, push_decimal};
 use std::alloc::{AllocError, Global};
-use std::io::{self, Read, Write};
+use std::io::{Read, Write};
 use telecommands::commands;
 use telemetry::telemetry_rows;
-
-/// The columns in front of those of the fields.
-const FIXED: [&str; 8] = [
-    "frame",
-    "kind",
-    "application",
-    "name",
-    "pipe",
-    "cause",
-    "words",
-    "packet",
-];
-
-/// Why a row wasn't written.
-fn fault_of(error: Error) -> Fault {
-    match error.into_kind() {
-        ErrorKind::Io(error) => Fault::Write(error),
-        ErrorKind::OutOfMemory => Fault::Memory(AllocError),
-        _ => Fault::Write(io::Error::from(io::ErrorKind::InvalidData)),
-    }
-}
 
 /// Adds a key that isn't there yet.
 fn add_key(keys: &mut Vec<&'static str>, field: &Field) -> Result<(), AllocError> {
@@ -58,64 +42,127 @@ fn field_keys(alloc: Global) -> Result<Vec<&'static str>, AllocError> {
     Ok(keys)
 }
 
-/// Writes a cell.
-fn write_cell<W: Write + Drop>(cell: &[u8], rows: &mut Writer<W>) -> Result<(), Fault> {
-    rows.write_field(cell).map_err(fault_of)
+/// The text of a row. The writer is over memory, so that want of memory is its only fault.
+fn row_bytes(alloc: Global, row: &ByteRecord) -> Result<Vec<u8>, AllocError>
+    ensures { IfOk result (λ text. text.items ≡ row_text default_writer (fields_of row.now)) }
+{
+    let mut rows = WriterBuilder::new().from_writer(Vec::new(alloc));
+    let Ok(()) = rows.write_byte_record(row) else {
+        return Err(AllocError);
+    };
+    match rows.into_inner() {
+        Ok(text) => Ok(text),
+        Err(_) => Err(AllocError),
+    }
 }
 
-/// Writes the names of the columns.
-fn write_head<W: Write + Drop>(keys: &[&'static str], rows: &mut Writer<W>) -> Result<(), Fault> {
-    for column in &FIXED {
-        write_cell(column.as_bytes(), rows)?;
-    }
+/// The names of the columns.
+fn head_row(alloc: Global, keys: &[&'static str]) -> Result<ByteRecord, AllocError>
+    ensures { IfOk result (λ row. fields_of row ≡ fixed_columns ++ map (λ key. key.now) keys.now) }
+{
+    let mut row = ByteRecord::new(alloc);
+    row.push_field(b"frame")?;
+    row.push_field(b"kind")?;
+    row.push_field(b"application")?;
+    row.push_field(b"name")?;
+    row.push_field(b"pipe")?;
+    row.push_field(b"cause")?;
+    row.push_field(b"words")?;
+    row.push_field(b"packet")?;
     for key in keys {
-        write_cell(key.as_bytes(), rows)?;
+        row.push_field(key.as_bytes())?;
     }
-    rows.end_record().map_err(fault_of)
+    Ok(row)
 }
 
-/// Writes the row of a line.
-fn write_line<W: Write + Drop>(
-    alloc: Global,
-    keys: &[&'static str],
-    line: &LogLine,
-    rows: &mut Writer<W>,
-) -> Result<(), Fault> {
-    let frame = format!(in alloc; "{}", line.frame)?;
-    let cells = line_cells(alloc, line)?;
-    write_cell(frame.as_str().as_bytes(), rows)?;
-    write_cell(cells.kind.as_bytes(), rows)?;
+/// The name of an application, where there is one.
+fn application_text(cells: &Cells) -> &[u8] {
     match &cells.application {
-        Some(name) => write_cell(name.text().as_bytes(), rows)?,
-        None => write_cell(b"", rows)?,
+        Some(name) => name.text().as_bytes(),
+        None => b"",
     }
-    write_cell(cells.name.as_slice(), rows)?;
-    write_cell(cells.pipe.as_bytes(), rows)?;
-    write_cell(cells.cause.as_bytes(), rows)?;
-    write_cell(cells.words.as_slice(), rows)?;
-    write_cell(cells.packet.as_slice(), rows)?;
-    for key in keys {
-        write_cell(value_of(cells.fields.as_slice(), key.as_bytes()), rows)?;
-    }
-    rows.end_record().map_err(fault_of)
 }
 
-/// Makes a log rows, one a line, below a row with the names of the columns. Says whether all lines are a log's, as `tell` does.
+/// The cells in front of those of the fields.
+fn fixed_cells(alloc: Global, frame: &[u8], cells: &Cells) -> Result<ByteRecord, AllocError>
+    ensures cells { IfOk result (λ row. (application : List ℕ) × (fields_of row
+        ≡ frame.now ∷ cells.now.kind.now ∷ application ∷ cells.now.name.items ∷ cells.now.pipe.now
+        ∷ cells.now.cause.now ∷ cells.now.words.items ∷ cells.now.packet.items ∷ [])) }
+    ensures partial { IfOk result (λ row. partial_of row ≡ []) }
+{
+    let mut row = ByteRecord::new(alloc);
+    row.push_field(frame)?;
+    row.push_field(cells.kind.as_bytes())?;
+    row.push_field(application_text(cells))?;
+    row.push_field(cells.name.as_slice())?;
+    row.push_field(cells.pipe.as_bytes())?;
+    row.push_field(cells.cause.as_bytes())?;
+    row.push_field(cells.words.as_slice())?;
+    row.push_field(cells.packet.as_slice())?;
+    Ok(row)
+}
+
+/// Adds the values of the fields that have these keys.
+fn push_values(keys: &[&'static str], fields: &[u8], row: &mut ByteRecord) -> Result<(), AllocError>
+    requires { partial_of row.old ≡ [] }
+    ensures { OnOk result ((values : List (List ℕ)) × (length values ≡ length keys.now)
+        × (fields_of row.new ≡ fields_of row.old ++ values)) }
+{
+    for key in keys {
+        row.push_field(value_of(fields, key.as_bytes()))?;
+    }
+    Ok(())
+}
+
+/// The cells of a line.
+fn line_row(alloc: Global, keys: &[&'static str], line: &LogLine) -> Result<ByteRecord, AllocError>
+    ensures { IfOk result (λ row. AreCells line.now (length keys.now) (fields_of row)) }
+{
+    let mut frame = Vec::new(alloc);
+    push_decimal(line.frame, &mut frame)?;
+    let cells = line_cells(alloc, line)?;
+    let mut row = fixed_cells(alloc, frame.as_slice(), &cells)?;
+    push_values(keys, cells.fields.as_slice(), &mut row)?;
+    Ok(row)
+}
+
+/// Makes of each line its row, with a cell for each of these keys behind the others.
+#[derive(Drop)]
+pub struct Rows {
+    alloc: Global,
+    keys: Vec<&'static str>,
+}
+
+impl LineMaker for Rows {
+    ghost use Rattle.ground_exports.specs.Rows.{IsRow};
+
+    ghost makes = { λ rows line made. IsRow (length rows.keys.items) line made };
+
+    fn make(&self, line: &LogLine, out: &mut Vec<u8>) -> Result<(), AllocError>
+        ensures { OnOk result ((made : List ℕ) × (out.new.items ≡ out.old.items ++ made)
+            × IsRow (length self.now.keys.items) line.now made) }
+    {
+        let row = line_row(self.alloc, self.keys.as_slice(), line)?;
+        let text = row_bytes(self.alloc, &row)?;
+        out.extend_from_slice(text.as_slice())?;
+        Ok(())
+    }
+}
+
+/// Makes a log rows, one a line, in their order, below a row with the names of the columns. Says whether all lines are a log's, as
+/// `Telling::make` does.
 pub fn write_rows<E: Eprint, R: Read + Drop, W: Write>(
     telling: &Telling<'_, E>,
-    log: R,
+    mut log: R,
     out: &mut W,
-) -> Result<bool, Fault> {
-    let mut lines = GoodLines::new(telling, log);
-    let mut rows = WriterBuilder::new().from_writer(out);
-    let keys = field_keys(telling.alloc)?;
-    write_head(keys.as_slice(), &mut rows)?;
-    for _ in 0..u64::MAX {
-        let Some(line) = lines.next()? else {
-            break;
-        };
-        write_line(telling.alloc, keys.as_slice(), &line, &mut rows)?;
-    }
-    rows.flush().map_err(fault_of)?;
-    Ok(lines.is_whole())
+) -> Result<bool, Fault>
+    ensures { IfOk result (λ whole. (text : List ℕ) → R.remaining log ≡ Some text
+        → AreRowsOf text whole (W.contents out.old) (W.contents out.new)) }
+{
+    let alloc = telling.alloc;
+    let keys = field_keys(alloc)?;
+    let row = head_row(alloc, keys.as_slice())?;
+    let head = row_bytes(alloc, &row)?;
+    write_made(head.as_slice(), out)?;
+    telling.make(Rows { alloc, keys }, &mut log, out)
 }

@@ -1,5 +1,11 @@
 //! What a line of a log says, cell by cell.
 
+ghost use Rattle.std.specs.Prelude.{◌≡◌, [], codes, IfOk};
+ghost use Rattle.packet_forms.specs.Hex.{hex};
+ghost use Rattle.ground_exports.specs.Rows.{kind_cell, pipe_cell, drop_cause, cause_cell, packet_cell};
+ghost use Rattle.packet_log.specs.Lines.{pipe_text};
+
+use bus_pipes::Dropped;
 use events::{events, find_event};
 use ground_tools::{EventHead, application_of, event_head, pipe_name};
 use log_lines::{LineItem, LogLine};
@@ -67,7 +73,12 @@ fn push_fields(packet: &Packet, fields: &mut Vec<u8>) -> Result<(), AllocError> 
 }
 
 /// The cells of a packet.
-fn packet_cells(alloc: Global, kind: &'static str, packet: &Packet) -> Result<Cells, AllocError> {
+fn packet_cells(alloc: Global, kind: &'static str, packet: &Packet) -> Result<Cells, AllocError>
+    ensures kind { IfOk result (λ cells. cells.kind.now ≡ kind.now) }
+    ensures pipe { IfOk result (λ cells. cells.pipe.now ≡ []) }
+    ensures cause { IfOk result (λ cells. cells.cause.now ≡ []) }
+    ensures packet { IfOk result (λ cells. cells.packet.items ≡ hex packet.now) }
+{
     let mut fields = Vec::new(alloc);
     let mut name = Vec::new(alloc);
     let mut words = Vec::new(alloc);
@@ -88,12 +99,37 @@ fn packet_cells(alloc: Global, kind: &'static str, packet: &Packet) -> Result<Ce
     })
 }
 
+/// Why a packet was dropped.
+fn cause_of(full: bool) -> &'static str
+    ensures { result.now ≡ drop_cause full }
+{
+    if full { "full" } else { "limit" }
+}
+
+/// The cells of a packet that a pipe dropped.
+fn drop_cells(alloc: Global, lost: &Dropped) -> Result<Cells, AllocError>
+    ensures kind { IfOk result (λ cells. cells.kind.now ≡ codes "drop") }
+    ensures pipe { IfOk result (λ cells. cells.pipe.now ≡ pipe_text lost.now.pipe) }
+    ensures cause { IfOk result (λ cells. cells.cause.now ≡ drop_cause lost.now.full) }
+    ensures packet { IfOk result (λ cells. cells.packet.items ≡ hex lost.now.packet) }
+{
+    let mut cells = packet_cells(alloc, "drop", &lost.packet)?;
+    cells.pipe = pipe_name(lost.pipe);
+    cells.cause = cause_of(lost.full);
+    Ok(cells)
+}
+
 /// The cells of a request of Health and Safety; its application stands in the column `app`, as that of an event.
 fn request_cells(
     alloc: Global,
     request: &str,
     application: Option<Name>,
-) -> Result<Cells, AllocError> {
+) -> Result<Cells, AllocError>
+    ensures kind { IfOk result (λ cells. cells.kind.now ≡ codes "request") }
+    ensures pipe { IfOk result (λ cells. cells.pipe.now ≡ []) }
+    ensures cause { IfOk result (λ cells. cells.cause.now ≡ []) }
+    ensures packet { IfOk result (λ cells. cells.packet.items ≡ []) }
+{
     let mut fields = Vec::new(alloc);
     if let Some(name) = application {
         fields.extend_from_slice(b"app=")?;
@@ -112,15 +148,15 @@ fn request_cells(
 }
 
 /// The cells of a line.
-pub fn line_cells(alloc: Global, line: &LogLine) -> Result<Cells, AllocError> {
+pub fn line_cells(alloc: Global, line: &LogLine) -> Result<Cells, AllocError>
+    ensures kind { IfOk result (λ cells. cells.kind.now ≡ kind_cell line.now.item) }
+    ensures pipe { IfOk result (λ cells. cells.pipe.now ≡ pipe_cell line.now.item) }
+    ensures cause { IfOk result (λ cells. cells.cause.now ≡ cause_cell line.now.item) }
+    ensures packet { IfOk result (λ cells. cells.packet.items ≡ packet_cell line.now.item) }
+{
     match &line.item {
         LineItem::Packet(packet) => packet_cells(alloc, "packet", packet),
-        LineItem::Drop(lost) => {
-            let mut cells = packet_cells(alloc, "drop", &lost.packet)?;
-            cells.pipe = pipe_name(lost.pipe);
-            cells.cause = if lost.full { "full" } else { "limit" };
-            Ok(cells)
-        }
+        LineItem::Drop(lost) => drop_cells(alloc, lost),
         LineItem::Reset => request_cells(alloc, "reset", None),
         LineItem::Restart(name) => request_cells(alloc, "restart", Some(*name)),
         LineItem::Delete(name) => request_cells(alloc, "delete", Some(*name)),
