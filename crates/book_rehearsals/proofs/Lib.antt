@@ -1,0 +1,3 @@
+mod NumberedLemmas
+mod ShelfLemmas
+mod BookLemmas

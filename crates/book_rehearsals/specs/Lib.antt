@@ -1,0 +1,4 @@
+pub mod Shelves
+pub mod ShelvedBooks
+pub mod Rehearsed
+pub mod Worked

@@ -1,0 +1,25 @@
+//! The time from which a scenario counts.
+
+ghost use Rattle.std.specs.Prelude.{◌<◌, ◌+◌, ◌^◌, length};
+
+use row_forms::{number, split_word};
+use table_texts::next_line;
+
+/// The latest epoch.
+const LAST_EPOCH: u32 = 4_294_000_000;
+
+/// The epoch that a scenario gives in its first line, in seconds; none where that line is another.
+pub fn scenario_epoch(text: &[u8]) -> Option<u32>
+    requires { 1 + length text.now < 2 ^ 32 }
+{
+    let Some(line) = next_line(text, 1) else {
+        return None;
+    };
+    let Some((b"epoch", behind)) = split_word(line.bytes) else {
+        return None;
+    };
+    match split_word(behind) {
+        Some((digits, _)) => number(LAST_EPOCH, digits),
+        None => None,
+    }
+}

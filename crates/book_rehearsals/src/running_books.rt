@@ -1,0 +1,85 @@
+//! The verb that rehearses a book.
+
+use crate::book_causes::BookTeller;
+use crate::epochs::scenario_epoch;
+use crate::shelved_books::{ShelvedBook, shelve_book};
+use ground_files::{Status, tell_no_memory, tell_unread};
+use ground_making::{MOST_BYTES, Refusal, tell_refusal};
+use ground_runs::{Rehearsal, Run, run_rehearsal};
+use load_books::book_forms;
+use rehearsal::Words;
+use std::alloc::Global;
+use std::fs;
+use std::rt::Files;
+use std::thread::Threads;
+
+/// The book that a text says on a shelf, whose names are put behind the words.
+fn shelved<'a>(
+    alloc: Global,
+    text: &'a [u8],
+    words: &mut Words,
+) -> Result<ShelvedBook<'a>, Refusal> {
+    if text.len() > MOST_BYTES {
+        return Err(Refusal::Long);
+    }
+    match shelve_book(alloc, &book_forms(), text, words) {
+        Ok(shelved) => Ok(shelved),
+        Err(error) => Err(Refusal::from(error)),
+    }
+}
+
+/// By what times lines are told: from the epoch of the words, or else from that of the scenario.
+fn told_epoch(run: &Run<'_>, scenario: &[u8]) -> Option<u32> {
+    if run.epoch.is_some() || scenario.len() > MOST_BYTES {
+        return run.epoch;
+    }
+    scenario_epoch(scenario)
+}
+
+/// Rehearses the book that a text says.
+fn run_text<R>(rt: &R, run: &Run<'_>, text: &[u8]) -> Status
+where
+    R: Threads + Sync + Files + Print + Eprint + AllocGlobal,
+{
+    let name = run.scenario;
+    let Ok(front) = run.front_words(rt.alloc()) else {
+        return tell_no_memory(rt);
+    };
+    let mut words = front;
+    let ShelvedBook { book, shelf } = match shelved(rt.alloc(), text, &mut words) {
+        Ok(shelved) => shelved,
+        Err(refusal) => return tell_refusal(rt, name, &refusal),
+    };
+    let scenario = book.scenario.as_slice();
+    let mut timed = *run;
+    timed.epoch = told_epoch(run, scenario);
+    let teller = BookTeller {
+        name,
+        text,
+        scenario,
+    };
+    let what = Rehearsal {
+        words,
+        shelf,
+        teller,
+    };
+    run_rehearsal(rt, &timed, what)
+}
+
+/// Rehearses the book that the words name in place of a scenario, with the files that it has. A book that is refused is told by its lines;
+/// lines of the log are told in times from the epoch of the plan, where the words have none.
+pub fn run_book<R>(rt: &R, run: &Run<'_>) -> Status
+where
+    R: Threads + Sync + Files + Print + Eprint + AllocGlobal,
+{
+    let name = run.scenario;
+    if !run.files.is_empty() {
+        let _told = eprintln!(rt; "{name}: a book has its files in it: no FILE stands behind it");
+        return Status::WordsRefused;
+    }
+    let text = match fs::read(rt, name) {
+        Ok(text) => text,
+        Err(error) => return tell_unread(rt, name, &error),
+    };
+    run_text(rt, run, text.as_slice())
+}
