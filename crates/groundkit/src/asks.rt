@@ -23,6 +23,14 @@ fn time_of_frame_0<'a>(alloc: Global) -> Arg<'a> {
     )
 }
 
+/// The time of frame 0 of a rehearsal.
+fn time_of_run<'a>(alloc: Global) -> Arg<'a> {
+    epoch(
+        alloc,
+        "The time of frame 0, as `epoch` gives it in the scenario [default: that of a book; lines of a scenario have frames]",
+    )
+}
+
 /// The file that is read.
 fn input<'a>(alloc: Global, id: &'a str, name: &'a str, help: &'a str) -> Arg<'a> {
     Arg::new(alloc, id)
@@ -211,10 +219,12 @@ fn run_options<'a>(alloc: Global) -> Result<Command<'a>, AllocError> {
         "Simulated applications give the execution counters, in place of the scenario",
     );
     Command::new(alloc, "run")
-        .about("Rehearses a scenario as vigil does, and tells its log in words as it comes")
+        .about(
+            "Rehearses a scenario or a book as vigil does, and tells the log in words as it comes",
+        )
         .arg(workers(alloc))?
         .arg(has_subjects)?
-        .arg(time_of_frame_0(alloc))
+        .arg(time_of_run(alloc))
 }
 
 /// What is made of a rehearsal.
@@ -236,9 +246,11 @@ fn run<'a>(alloc: Global) -> Result<Command<'a>, AllocError> {
         alloc,
         "scenario",
         "SCENARIO",
-        "The file of a scenario, or drill:K; - is standard input",
+        "The file of a scenario or of a book, or drill:K; - is standard input, a scenario",
     );
-    run_outputs(alloc)?.arg(scenario)?.arg(files(alloc))
+    run_outputs(alloc)?.arg(scenario)?.arg(files(alloc).help(
+        "Files of tables, and files to be loaded; a book has its own",
+    ))
 }
 
 fn completions<'a>(alloc: Global) -> Result<Command<'a>, AllocError> {

@@ -1,5 +1,6 @@
 //! What the words of each verb ask for, by their names in the command line, and the call that does it.
 
+use book_rehearsals::{names_book, run_book};
 use clap::ArgMatches;
 use ground_books::{Build, build_book};
 use ground_differences::{LogPair, compare_logs};
@@ -63,7 +64,7 @@ pub fn compare<R: Files + Input + Print + Eprint + AllocGlobal>(
     compare_logs(rt, &pair)
 }
 
-/// The verb that rehearses.
+/// The verb that rehearses a scenario or a book.
 pub fn rehearse<R>(rt: &R, asked: &ArgMatches<'_>) -> Status
 where
     R: Threads + Sync + Files + Print + Eprint + AllocGlobal,
@@ -79,5 +80,8 @@ where
         log: asked.get_str("log"),
         path: asked.get_str("output"),
     };
+    if names_book(rt, &run) {
+        return run_book(rt, &run);
+    }
     run_scenario(rt, &run)
 }
