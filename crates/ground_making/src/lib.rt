@@ -9,6 +9,7 @@ mod file_order;
 mod made_files;
 mod making;
 mod named_files;
+mod scenarios;
 mod telling;
 
 pub use books::{book_of, is_book};

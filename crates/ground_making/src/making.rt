@@ -6,13 +6,16 @@ ghost use Rattle.table_files.specs.Headers.{kind_of_file, file_fault_of, is_load
 ghost use Rattle.table_forms.specs.Judging.{refusal_of};
 ghost use Rattle.table_forms.specs.Layouts.{are_layouts};
 ghost use Rattle.load_texts.specs.Loads.{SaysLoad};
-ghost use Rattle.ground_making.specs.Made.{IsFileOf};
+ghost use Rattle.shown_plans.specs.Shown.{is_scenario_text};
+ghost use Rattle.ground_making.specs.Made.{IsFileOf, IsPlanIn};
 ghost use Rattle.ground_making.specs.declared.making.Making.TheVariants as makings;
 
 use crate::books::{book_scenario, is_book};
+use crate::scenarios::plan_of;
 use load_books::BookFault;
 use load_texts::{LoadFault, header_fields, read_load, show_load};
 use plan_text::{PlanError, PlanFault};
+use shown_plans::{ShowError, is_scenario_text};
 use std::alloc::{AllocError, Global};
 use table_files::{EntryFault, FileFault, FileImage, TableKind, read_file};
 use table_forms::{
@@ -27,7 +30,7 @@ use timed_plans::schedule_plan;
 pub enum Making {
     /// The file of a table, of its text; the verb makes of a load's text a file to be loaded (`load_of`).
     Table,
-    /// The text of a table or a load, of its file.
+    /// The text of a table or a load, of its file, and the plan of a scenario.
     Text,
     /// The scenario, of a plan or a book.
     Scenario,
@@ -45,6 +48,9 @@ pub enum Refusal {
     LoadText(LoadFault),
     #[error("{0}")]
     Plan(PlanFault),
+    /// Why a scenario has no plan.
+    #[error("{0}")]
+    Scenario(ShowError),
     #[error("{0}")]
     Book(BookFault),
     /// An entry of the table whose part begins at line `part` of a book.
@@ -137,8 +143,15 @@ pub fn load_of(alloc: Global, named: &[u8], text: &[u8]) -> Result<Vec<u8>, Refu
     }
 }
 
-/// The text of the file of a table, or of one to be loaded.
-fn text_of(alloc: Global, epoch: Option<u32>, file: &[u8]) -> Result<Vec<u8>, Refusal> {
+/// The text of the file of a table, or of one to be loaded, or the plan of a scenario.
+fn text_of(alloc: Global, epoch: Option<u32>, file: &[u8]) -> Result<Vec<u8>, Refusal>
+    requires { 1 + length file.now < 2 ^ 32 }
+    ensures { is_scenario_text file.now ≡ true
+        → IfOk result (λ plan. IsPlanIn file.now plan.items) }
+{
+    if is_scenario_text(file) {
+        return plan_of(alloc, file);
+    }
     match read_file(file) {
         Ok(FileImage::Table { kind, payload: _ }) => show_of(alloc, epoch, kind, file),
         Ok(FileImage::Load { at: _, bytes: _ }) => show_load_of(alloc, file),
@@ -201,9 +214,12 @@ pub fn look_at(file: &[u8]) -> Result<(), Refusal>
 }
 
 impl Making {
-    /// Makes a file's bytes into what is wanted. What `Table` makes is taken as the table that the text names.
+    /// Makes a file's bytes into what is wanted. What `Table` makes is taken as the table that the text names, and what `Text` makes of a
+    /// scenario is a plan of it.
     pub fn make(self, alloc: Global, epoch: Option<u32>, bytes: &[u8]) -> Result<Vec<u8>, Refusal>
         ensures taken { self ≡ makings.Table → IfOk result (λ file. IsFileOf bytes.now file.items) }
+        ensures plan { self ≡ makings.Text → is_scenario_text bytes.now ≡ true
+            → IfOk result (λ plan. IsPlanIn bytes.now plan.items) }
     {
         if bytes.len() > MOST_BYTES {
             return Err(Refusal::Long);

@@ -116,7 +116,7 @@ fn table<'a>(alloc: Global) -> Result<Command<'a>, AllocError> {
 fn show<'a>(alloc: Global) -> Result<Command<'a>, AllocError> {
     Command::new(alloc, "show")
         .about(
-            "Shows the file of a table, or one to be loaded, as text, from which `table` makes that file",
+            "Shows the file of a table, or one to be loaded, as text, from which `table` makes that file, and a scenario as a plan, for `scenario`",
         )
         .arg(epoch(alloc, "What times are shown from, such as +0:01:00"))?
         .arg(output(alloc))?
@@ -124,7 +124,7 @@ fn show<'a>(alloc: Global) -> Result<Command<'a>, AllocError> {
             alloc,
             "input",
             "FILE",
-            "The file of a table or of a load; - is standard input",
+            "The file of a table or of a load, or a scenario; - is standard input",
         ))
 }
 
