@@ -1,12 +1,12 @@
 -- Lemmas on captures of logs.
-use Rattle.std.proofs.Common.{◌≡◌, ℕ, Bool, List, [], ◌∷◌, ◌++◌, Option, Some, Result, Ok, Err, refl, ap, sym, ◌∙◌, subst}
+use Rattle.std.proofs.Common.{◌≡◌, ℕ, Bool, List, [], ◌∷◌, ◌++◌, Option, Some, Result, Ok, Err, refl, ap, ◌∙◌, subst}
 use Rattle.std.specs.Prelude.{IfOk}
 use Rattle.std.specs.List.{AllZip, concat, flat_map}
 use Rattle.std.specs.Io.KnownBytes.{Appends}
 use Rattle.std.proofs.KnownBytes.{Appends-trans}
 use Rattle.log_lines.specs.declared.line.LogLine.{LogLine}
 use Rattle.pcap_form.specs.Captures.{capture_header}
-use Rattle.ground_logs.specs.Making.{lines_of, AreMade, IsMadeOf}
+use Rattle.ground_logs.specs.Making.{lines_of, IsMadeOf}
 use Rattle.ground_exports.specs.Records.{line_record, capture_of, IsCaptureOf}
 
 -- parts of which each is what its line says are what all lines say

@@ -1,5 +1,4 @@
-use Rattle.std.proofs.Common.{◌∙◌, ap, length, subst}
-use Rattle.ground_exports.specs.Rows.{AreCells}
+use Rattle.std.proofs.Common.{◌∙◌, ap, length}
 use Rattle.ground_exports.proofs.RowLemmas.{is_row}
 use Rattle.ground_exports.proofs.csv_rows.RowsLineMaker.make.Goals as goal
 
