@@ -1,0 +1,12 @@
+//! What is told of refused entries: all of a table's, and the line of the text or the book where each stands.
+#![tactic(auto)]
+
+mod book_entries;
+mod book_parts;
+mod entry_faults;
+mod entry_lines;
+mod telling;
+
+pub use book_entries::{tell_book, tell_book_fault};
+pub use entry_faults::{PAYLOAD, blank_entry, clear_faults};
+pub use telling::{tell_entries, tell_entry, tell_said};

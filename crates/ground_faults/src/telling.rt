@@ -1,0 +1,68 @@
+//! Refused entries of tables and of their texts, in words.
+
+use crate::entry_faults::{PAYLOAD, clear_faults};
+use crate::entry_lines::said_entry;
+use packet_forms::behind;
+use std::alloc::AllocError;
+use std::str::from_utf8;
+use table_files::{EntryFault, TableKind};
+use table_reasons::tell_fault;
+
+/// What the number of a refused entry's reason is over its loader's.
+const ENTRY_REASONS: u32 = 10;
+
+/// Tells why an entry of a payload is refused.
+pub fn tell_entry<R: Eprint + AllocGlobal>(
+    rt: &R,
+    name: &str,
+    kind: TableKind,
+    payload: &[u8],
+    fault: EntryFault,
+) -> Result<(), AllocError> {
+    let mut words = Vec::new(rt.alloc());
+    tell_fault(kind, payload, fault, &mut words)?;
+    // There is no other place to tell it.
+    let _told = match from_utf8(words.as_slice()) {
+        Ok(words) => eprintln!(rt; "{name}: {words}"),
+        Err(_) => {
+            let reason = u32::from(fault.reason).saturating_add(ENTRY_REASONS);
+            eprintln!(rt; "{name}: entry {0}: reason {reason}", fault.entry)
+        }
+    };
+    Ok(())
+}
+
+/// Tells why entries of a table's file are refused, each of them that `clear_faults` finds.
+pub fn tell_entries<R: Eprint + AllocGlobal>(
+    rt: &R,
+    name: &str,
+    kind: TableKind,
+    file: &[u8],
+) -> Result<(), AllocError> {
+    let mut rest = Vec::new(rt.alloc());
+    rest.extend_from_slice(file)?;
+    let faults = clear_faults(rt.alloc(), &mut rest)?;
+    for fault in faults.as_slice() {
+        tell_entry(rt, name, kind, behind(file, PAYLOAD), *fault)?;
+    }
+    Ok(())
+}
+
+/// Tells why an entry of a table's text is refused, with its line.
+pub fn tell_said<R: Eprint + AllocGlobal>(
+    rt: &R,
+    name: &str,
+    epoch: Option<u32>,
+    kind: TableKind,
+    fault: EntryFault,
+    text: &[u8],
+) -> Result<(), AllocError> {
+    let said = said_entry(rt.alloc(), epoch, kind, fault.entry, text)?;
+    match said.line {
+        Some(line) => {
+            let place = format!(in rt.alloc(); "{name}: line {0}", line.number)?;
+            tell_entry(rt, place.as_str(), kind, said.payload.as_slice(), fault)
+        }
+        None => tell_entry(rt, name, kind, said.payload.as_slice(), fault),
+    }
+}
