@@ -48,7 +48,7 @@ where
     let mut words = front;
     let ShelvedBook { book, shelf } = match shelved(rt.alloc(), text, &mut words) {
         Ok(shelved) => shelved,
-        Err(refusal) => return tell_refusal(rt, name, &refusal),
+        Err(refusal) => return tell_refusal(rt, name, text, &refusal),
     };
     let scenario = book.scenario.as_slice();
     let mut timed = *run;

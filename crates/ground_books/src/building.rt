@@ -177,6 +177,6 @@ pub fn build_book<R: Files + Input + Eprint + AllocGlobal>(rt: &R, build: &Build
     };
     match built(rt.alloc(), text.as_slice()) {
         Ok(files) => fill_folder(rt, build, files),
-        Err(refusal) => tell_refusal(rt, name, &refusal),
+        Err(refusal) => tell_refusal(rt, name, text.as_slice(), &refusal),
     }
 }

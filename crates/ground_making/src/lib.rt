@@ -1,19 +1,14 @@
-//! What a file or a text is made into: tables, loads, their texts, scenarios, books; and the verbs that read one and write the other, or look.
+//! What a file or a text is made into: tables, loads, their texts, scenarios; and the verbs that read one and write the other.
 #![tactic(auto)]
 
 mod books;
-mod checking;
-mod entry_faults;
-mod entry_lines;
-mod file_order;
 mod made_files;
 mod making;
 mod named_files;
+mod refusing;
 mod scenarios;
-mod telling;
 
-pub use books::{book_of, is_book};
-pub use checking::check_files;
+pub use books::is_book;
 pub use made_files::{Wanted, make_one};
 pub use making::{MOST_BYTES, Making, Refusal, load_of, look_at};
-pub use telling::tell_refusal;
+pub use refusing::tell_refusal;

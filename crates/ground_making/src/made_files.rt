@@ -4,7 +4,8 @@ ghost use Rattle.std.specs.Prelude.{◌<◌, ◌+◌, ◌^◌, length};
 
 use crate::making::{MOST_BYTES, Making, Refusal, load_of, look_at};
 use crate::named_files::named_bytes;
-use crate::telling::{status_told, tell_entries, tell_refusal, tell_said};
+use crate::refusing::{status_told, tell_refusal};
+use ground_faults::{tell_entries, tell_said};
 use ground_files::{
     Status, get, input_name, output_name, put, tell_replaced, tell_unread, tell_unwritten,
     would_replace,
@@ -49,7 +50,7 @@ fn tell_unmade<R: Eprint + AllocGlobal>(
             let told = tell_said(rt, name, wanted.epoch, kind, fault, bytes);
             status_told(rt, name, told)
         }
-        _ => tell_refusal(rt, name, refusal),
+        _ => tell_refusal(rt, name, bytes, refusal),
     }
 }
 
@@ -70,7 +71,7 @@ fn make_load<R: Files + Print + Eprint + AllocGlobal>(
     };
     match load_of(rt.alloc(), named.as_slice(), text) {
         Ok(file) => write_made(rt, wanted.path, file.as_slice()),
-        Err(refusal) => tell_refusal(rt, input_name(wanted.file), &refusal),
+        Err(refusal) => tell_refusal(rt, input_name(wanted.file), text, &refusal),
     }
 }
 

@@ -53,15 +53,26 @@ pub enum Refusal {
     Scenario(ShowError),
     #[error("{0}")]
     Book(BookFault),
-    /// An entry of the table whose part begins at line `part` of a book.
-    #[error("part of line {part}: entry {entry}: reason {reason} (docs/FILES.md)")]
-    PartEntry { part: u32, entry: u32, reason: u32 },
     #[error("{0}")]
     File(FileFault),
     #[error("it is longer than 4294967294 bytes")]
     Long,
     #[error("memory ran out")]
     Memory,
+}
+
+impl Refusal {
+    /// Whether a text is at fault, by one of its lines or as a whole.
+    pub(crate) fn is_of_text(&self) -> bool {
+        match self {
+            Refusal::Text(_)
+            | Refusal::LoadText(_)
+            | Refusal::Plan(_)
+            | Refusal::Scenario(_)
+            | Refusal::Book(_) => true,
+            Refusal::Entry(_, _) | Refusal::File(_) | Refusal::Long | Refusal::Memory => false,
+        }
+    }
 }
 
 /// Why a table or its text is refused.

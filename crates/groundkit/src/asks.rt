@@ -169,10 +169,15 @@ fn files<'a>(alloc: Global) -> Arg<'a> {
 }
 
 fn check<'a>(alloc: Global) -> Result<Command<'a>, AllocError> {
+    let map = Arg::new(alloc, "map")
+        .long("map")
+        .value_name("SCENARIO")
+        .help("The scenario, plan or book whose memory the tables read; - is standard input");
     Command::new(alloc, "check")
         .about(
             "Looks at files as vigil does, and at books: why they are refused, what is odd in them, and in which order they count",
         )
+        .arg(map)?
         .arg(files(alloc).required(true))
 }
 

@@ -11,13 +11,13 @@ use clap::error::{Error, ErrorKind};
 use describing::{Description, describe};
 use ground_exports::Export;
 use ground_files::Status;
-use ground_making::{Making, check_files};
+use ground_making::Making;
 use std::alloc::AllocError;
 use std::process::ExitCode;
 use std::rt::Files;
 use std::thread::Threads;
 use std::{env, io};
-use verbs::{build, compare, export, make, rehearse};
+use verbs::{build, check, compare, export, make, rehearse};
 
 /// The status where the words are refused, or where they ask for help or the version.
 fn status_of_words(error: &Error) -> Status {
@@ -40,7 +40,7 @@ fn carry_out<R: Threads + Sync + Files + Input + Print + Eprint + AllocGlobal>(
         "table" => make(rt, Making::Table, asked),
         "scenario" => make(rt, Making::Scenario, asked),
         "show" => make(rt, Making::Text, asked),
-        "check" => check_files(rt, asked.get_strs("files").unwrap_or(&[])),
+        "check" => check(rt, asked),
         "csv" => export(rt, Export::Rows, asked),
         "pcap" => export(rt, Export::Capture, asked),
         "diff" => compare(rt, asked),

@@ -3,6 +3,7 @@
 use book_rehearsals::{names_book, run_book};
 use clap::ArgMatches;
 use ground_books::{Build, build_book};
+use ground_checks::{Check, check_files};
 use ground_differences::{LogPair, compare_logs};
 use ground_exports::{Export, Exported, export_log};
 use ground_files::Status;
@@ -33,6 +34,18 @@ pub fn build<R: Files + Input + Eprint + AllocGlobal>(rt: &R, asked: &ArgMatches
         folder: asked.get_str("output"),
     };
     build_book(rt, &build)
+}
+
+/// The verb that looks at files.
+pub fn check<R: Files + Input + Print + Eprint + AllocGlobal>(
+    rt: &R,
+    asked: &ArgMatches<'_>,
+) -> Status {
+    let check = Check {
+        files: asked.get_strs("files").unwrap_or(&[]),
+        map: asked.get_str("map"),
+    };
+    check_files(rt, &check)
 }
 
 /// A verb that makes something of a log.

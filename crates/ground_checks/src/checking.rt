@@ -1,19 +1,20 @@
 //! The verb that looks at files.
 
-use crate::books::{is_book, look_at_book};
+use crate::book_checks::{is_book, tell_book_file};
+use crate::file_checks::tell_file;
 use crate::file_order::{Holding, SeenFile, tell_order, warn_of_place};
-use crate::making::{Refusal, look_at};
-use crate::telling::{status_told, tell_entries, tell_refusal};
+use crate::map_files::read_map;
+use crate::read_words::tell_regions;
 use ground_files::{
     Status, get, input_name, is_stream, output_name, tell_no_memory, tell_unread, tell_unwritten,
 };
+use memory_window::Map;
 use packet_forms::{behind, front};
 use std::alloc::AllocError;
 use std::fs;
 use std::rt::Files;
 use std::str::from_utf8;
 use table_files::{FileImage, read_file};
-use table_warnings::find_warnings;
 
 /// Where the name of a table stands in its file, and how many bytes it has at most.
 const NAME: usize = 76;
@@ -66,49 +67,19 @@ fn seen_file<'a, R: Files + AllocGlobal>(
     })
 }
 
-/// Tells what is odd in a table that is taken.
-fn warn_of_table<R: Eprint + AllocGlobal>(
-    rt: &R,
-    name: &str,
-    file: &[u8],
-) -> Result<(), AllocError> {
-    let Ok(FileImage::Table { kind, payload }) = read_file(file) else {
-        return Ok(());
-    };
-    let warnings = find_warnings(rt.alloc(), kind, payload)?;
-    for warning in warnings.as_slice() {
-        // There is no other place to tell it.
-        let _told = eprintln!(rt; "{name}: warning: {warning}");
-    }
-    Ok(())
-}
-
-/// Tells why a file is refused, or what is odd in it.
-fn tell_file<R: Eprint + AllocGlobal>(rt: &R, name: &str, file: &[u8]) -> Status {
-    match look_at(file) {
-        Ok(()) => match warn_of_table(rt, name, file) {
-            Ok(()) => Status::Done,
-            Err(_) => tell_no_memory(rt),
-        },
-        Err(Refusal::Entry(kind, _)) => {
-            let told = tell_entries(rt, name, kind, file);
-            status_told(rt, name, told)
-        }
-        Err(refusal) => tell_refusal(rt, name, &refusal),
-    }
-}
-
-/// Looks at a book, and tells why it is refused.
-fn tell_book<R: Eprint + AllocGlobal>(rt: &R, name: &str, text: &[u8]) -> Status {
-    match look_at_book(rt.alloc(), text) {
-        Ok(()) => Status::Done,
-        Err(refusal) => tell_refusal(rt, name, &refusal),
-    }
+/// What `check` is asked for.
+#[derive(Clone, Copy, Drop)]
+pub struct Check<'a> {
+    /// Files of tables, files to be loaded, and books; `-` is standard input.
+    pub files: &'a [&'a str],
+    /// The scenario, plan or book whose map of memory is asked, too.
+    pub map: Option<&'a str>,
 }
 
 /// Looks at a file as the program does, and then at its place behind others. A book has none: its files are in it.
 fn check_file<'a, R: Files + Input + Eprint + AllocGlobal>(
     rt: &R,
+    map: Option<&Map>,
     path: &'a str,
     seen: &mut Vec<SeenFile<'a>>,
 ) -> Result<Status, AllocError> {
@@ -116,9 +87,9 @@ fn check_file<'a, R: Files + Input + Eprint + AllocGlobal>(
     let (status, bytes) = match get(rt, path) {
         Ok(bytes) => {
             if is_book(bytes.as_slice()) {
-                return Ok(tell_book(rt, name, bytes.as_slice()));
+                return Ok(tell_book_file(rt, name, bytes.as_slice()));
             }
-            (tell_file(rt, name, bytes.as_slice()), bytes)
+            (tell_file(rt, map, name, bytes.as_slice()), bytes)
         }
         Err(error) => (tell_unread(rt, name, &error), Vec::new(rt.alloc())),
     };
@@ -131,35 +102,62 @@ fn check_file<'a, R: Files + Input + Eprint + AllocGlobal>(
     Ok(status)
 }
 
+/// The first of two statuses that isn't `Done`.
+fn earlier(one: Status, other: Status) -> Status {
+    if one == Status::Done { other } else { one }
+}
+
 /// Tells the order of the files, and answers the status.
 fn end_check<R: Print + Eprint>(rt: &R, seen: &[SeenFile<'_>], status: Status) -> Status {
     match tell_order(rt, seen) {
         Ok(()) => status,
-        Err(error) => {
-            let failed = tell_unwritten(rt, output_name(None), &error);
-            if status == Status::Done {
-                failed
-            } else {
-                status
-            }
-        }
+        Err(error) => earlier(status, tell_unwritten(rt, output_name(None), &error)),
     }
 }
 
-/// Looks at files in their order, all of them, and tells this order at the end. The first status that isn't `Done` stands.
-pub fn check_files<R: Files + Input + Print + Eprint + AllocGlobal>(
+/// Looks at files in their order, all of them, and tells this order at the end. The first status that isn't `Done` stands, from this one on.
+fn check_all<R: Files + Input + Print + Eprint + AllocGlobal>(
     rt: &R,
+    map: Option<&Map>,
     files: &[&str],
+    first: Status,
 ) -> Status {
     let mut seen = Vec::new(rt.alloc());
-    let mut status = Status::Done;
+    let mut status = first;
     'files: for file in files {
-        let Ok(one) = check_file(rt, file, &mut seen) else {
+        let Ok(one) = check_file(rt, map, file, &mut seen) else {
             return tell_no_memory(rt);
         };
-        if status == Status::Done {
-            status = one;
-        }
+        status = earlier(status, one);
     }
     end_check(rt, seen.as_slice(), status)
+}
+
+/// Looks at files with a map of memory, whose regions are told before the order of the files.
+fn check_with<R: Files + Input + Print + Eprint + AllocGlobal>(
+    rt: &R,
+    name: &str,
+    map: &Map,
+    files: &[&str],
+) -> Status {
+    let first = match tell_regions(rt, name, map) {
+        Ok(()) => Status::Done,
+        Err(error) => tell_unwritten(rt, output_name(None), &error),
+    };
+    check_all(rt, Some(map), files, first)
+}
+
+/// Looks at files in their order, all of them, and tells this order at the end. The first status that isn't `Done` stands. Where the map of
+/// memory can't be read, the files are looked at without it.
+pub fn check_files<R: Files + Input + Print + Eprint + AllocGlobal>(
+    rt: &R,
+    check: &Check<'_>,
+) -> Status {
+    let Some(path) = check.map else {
+        return check_all(rt, None, check.files, Status::Done);
+    };
+    match read_map(rt, path) {
+        Ok(map) => check_with(rt, input_name(path), &map, check.files),
+        Err(status) => check_all(rt, None, check.files, status),
+    }
 }

@@ -1,0 +1,5 @@
+pub mod MapLemmas
+pub mod FaultLemmas
+pub mod FoundLemmas
+pub mod ReadLemmas
+pub mod LoadingLemmas

@@ -1,0 +1,79 @@
+//! What is wrong with a book, in words.
+
+ghost use Rattle.std.specs.Prelude.{◌≡◌, ◌+◌, ◌<◌, ◌^◌, length, true};
+
+use crate::file_checks::tell_file;
+use crate::map_files::MOST_TEXT;
+use crate::map_texts::scenario_map;
+use ground_faults::tell_book;
+use ground_files::{Status, tell_no_memory};
+use load_books::{Book, BookError, BookFile, book_forms, is_book_text, read_book};
+use memory_window::Map;
+use std::alloc::AllocError;
+use std::str::from_utf8;
+
+/// Whether bytes are the text of a book, and no more than one has.
+pub(crate) fn is_book(bytes: &[u8]) -> bool
+    ensures { result ≡ true → 1 + length bytes.now < 2 ^ 32 }
+{
+    bytes.len() <= MOST_TEXT && is_book_text(bytes)
+}
+
+/// Tells why a book isn't read, of entries of its tables all that are refused, and answers the status.
+pub(crate) fn tell_unread_book<R: Eprint + AllocGlobal>(
+    rt: &R,
+    name: &str,
+    text: &[u8],
+    error: &BookError,
+) -> Status {
+    match error {
+        BookError::Memory(_) => tell_no_memory(rt),
+        BookError::Book(fault) => tell_book(rt, name, text, fault),
+    }
+}
+
+/// Looks at a file of a book, with the map of its own plan.
+fn tell_part_file<R: Eprint + AllocGlobal>(
+    rt: &R,
+    map: Option<&Map>,
+    name: &str,
+    file: &BookFile<'_>,
+) -> Result<Status, AllocError> {
+    let part = from_utf8(file.name).unwrap_or("");
+    let place = format!(in rt.alloc(); "{name}: {part}")?;
+    Ok(tell_file(rt, map, place.as_str(), file.bytes.as_slice()))
+}
+
+/// Looks at the files of a book, with the map of its own plan. The first status that isn't `Done` stands.
+fn tell_files<R: Eprint + AllocGlobal>(
+    rt: &R,
+    map: Option<&Map>,
+    name: &str,
+    book: &Book<'_>,
+) -> Result<Status, AllocError> {
+    let mut status = Status::Done;
+    for file in book.files.as_slice() {
+        let one = tell_part_file(rt, map, name, file)?;
+        if status == Status::Done {
+            status = one;
+        }
+    }
+    Ok(status)
+}
+
+/// Looks at a book: tells why it is refused, or what is odd in its tables and what the memory of its plan doesn't give.
+pub(crate) fn tell_book_file<R: Eprint + AllocGlobal>(rt: &R, name: &str, text: &[u8]) -> Status
+    requires { 1 + length text.now < 2 ^ 32 }
+{
+    let book = match read_book(rt.alloc(), &book_forms(), text) {
+        Ok(book) => book,
+        Err(error) => return tell_unread_book(rt, name, text, &error),
+    };
+    let Ok(map) = scenario_map(rt.alloc(), book.scenario.as_slice()) else {
+        return tell_no_memory(rt);
+    };
+    match tell_files(rt, Some(&map), name, &book) {
+        Ok(status) => status,
+        Err(_) => tell_no_memory(rt),
+    }
+}

@@ -1,0 +1,162 @@
+//! What is wrong with a file or odd in it, in words.
+
+ghost use Rattle.std.specs.Prelude.{◌≡◌, ◌≢◌, None, option_map};
+ghost use Rattle.ground_checks.specs.Faults.{fault_of};
+
+use crate::finding::{FoundFault, find_faults};
+use crate::read_faults::MOST_BYTES;
+use crate::read_words::tell_read;
+use ground_faults::{PAYLOAD, tell_entry};
+use ground_files::{Status, tell_no_memory};
+use memory_window::Map;
+use packet_forms::behind;
+use row_forms::split_word;
+use std::alloc::AllocError;
+use table_files::{FileFault, FileImage, TableKind, read_file};
+use table_texts::next_line;
+use table_warnings::find_warnings;
+
+/// Tells what is odd in a table that is taken.
+fn warn_of_table<R: Eprint + AllocGlobal>(
+    rt: &R,
+    name: &str,
+    file: &[u8],
+) -> Result<(), AllocError> {
+    let Ok(FileImage::Table { kind, payload }) = read_file(file) else {
+        return Ok(());
+    };
+    let warnings = find_warnings(rt.alloc(), kind, payload)?;
+    for warning in warnings.as_slice() {
+        // There is no other place to tell it.
+        let _told = eprintln!(rt; "{name}: warning: {warning}");
+    }
+    Ok(())
+}
+
+/// What a text is that was given in the place of a file; none where it isn't one.
+fn text_hint(file: &[u8]) -> Option<&'static str> {
+    if file.len() > MOST_BYTES {
+        return None;
+    }
+    let Some(line) = next_line(file, 1) else {
+        return None;
+    };
+    let Some((word, _)) = split_word(line.bytes) else {
+        return None;
+    };
+    if word == b"table".as_slice() || word == b"load".as_slice() {
+        return Some("it is a text: `groundkit table` makes the file of it");
+    }
+    if word == b"epoch".as_slice() {
+        return Some("it is a scenario or a plan: files of tables and loads are looked at here");
+    }
+    None
+}
+
+/// Tells why the headers of a file are refused.
+fn tell_headers<R: Eprint>(rt: &R, name: &str, file: &[u8], fault: FileFault) {
+    let reason = fault.number();
+    // There is no other place to tell it.
+    let _told = match text_hint(file) {
+        Some(hint) => eprintln!(rt; "{name}: {hint} (reason {reason})"),
+        None => eprintln!(rt; "{name}: {fault} (reason {reason})"),
+    };
+}
+
+/// The table of a file, where it has one.
+fn kind_of(file: &[u8]) -> Option<TableKind> {
+    match read_file(file) {
+        Ok(FileImage::Table { kind, payload: _ }) => Some(kind),
+        Ok(FileImage::Load { at: _, bytes: _ }) => None,
+        Err(_) => None,
+    }
+}
+
+/// Tells a fault of a file.
+fn tell_found<R: Eprint + AllocGlobal>(
+    rt: &R,
+    map: Option<&Map>,
+    name: &str,
+    file: &[u8],
+    fault: FoundFault,
+) -> Result<(), AllocError> {
+    let payload = behind(file, PAYLOAD);
+    match (fault, kind_of(file)) {
+        (FoundFault::Long, _) => {
+            // There is no other place to tell it.
+            let _told = eprintln!(rt; "{name}: it has over 65700 bytes (reason 9)");
+            Ok(())
+        }
+        (FoundFault::Headers(fault), _) => {
+            tell_headers(rt, name, file, fault);
+            Ok(())
+        }
+        (FoundFault::Entry(fault), Some(kind)) => tell_entry(rt, name, kind, payload, fault),
+        (FoundFault::Read(entry), Some(kind)) => tell_read(rt, map, name, kind, payload, entry),
+        (FoundFault::Entry(_) | FoundFault::Read(_), None) => Ok(()),
+    }
+}
+
+/// Tells the faults of a file.
+fn tell_all<R: Eprint + AllocGlobal>(
+    rt: &R,
+    map: Option<&Map>,
+    name: &str,
+    file: &[u8],
+    faults: &[FoundFault],
+) -> Result<(), AllocError> {
+    for fault in faults {
+        tell_found(rt, map, name, file, *fault)?;
+    }
+    Ok(())
+}
+
+/// The status of a file whose faults were told.
+fn status_refused<R: Eprint>(rt: &R, told: Result<(), AllocError>) -> Status
+    ensures { result ≢ Status.Done }
+{
+    match told {
+        Ok(()) => Status::FileRefused,
+        Err(_) => {
+            let _told = tell_no_memory(rt);
+            Status::NoMemory
+        }
+    }
+}
+
+/// The status of a file without a fault, once was told what is odd in it.
+fn status_taken<R: Eprint>(rt: &R, told: Result<(), AllocError>) -> Status
+    ensures { result ≢ Status.FileRefused }
+{
+    match told {
+        Ok(()) => Status::Done,
+        Err(_) => {
+            let _told = tell_no_memory(rt);
+            Status::NoMemory
+        }
+    }
+}
+
+/// Tells why a file is refused, or what is odd in it. It is `Done` only where the program takes the file, and `FileRefused` only where it
+/// doesn't.
+#[tactic(auto, using(crate::proofs::FoundLemmas::nothing_found, crate::proofs::FoundLemmas::something_found))]
+pub(crate) fn tell_file<R: Eprint + AllocGlobal>(
+    rt: &R,
+    map: Option<&Map>,
+    name: &str,
+    file: &[u8],
+) -> Status
+    ensures taken { result ≡ Status.Done → fault_of (option_map (λ known. known.now) map.entry) file.now ≡ None }
+    ensures refused { result ≡ Status.FileRefused → fault_of (option_map (λ known. known.now) map.entry) file.now ≢ None }
+{
+    let Ok(faults) = find_faults(rt.alloc(), map, file) else {
+        let _told = tell_no_memory(rt);
+        return Status::NoMemory;
+    };
+    if faults.is_empty() {
+        let told = warn_of_table(rt, name, file);
+        return status_taken(rt, told);
+    }
+    let told = tell_all(rt, map, name, file, faults.as_slice());
+    status_refused(rt, told)
+}

@@ -1,0 +1,17 @@
+//! The verb that looks at files as the program does: their faults, what the memory of a scenario refuses, what is odd in them, and their order.
+#![tactic(auto)]
+
+mod book_checks;
+mod checking;
+mod file_checks;
+mod file_order;
+mod finding;
+pub mod laws;
+mod map_files;
+mod map_texts;
+mod read_faults;
+mod read_words;
+
+pub use checking::{Check, check_files};
+pub use finding::{FoundFault, find_faults};
+pub use map_texts::{MapFault, scenario_map};

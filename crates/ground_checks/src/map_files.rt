@@ -1,0 +1,142 @@
+//! The map of memory of a scenario, a plan or a book.
+
+ghost use Rattle.std.specs.Prelude.{◌+◌, ◌<◌, ◌^◌, length};
+
+use crate::book_checks::{is_book, tell_unread_book};
+use crate::map_texts::{MapFault, scenario_map};
+use ground_files::{Status, get, input_name, tell_no_memory, tell_unread};
+use ground_runs::line_cause;
+use load_books::{book_forms, read_book};
+use memory_window::Map;
+use packet_forms::{behind, front};
+use plan_text::{PlanError, PlanFault};
+use std::alloc::Global;
+use std::rt::Files;
+use std::str::from_utf8;
+use telecommands::commands;
+use timed_plans::schedule_plan;
+
+/// The most bytes of a text: lines are counted in 32 bits.
+pub(crate) const MOST_TEXT: usize = 4_294_967_294;
+
+/// The reason of a text that ends too early.
+const UNENDED: u8 = 7;
+
+/// Why a text that isn't a book gives no map.
+#[derive(Clone, Copy, Debug, PartialEq, Eq)]
+enum TextFault {
+    /// It is a plan, and this is wrong in it.
+    Plan(PlanFault),
+    /// It is a scenario, and this line of its header is refused.
+    Line { line: u32, reason: u8 },
+    Memory,
+}
+
+/// The map of a plan, where its header isn't a scenario's: its epoch is a date. `line` and `reason` are what is wrong with it as a scenario's.
+fn plan_map(alloc: Global, text: &[u8], line: u32, reason: u8) -> Result<Map, TextFault> {
+    if text.len() > MOST_TEXT {
+        return Err(TextFault::Line { line, reason });
+    }
+    match schedule_plan(alloc, commands(), text) {
+        Ok(scenario) => match scenario_map(alloc, scenario.as_slice()) {
+            Ok(map) => Ok(map),
+            Err(MapFault::Line { line, reason }) => Err(TextFault::Line { line, reason }),
+            Err(MapFault::Memory) => Err(TextFault::Memory),
+        },
+        Err(PlanError::Memory(_)) => Err(TextFault::Memory),
+        // A text that is read farther as a plan is one.
+        Err(PlanError::Plan(fault)) if fault.line > line => Err(TextFault::Plan(fault)),
+        Err(PlanError::Plan(_)) => Err(TextFault::Line { line, reason }),
+    }
+}
+
+/// The map of a scenario or a plan.
+fn text_map(alloc: Global, text: &[u8]) -> Result<Map, TextFault> {
+    match scenario_map(alloc, text) {
+        Ok(map) => Ok(map),
+        Err(MapFault::Line { line, reason }) => plan_map(alloc, text, line, reason),
+        Err(MapFault::Memory) => Err(TextFault::Memory),
+    }
+}
+
+/// A line of a text.
+fn line_of(text: &[u8], wanted: u32) -> &[u8] {
+    let mut start: usize = 0;
+    let mut number: u32 = 1;
+    'bytes: for place in 0..text.len() {
+        if text[place] == b'\n' {
+            if number == wanted {
+                return front(behind(text, start), place.saturating_sub(start));
+            }
+            start = place.saturating_add(1);
+            number = number.saturating_add(1);
+        }
+    }
+    behind(text, start)
+}
+
+/// Tells why a line of a scenario's header is refused, and shows it.
+fn tell_line<R: Eprint>(rt: &R, name: &str, text: &[u8], line: u32, reason: u8) -> Status {
+    if reason == UNENDED {
+        let _told = eprintln!(rt;
+            "{name}: line {line}: the text ends before the line `start`, so that it has no map of memory"
+        );
+        return Status::ScenarioRefused;
+    }
+    let bytes = line_of(text, line);
+    let cause = line_cause(reason, bytes);
+    let _told = match from_utf8(front(bytes, 200)) {
+        Ok(words) => eprintln!(rt; "{name}: line {line}: {cause} (reason {reason}): {words:?}"),
+        Err(_) => eprintln!(rt; "{name}: line {line}: {cause} (reason {reason})"),
+    };
+    Status::ScenarioRefused
+}
+
+/// Tells why a scenario or a plan gives no map.
+fn tell_text<R: Eprint>(rt: &R, name: &str, text: &[u8], fault: TextFault) -> Status {
+    match fault {
+        TextFault::Plan(fault) => {
+            let _told = eprintln!(rt; "{name}: {fault}");
+            Status::ScenarioRefused
+        }
+        TextFault::Line { line, reason } => tell_line(rt, name, text, line, reason),
+        TextFault::Memory => tell_no_memory(rt),
+    }
+}
+
+/// The map of a book's plan, or the status, once it was told why there is none.
+fn book_map<R: Eprint + AllocGlobal>(rt: &R, name: &str, text: &[u8]) -> Result<Map, Status>
+    requires { 1 + length text.now < 2 ^ 32 }
+{
+    let book = match read_book(rt.alloc(), &book_forms(), text) {
+        Ok(book) => book,
+        Err(error) => return Err(tell_unread_book(rt, name, text, &error)),
+    };
+    match scenario_map(rt.alloc(), book.scenario.as_slice()) {
+        Ok(map) => Ok(map),
+        Err(MapFault::Line { line, reason }) => {
+            Err(tell_line(rt, name, book.scenario.as_slice(), line, reason))
+        }
+        Err(MapFault::Memory) => Err(tell_no_memory(rt)),
+    }
+}
+
+/// The map of memory of a scenario, a plan or a book, or the status, once it was told why there is none.
+pub(crate) fn read_map<R: Files + Input + Eprint + AllocGlobal>(
+    rt: &R,
+    path: &str,
+) -> Result<Map, Status> {
+    let name = input_name(path);
+    let text = match get(rt, path) {
+        Ok(text) => text,
+        Err(error) => return Err(tell_unread(rt, name, &error)),
+    };
+    let text = text.as_slice();
+    if is_book(text) {
+        return book_map(rt, name, text);
+    }
+    match text_map(rt.alloc(), text) {
+        Ok(map) => Ok(map),
+        Err(fault) => Err(tell_text(rt, name, text, fault)),
+    }
+}

@@ -1,0 +1,167 @@
+//! What the memory of a scenario doesn't give, in words.
+
+use memory_window::{Kind, Map, Region};
+use packet_forms::{be16, be32, behind};
+use std::alloc::{AllocError, Global};
+use std::io;
+use table_files::TableKind;
+
+/// The reason of an entry whose read the memory of the scenario doesn't give.
+const NOT_GIVEN: u8 = 10;
+
+/// How many bytes stand in front of a dwell table's entries, and how many an entry has.
+const DWELL_HEAD: usize = 4;
+
+const DWELL_ENTRY: usize = 8;
+
+/// How many bytes an entry of a checksum table has.
+const CHECKSUM_ENTRY: usize = 12;
+
+/// The bytes that an entry reads.
+#[derive(Clone, Copy, Debug)]
+struct WantedBytes {
+    address: u32,
+    size: u32,
+}
+
+/// The bytes that an entry of a dwell table reads.
+fn dwell_bytes(payload: &[u8], entry: u32) -> Option<WantedBytes> {
+    let before = (entry as usize).saturating_sub(1);
+    let start = DWELL_HEAD.saturating_add(DWELL_ENTRY.saturating_mul(before));
+    let bytes = behind(payload, start);
+    if bytes.len() < DWELL_ENTRY {
+        return None;
+    }
+    Some(WantedBytes {
+        address: be32(bytes, 4),
+        size: u32::from(be16(bytes, 0)),
+    })
+}
+
+/// The bytes that an entry of a checksum table covers.
+fn checksum_bytes(payload: &[u8], entry: u32) -> Option<WantedBytes> {
+    let before = (entry as usize).saturating_sub(1);
+    let bytes = behind(payload, CHECKSUM_ENTRY.saturating_mul(before));
+    if bytes.len() < CHECKSUM_ENTRY {
+        return None;
+    }
+    Some(WantedBytes {
+        address: be32(bytes, 4),
+        size: be32(bytes, 8),
+    })
+}
+
+/// The bytes that an entry of a table reads; none where the table reads no memory.
+fn wanted_bytes(kind: TableKind, payload: &[u8], entry: u32) -> Option<WantedBytes> {
+    match kind {
+        TableKind::Dwell(_) => dwell_bytes(payload, entry),
+        TableKind::Eeprom | TableKind::Memory => checksum_bytes(payload, entry),
+        TableKind::AppMon
+        | TableKind::EventMon
+        | TableKind::ExeCount
+        | TableKind::MsgActs
+        | TableKind::Ats(_)
+        | TableKind::Rts(_)
+        | TableKind::Wdt
+        | TableKind::Adt => None,
+    }
+}
+
+/// The region that has an address.
+fn region_at(map: &Map, address: u32) -> Option<Region> {
+    for region in map.regions() {
+        if region.holds(address) {
+            return Some(*region);
+        }
+    }
+    None
+}
+
+/// Why a region that has the first of these bytes doesn't give them.
+fn cause_in(region: Region, wanted: WantedBytes) -> &'static str {
+    if u64::from(wanted.address) + u64::from(wanted.size) > region.end() {
+        return "its region ends before them";
+    }
+    match region.kind {
+        Kind::Mem8 => "a MEM8 region is read byte by byte",
+        Kind::Mem16 => "a MEM16 region is read in units of 2 bytes",
+        Kind::Mem32 => "a MEM32 region is read in units of 4 bytes",
+        Kind::Ram | Kind::Eeprom => "its region doesn't give them",
+    }
+}
+
+/// Why memory doesn't give bytes.
+fn cause_of(map: Option<&Map>, wanted: WantedBytes) -> &'static str {
+    let Some(map) = map else {
+        return "no region is known";
+    };
+    match region_at(map, wanted.address) {
+        Some(region) => cause_in(region, wanted),
+        None => "no region has this address",
+    }
+}
+
+/// What people call a table that reads memory.
+fn title_of(alloc: Global, kind: TableKind) -> Result<String, AllocError> {
+    match kind {
+        TableKind::Dwell(number) => Ok(format!(in alloc; "dwell table {number}")?),
+        TableKind::Eeprom => String::from_str(alloc, "EEPROM checksums"),
+        TableKind::Memory => String::from_str(alloc, "memory checksums"),
+        TableKind::AppMon
+        | TableKind::EventMon
+        | TableKind::ExeCount
+        | TableKind::MsgActs
+        | TableKind::Ats(_)
+        | TableKind::Rts(_)
+        | TableKind::Wdt
+        | TableKind::Adt => String::from_str(alloc, "table"),
+    }
+}
+
+/// Tells an entry of a table's payload that reads what the memory of the scenario doesn't give.
+pub(crate) fn tell_read<R: Eprint + AllocGlobal>(
+    rt: &R,
+    map: Option<&Map>,
+    place: &str,
+    kind: TableKind,
+    payload: &[u8],
+    entry: u32,
+) -> Result<(), AllocError> {
+    let title = title_of(rt.alloc(), kind)?;
+    // There is no other place to tell it.
+    let _told = match wanted_bytes(kind, payload, entry) {
+        Some(wanted) => {
+            let WantedBytes { address, size } = wanted;
+            let cause = cause_of(map, wanted);
+            let bytes = if size == 1 { "byte" } else { "bytes" };
+            eprintln!(rt;
+                "{place}: {title}, entry {entry}: the memory of the scenario doesn't give the {size} {bytes} at 0x{address:08X}: {cause} (reason {NOT_GIVEN})"
+            )
+        }
+        None => eprintln!(rt;
+            "{place}: {title}, entry {entry}: the memory of the scenario doesn't give what it reads (reason {NOT_GIVEN})"
+        ),
+    };
+    Ok(())
+}
+
+/// A region's kind, as a scenario has it.
+fn kind_word(kind: Kind) -> &'static str {
+    match kind {
+        Kind::Ram => "RAM",
+        Kind::Eeprom => "EEPROM",
+        Kind::Mem8 => "MEM8",
+        Kind::Mem16 => "MEM16",
+        Kind::Mem32 => "MEM32",
+    }
+}
+
+/// Tells the regions of a map, each as its line of the scenario has it.
+pub(crate) fn tell_regions<R: Print>(rt: &R, name: &str, map: &Map) -> io::Result<()> {
+    for region in map.regions() {
+        let Region { kind, start, len } = *region;
+        let kind = kind_word(kind);
+        println!(rt; "map {name} {kind} 0x{start:08X} {len}")?;
+    }
+    Ok(())
+}

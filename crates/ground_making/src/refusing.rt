@@ -1,0 +1,59 @@
+//! What is told where nothing is made.
+
+use crate::making::Refusal;
+use ground_faults::tell_book_fault;
+use ground_files::Status;
+use std::alloc::AllocError;
+
+/// Whether a line of a text ends with a carriage return.
+fn has_carriage_return(text: &[u8]) -> bool {
+    let mut last = 0;
+    for byte in text {
+        if last == b'\r' && *byte == b'\n' {
+            return true;
+        }
+        last = *byte;
+    }
+    false
+}
+
+/// Tells that a refused text's lines end with carriage returns, where they do: its words then aren't what they look like.
+fn tell_line_ends<R: Eprint>(rt: &R, name: &str, text: &[u8], refusal: &Refusal) {
+    if refusal.is_of_text() && has_carriage_return(text) {
+        // There is no other place to tell it.
+        let _told = eprintln!(rt;
+            "{name}: its lines end with carriage returns: save it with LF line ends"
+        );
+    }
+}
+
+/// Tells why a file or a text is refused, and answers the status. Of an entry in a book's table the line of the book is told.
+pub fn tell_refusal<R: Eprint + AllocGlobal>(
+    rt: &R,
+    name: &str,
+    bytes: &[u8],
+    refusal: &Refusal,
+) -> Status {
+    tell_line_ends(rt, name, bytes, refusal);
+    if let Refusal::Book(fault) = refusal {
+        return tell_book_fault(rt, name, bytes, fault);
+    }
+    let _told = eprintln!(rt; "{name}: {refusal}");
+    if *refusal == Refusal::Memory {
+        Status::NoMemory
+    } else {
+        Status::FileRefused
+    }
+}
+
+/// The status of a file whose entries are refused, once that was told.
+pub(crate) fn status_told<R: Eprint + AllocGlobal>(
+    rt: &R,
+    name: &str,
+    told: Result<(), AllocError>,
+) -> Status {
+    match told {
+        Ok(()) => Status::FileRefused,
+        Err(error) => tell_refusal(rt, name, &[], &Refusal::from(error)),
+    }
+}
