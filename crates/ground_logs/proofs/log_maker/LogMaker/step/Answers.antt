@@ -1,4 +1,4 @@
-use Rattle.std.proofs.Common.{◌++◌, refl, sym, subst, take, ap}
+use Rattle.std.proofs.Common.{◌++◌, refl, subst, take}
 use Rattle.log_lines.specs.Logs.{given, Stands as ReaderStands}
 use Rattle.ground_logs.proofs.MakingLemmas.{takes_nothing, takes_line, and_true, and_false}
 use Rattle.ground_logs.proofs.log_maker.LogMaker.step.Goals as goal
