@@ -16,7 +16,8 @@ pub struct Sentences {
     vocabulary: Vocabulary,
     epoch: Option<u32>,
     ghost good: { IsGood vocabulary },
-    ghost own: { (e : Option ℕ) (line : LogLine) → sentence_of vocabulary e line ≡ sentence_of own_words e line },
+    ghost own: { (e : Option ℕ) (line : LogLine)
+        → sentence_of vocabulary e line ≡ sentence_of own_words e line },
 }
 
 impl Sentences {
