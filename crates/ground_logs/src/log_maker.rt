@@ -94,7 +94,8 @@ impl<M: LineMaker + Drop> LogMaker<M> {
 
     /// Says that no more comes: the fault of a last line that has no LF.
     pub fn finish(&self) -> Option<LogFault>
-        ensures { (text bytes : List ℕ) → Stands M.makes self.now text bytes → result ≡ cut_in text }
+        ensures { (text bytes : List ℕ) → Stands M.makes self.now text bytes
+            → result ≡ cut_in text }
     {
         self.reader.finish()
     }

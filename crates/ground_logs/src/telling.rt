@@ -31,7 +31,8 @@ pub struct Telling<'a, E: Eprint> {
 fn read_piece<R: Read>(log: &mut R, piece: &mut [u8]) -> Result<usize, Fault>
     ensures read { IfOk result (λ count. Consumes (R.remaining log.old) (R.remaining log.new)
         (take count piece.new)) }
-    ensures end { IfOk result (λ count. count ≡ 0 → 0 < length piece.new → IsAtEnd (R.remaining log.new)) }
+    ensures end { IfOk result (λ count. count ≡ 0 → 0 < length piece.new
+        → IsAtEnd (R.remaining log.new)) }
 {
     match log.read(piece) {
         Ok(count) => Ok(count),
