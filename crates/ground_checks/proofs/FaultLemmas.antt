@@ -1,12 +1,12 @@
 -- Lemmas on the faults of a file that is looked at by itself.
-use Rattle.std.proofs.Common.{◌≡◌, ℕ, ◌≤◌, Bool, true, false, List, [], ◌∷◌, ◌++◌, length, map, Option, Some, None, is_none, not, ◌&&◌, if◌then◌else◌, refl, ap, sym, subst, ◌∙◌}
+use Rattle.std.proofs.Common.{◌≡◌, ℕ, ◌≤◌, List, [], ◌∷◌, ◌++◌, length, map, Option, Some, None, refl, ap, sym, subst, ◌∙◌}
 use Rattle.memory_window.specs.declared.regions.Region.{Region}
 use Rattle.table_files.specs.declared.fault.FileFault.{FileFault}
 use Rattle.table_files.specs.declared.fault.EntryFault.{EntryFault}
 use Rattle.table_files.specs.declared.kinds.TableKind.{TableKind}
 use Rattle.table_files.specs.declared.kinds.TableKind.TheVariants.{AppMon, EventMon, ExeCount, MsgActs, Ats, Rts, Dwell, Eeprom, Memory, Wdt, Adt}
 use Rattle.table_files.specs.Headers.{file_fault_of, kind_of_file, payload_of_file}
-use Rattle.table_forms.specs.Judging.{refusal_of, refusal_by, kind_refusal, entry_fault_of}
+use Rattle.table_forms.specs.Judging.{refusal_of, kind_refusal, entry_fault_of}
 use Rattle.active_tables.specs.Tables.{by_kind, by_file, entry_fault, entry_fault_in, refused_in, refused_entry}
 use Rattle.ground_faults.specs.Firsts.{first_if_any, entry_refused}
 use Rattle.ground_checks.specs.declared.finding.FoundFault.{FoundFault}

@@ -1,5 +1,5 @@
 -- Lemmas on what the program refuses of files, by what is found in each of them.
-use Rattle.std.proofs.Common.{◌≡◌, ◌↔◌, ℕ, ◌+◌, Bool, true, false, List, [], ◌∷◌, length, nat_lt, Option, Some, None, option_map, if◌then◌else◌, refl, ap, sym, ◌∙◌}
+use Rattle.std.proofs.Common.{◌≡◌, ℕ, ◌+◌, Bool, true, false, List, [], ◌∷◌, length, nat_lt, Option, Some, None, option_map, if◌then◌else◌, refl, ap}
 use Rattle.std.specs.List.{AllByRecursion}
 use Rattle.memory_window.specs.declared.regions.Region.{Region}
 use Rattle.table_files.specs.declared.fault.FileFault.{FileFault}
@@ -8,10 +8,9 @@ use Rattle.table_files.specs.Faults.{file_fault_number}
 use Rattle.table_files.specs.Headers.{file_fault_of}
 use Rattle.active_tables.specs.Tables.{said_or, first_said, fault_at, entry_fault_in, tables_fault, refused_in, region_fault}
 use Rattle.rehearsal.specs.Files.{Refusal, refusal_of, refused_or, refused_from, first_refusal}
-use Rattle.ground_checks.specs.declared.finding.FoundFault.{FoundFault}
 use Rattle.ground_checks.specs.declared.finding.FoundFault.TheVariants as faults
 use Rattle.ground_checks.specs.Faults.{read_refused, fault_by, fault_of}
-use Rattle.scenario.specs.Texts.{Text, Given, Head, Whole, reading}
+use Rattle.scenario.specs.Texts.{Given, Head, Whole, reading}
 use Rattle.rehearsal.specs.Outcome.{refused_read}
 use Rattle.ground_checks.specs.Maps.{regions_in, map_said}
 use Rattle.ground_checks.specs.Loading.{AreLoaded, AreLoadedWith, AreFaultless}

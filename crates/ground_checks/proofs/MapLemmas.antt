@@ -1,8 +1,8 @@
 -- Lemmas on the map of a scenario's header.
-use Rattle.std.proofs.Common.{◌≡◌, ℕ, ◌+◌, ◌<◌, Bool, true, false, List, [], ◌∷◌, ◌++◌, length, Some, refl, ap, sym, ◌∙◌, arith, append-nil, append_assoc, subst, inl, inr, length-append}
+use Rattle.std.proofs.Common.{◌≡◌, ℕ, ◌<◌, Bool, true, false, List, [], ◌∷◌, ◌++◌, length, Some, refl, ap, sym, ◌∙◌, arith, append-nil, inl, inr, length-append}
 use Rattle.memory_window.specs.declared.regions.Region.{Region}
 use Rattle.scenario.specs.declared.reader.Reader.{Reader}
-use Rattle.scenario.specs.Texts.{Text, Given, Head, Reading, Grows, with_items, reading}
+use Rattle.scenario.specs.Texts.{Given, Head, Reading, Grows, reading}
 use Rattle.scenario.specs.Standing.{Stands, is_finished}
 use Rattle.scenario.specs.TextLaws.{texts_grow, given_first}
 use Rattle.timed_plans.proofs.CheckLemmas.{Feeding}

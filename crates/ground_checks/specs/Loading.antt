@@ -1,5 +1,5 @@
 -- What the program refuses of files, and how that is joined to what is found in each of them by itself.
-use Rattle.std.specs.Prelude.{◌≡◌, ℕ, List, Option, Some, None}
+use Rattle.std.specs.Prelude.{◌≡◌, ℕ, List, Option, None}
 use Rattle.std.specs.List.{AllByRecursion}
 use Rattle.memory_window.specs.declared.regions.Region.{Region}
 use Rattle.active_tables.specs.Tables.{tables_fault, region_fault}

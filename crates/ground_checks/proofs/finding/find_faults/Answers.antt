@@ -1,4 +1,4 @@
-use Rattle.std.proofs.Common.{◌≡◌, ◌<◌, ◌≤◌, length, arith}
+use Rattle.std.proofs.Common.{◌<◌, ◌≤◌, length, arith}
 use Rattle.std.proofs.lemmas.Result.{IfOk-weaker}
 use Rattle.table_forms.proofs.JudgingLemmas.{shown_load}
 use Rattle.ground_checks.proofs.FoundLemmas.{long_first, table_first, load_first, error_first}
