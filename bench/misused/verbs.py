@@ -13,6 +13,7 @@ BOOK = TOP / "examples" / "first" / "first.book"
 TWO_HOURS = TOP / "examples" / "two_hours" / "two_hours.book"
 DONE, WORDS_REFUSED, FILE_REFUSED, SCENARIO_REFUSED, READ_FAILED, WRITE_FAILED, NO_MEMORY, UNWANTED = 0, 1, 2, 3, 4, 5, 6, 10
 LONG_LOG = 100_000_000
+LONGEST = 60
 MOST_MEMORY = 64_000_000
 
 
@@ -47,8 +48,11 @@ class Folder:
 
     def run(self, *words, **other):
         """The status of the program with these words, its output and what it told."""
-        given = {"stdin": subprocess.DEVNULL, "stdout": subprocess.PIPE, "stderr": subprocess.PIPE, **other}
-        done = subprocess.run([self.program, *map(str, words)], timeout=120, check=False, **given)
+        given = {"cwd": self.folder, "stdin": subprocess.DEVNULL, "stdout": subprocess.PIPE, "stderr": subprocess.PIPE, **other}
+        try:
+            done = subprocess.run([self.program, *map(str, words)], timeout=LONGEST, check=False, **given)
+        except subprocess.TimeoutExpired:
+            return None, b"", b"it doesn't end"
         return done.returncode, done.stdout, done.stderr
 
     def verbs(self):

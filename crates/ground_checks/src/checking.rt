@@ -51,7 +51,7 @@ fn place_of<R: Files + AllocGlobal>(rt: &R, path: &str) -> Result<String, AllocE
 }
 
 /// A file that was looked at.
-fn seen_file<'a, R: Files + AllocGlobal>(
+pub(crate) fn seen_file<'a, R: Files + AllocGlobal>(
     rt: &R,
     path: &'a str,
     file: &[u8],

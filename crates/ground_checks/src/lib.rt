@@ -9,9 +9,11 @@ mod finding;
 pub mod laws;
 mod map_files;
 mod map_texts;
+mod order_warnings;
 mod read_faults;
 mod read_words;
 
 pub use checking::{Check, check_files};
 pub use finding::{FoundFault, find_faults};
 pub use map_texts::{MapFault, scenario_map};
+pub use order_warnings::warn_of_order;

@@ -7,6 +7,9 @@ use std::io::{self, Read};
 /// How many bytes of a line are looked at.
 const MOST_BYTES: usize = 200;
 
+/// How many bytes of a text are read for a line: more than a scenario has that is read to its end, and fewer than a device without one gives.
+const MOST_READ: usize = 16_800_000;
+
 /// The words with which lines of a scenario begin.
 static WORDS: [&str; 10] = [
     "epoch", "region", "start", "send", "app", "upset", "hold", "activate", "tick", "end",
@@ -16,12 +19,14 @@ static WORDS: [&str; 10] = [
 pub fn find_line<R: Read>(text: &mut R, number: u32, line: &mut Vec<u8>) -> io::Result<()> {
     let mut piece = [0u8; 4_096];
     let mut at: u32 = 1;
+    let mut read: usize = 0;
     line.clear();
     for _ in 0..u64::MAX {
         let count = text.read(&mut piece)?;
-        if count == 0 || at > number {
+        if count == 0 || at > number || read > MOST_READ {
             return Ok(());
         }
+        read = read.saturating_add(count);
         for byte in &piece[..count] {
             if *byte == b'\n' {
                 at = at.saturating_add(1);

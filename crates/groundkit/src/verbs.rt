@@ -3,10 +3,10 @@
 use book_rehearsals::{names_book, run_book};
 use clap::ArgMatches;
 use ground_books::{Build, build_book};
-use ground_checks::{Check, check_files};
+use ground_checks::{Check, check_files, warn_of_order};
 use ground_differences::{LogPair, compare_logs};
 use ground_exports::{Export, Exported, export_log};
-use ground_files::Status;
+use ground_files::{Status, tell_no_memory};
 use ground_making::{Making, Wanted, make_one};
 use ground_runs::{Run, run_scenario};
 use std::rt::Files;
@@ -95,6 +95,9 @@ where
     };
     if names_book(rt, &run) {
         return run_book(rt, &run);
+    }
+    if warn_of_order(rt, run.files).is_err() {
+        return tell_no_memory(rt);
     }
     run_scenario(rt, &run)
 }

@@ -1,0 +1,43 @@
+//! What is odd in the order of files that are rehearsed.
+
+use crate::checking::seen_file;
+use crate::file_order::{SeenFile, warn_of_place};
+use ground_files::is_stream;
+use std::alloc::AllocError;
+use std::rt::Files;
+use std::{fs, io};
+
+/// The bytes of a file that can be read again. Nothing is read of a stream or a device, of which the rehearsal alone would have the bytes.
+fn read_again<R: Files + AllocGlobal>(rt: &R, path: &str) -> io::Result<Option<Vec<u8>>> {
+    if is_stream(path) || !fs::metadata(rt, path)?.is_file() {
+        return Ok(None);
+    }
+    Ok(Some(fs::read(rt, path)?))
+}
+
+/// Warns of a file at its place behind others. What can't be read is told by the rehearsal.
+fn warn_of_file<'a, R: Files + Eprint + AllocGlobal>(
+    rt: &R,
+    path: &'a str,
+    seen: &mut Vec<SeenFile<'a>>,
+) -> Result<(), AllocError> {
+    let Ok(Some(bytes)) = read_again(rt, path) else {
+        return Ok(());
+    };
+    let file = seen_file(rt, path, bytes.as_slice(), true)?;
+    warn_of_place(rt, seen.as_slice(), &file);
+    seen.push(file)?;
+    Ok(())
+}
+
+/// Warns of files whose table an earlier one has, so that they stand by or are never used, and of files that are given again.
+pub fn warn_of_order<R: Files + Eprint + AllocGlobal>(
+    rt: &R,
+    files: &[&str],
+) -> Result<(), AllocError> {
+    let mut seen = Vec::new(rt.alloc());
+    'files: for file in files {
+        warn_of_file(rt, file, &mut seen)?;
+    }
+    Ok(())
+}
