@@ -10,9 +10,10 @@ from dataclasses import dataclass
 
 TOP = pathlib.Path(__file__).resolve().parent.parent.parent
 BOOK = TOP / "examples" / "first" / "first.book"
-DONE, FILE_REFUSED, SCENARIO_REFUSED, READ_FAILED, WRITE_FAILED, NO_MEMORY = 0, 2, 3, 4, 5, 6
+OTHER_BOOK = TOP / "examples" / "pass" / "pass.book"
+DONE, FILE_REFUSED, SCENARIO_REFUSED, READ_FAILED, WRITE_FAILED, NO_MEMORY, UNWANTED = 0, 2, 3, 4, 5, 6, 10
 LONG_LOG = 100_000_000
-LONGEST = 60
+LONGEST = 20
 MOST_MEMORY = 64_000_000
 
 
@@ -24,6 +25,9 @@ class Verb:
     words: tuple
     input: str
     has_output: bool = True
+
+    def is_of_log(self):
+        return self.name in ("words", "csv", "pcap", "diff")
 
     def call(self, given=None, output=None):
         """The words with another input, and with an output."""
@@ -39,6 +43,7 @@ class Folder:
         self.run("build", "-o", folder, str(BOOK))
         (self.folder / "dwell.text").write_bytes(self.run("show", self.path("dwell1.table"))[1])
         self.run("run", "--log", self.path("log"), str(BOOK))
+        self.run("run", "--log", self.path("other"), str(OTHER_BOOK))
         (self.folder / "noise").write_bytes(random.Random(1).randbytes(4000))
         (self.folder / "kept").write_text("as before\n")
 
@@ -66,7 +71,7 @@ class Folder:
             Verb("words", (), log),
             Verb("csv", (), log),
             Verb("pcap", ("--epoch", "1000"), log),
-            Verb("diff", (log,), log),
+            Verb("diff", (self.path("other"),), log),
         ]
 
 
@@ -87,7 +92,7 @@ def wrong_inputs(folder, verb):
     yield "its input is a folder", told(folder.run(*verb.call(str(folder.folder))), {READ_FAILED}, str(folder.folder))
     yield "its input is missing", told(folder.run(*verb.call(missing)), {READ_FAILED}, missing)
     yield "its input is noise", told(folder.run(*verb.call(noise)), {FILE_REFUSED, SCENARIO_REFUSED}, noise)
-    yield "its input is empty", told(folder.run(*verb.call("/dev/null")), {DONE, FILE_REFUSED, SCENARIO_REFUSED})
+    yield "its input is empty", told(folder.run(*verb.call("/dev/null")), {DONE, FILE_REFUSED, SCENARIO_REFUSED, UNWANTED})
 
 
 def is_kept(folder, answer, statuses, *words):
@@ -158,10 +163,11 @@ def limited(size):
 
 
 def endless(folder):
-    """Inputs without an end, in an address space of a gigabyte."""
+    """Inputs without an end, in an address space of a gigabyte. What is made of a log as it comes goes on until it is stopped."""
     for verb in folder.verbs():
+        statuses = {None} if verb.is_of_log() else {FILE_REFUSED, SCENARIO_REFUSED, READ_FAILED, NO_MEMORY}
         answer = folder.run(*verb.call("/dev/zero"), stdout=subprocess.DEVNULL, preexec_fn=limited(1 << 30))
-        yield f"{verb.name}: its input is a device without an end", told(answer, {FILE_REFUSED, SCENARIO_REFUSED, READ_FAILED, NO_MEMORY})
+        yield f"{verb.name}: its input is a device without an end", None if answer[0] in statuses else f"status {answer[0]}, not {statuses}"
 
 
 def parts_left(folder):
