@@ -8,3 +8,4 @@ pub mod md;
 pub mod mm;
 pub mod sc;
 pub mod scenario_words;
+pub mod spellings;
