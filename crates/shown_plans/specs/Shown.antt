@@ -7,6 +7,7 @@ use Rattle.std.specs.declared.alloc.AllocError.{AllocError}
 use Rattle.packet_forms.specs.Faults.{fault_of}
 use Rattle.packet_forms.specs.declared.packet.PacketFault.{PacketFault}
 use Rattle.row_forms.specs.Words.{hex_said}
+use Rattle.scenario.specs.declared.item.Item.TheVariants as answers
 use Rattle.telecommands.specs.declared.command.Command.{Command}
 use Rattle.telecommands.specs.Commands.{command_shown}
 use Rattle.table_texts.specs.Lines.{Numbered, kept_of}
@@ -108,14 +109,15 @@ plain_of text = plain_lines (kept_of 1 text)
 
 -- ---- what the code gives
 
--- the plan is shown, and its scenario has the lines that were shown; or the text is no scenario, or the plan isn't taken, or says other lines
+-- the plan is shown, and its scenario has the lines that were shown; or the text is no scenario; or it is one whose plan isn't taken, or says
+-- other lines
 abbrev pub GivesShown : List Command → List ℕ → Result (Vec ℕ Global) ShowError → Type 0
 GivesShown cs text (Ok shown) = (shown.items ≡ plan_shown cs text) × (scenario_said cs (plan_shown cs text) ≡ Ok (plain_of text))
 GivesShown cs text (Err (errors.Memory e)) = Unit {0}
 GivesShown cs text (Err (errors.Scenario fault)) = GivesEnd (answered text) (Err fault)
-GivesShown cs text (Err errors.Long) = 4294967295 ≤ length (plan_shown cs text)
-GivesShown cs text (Err (errors.Plan fault)) = scenario_said cs (plan_shown cs text) ≡ Err fault
-GivesShown cs text (Err errors.Differs) = scenario_said cs (plan_shown cs text) ≢ Ok (plain_of text)
+GivesShown cs text (Err errors.Long) = (answered text ≡ answers.End) × (4294967295 ≤ length (plan_shown cs text))
+GivesShown cs text (Err (errors.Plan fault)) = (answered text ≡ answers.End) × (scenario_said cs (plan_shown cs text) ≡ Err fault)
+GivesShown cs text (Err errors.Differs) = (answered text ≡ answers.End) × (scenario_said cs (plan_shown cs text) ≢ Ok (plain_of text))
 
 -- a line was shown, and so many frames have ended: whatever stands behind it, the text is the plan's with it
 abbrev pub GivesLine : List Command → Ended → List (List ℕ) → List ℕ → List ℕ → Result Ended AllocError → Type 0

@@ -1,6 +1,8 @@
 //! A scenario as a plan.
 ghost use Rattle.std.specs.Prelude.{◌≡◌, ◌<◌, ◌+◌, ◌^◌, ◌++◌, length, true, OnOk, IfOk};
 ghost use Rattle.telecommands.specs.Commands.{are_good};
+ghost use Rattle.scenario.specs.declared.item.Item.TheVariants as answers;
+ghost use Rattle.timed_plans.specs.Checks.{answered};
 ghost use Rattle.shown_plans.specs.Shown.{plan_shown, GivesShown};
 ghost use Rattle.shown_plans.specs.KeptFrames.{GivesPlanOf};
 
@@ -54,6 +56,7 @@ fn shown_text(alloc: Global, commands: &[Command], text: &[u8]) -> Result<Vec<u8
 fn show_good(alloc: Global, commands: &[Command], text: &[u8]) -> Result<Vec<u8>, ShowError>
     requires commands { are_good commands.now ≡ true }
     requires short { 1 + length text.now < 2 ^ 32 }
+    requires good { answered text.now ≡ answers.End }
     ensures { GivesShown commands.now text.now result }
 {
     let shown = match shown_text(alloc, commands, text) {
