@@ -5,8 +5,11 @@ ghost use Rattle.ground_runs.specs.Endings.{status_at, is_kept};
 
 use crate::asked_run::Run;
 use crate::line_causes::{find_line, line_cause};
+use crate::second_looks::read_again;
+use ground_faults::{PAYLOAD, tell_entry};
 use ground_files::{Status, is_stream, output_name, tell_no_memory};
 use ground_tools::Trouble;
+use packet_forms::behind;
 use rehearsal::{Report, Status as End};
 use std::fs;
 use std::io::{self, Read};
@@ -30,22 +33,8 @@ fn line_of<R: Files + AllocGlobal>(rt: &R, path: &str, number: u32) -> Vec<u8> {
     line
 }
 
-/// What another look at a file finds, where it can be read again: why it is refused, unless that is an entry's.
-fn fault_again<R: Files + AllocGlobal>(rt: &R, path: &str) -> Option<TableFault> {
-    if is_stream(path) {
-        return None;
-    }
-    let Ok(bytes) = fs::read(rt, path) else {
-        return None;
-    };
-    match find_refusal(bytes.as_slice()) {
-        Some(TableFault::Entry(_, _)) => None,
-        other => other,
-    }
-}
-
 /// Tells of an entry that is refused, by its number and the program's number for the reason.
-fn tell_entry<R: Eprint>(rt: &R, path: &str, entry: u32, reason: u8) -> io::Result<()> {
+fn tell_number<R: Eprint>(rt: &R, path: &str, entry: u32, reason: u8) -> io::Result<()> {
     if reason == NOT_GIVEN {
         return eprintln!(rt;
             "{path}: entry {entry}: the memory of the scenario doesn't give what it reads (reason {reason})"
@@ -54,7 +43,24 @@ fn tell_entry<R: Eprint>(rt: &R, path: &str, entry: u32, reason: u8) -> io::Resu
     eprintln!(rt; "{path}: entry {entry}: reason {reason} (docs/FILES.md)")
 }
 
-/// Tells why a file is refused: the sentence of its fault, where it can be read again and no entry is refused, and else the numbers.
+/// Tells why a file is refused, by what another look at it finds: its entry and why, or what is wrong with its headers.
+fn tell_found<R: Eprint + AllocGlobal>(
+    rt: &R,
+    path: &str,
+    file: &[u8],
+    report: &Report,
+) -> io::Result<()> {
+    let reason = report.reason;
+    match find_refusal(file) {
+        Some(TableFault::Entry(kind, fault)) => {
+            Ok(tell_entry(rt, path, kind, behind(file, PAYLOAD), fault)?)
+        }
+        Some(fault) => eprintln!(rt; "{path}: {fault} (reason {reason})"),
+        None => tell_number(rt, path, report.line, reason),
+    }
+}
+
+/// Tells why a file is refused: in words where it can be read again, and else by the numbers that the rehearsal gave.
 fn tell_file<R: Files + Eprint + AllocGlobal>(
     rt: &R,
     path: &str,
@@ -65,11 +71,11 @@ fn tell_file<R: Files + Eprint + AllocGlobal>(
         return eprintln!(rt; "{path}: it has over 65700 bytes (reason {reason})");
     }
     if reason == NOT_GIVEN {
-        return tell_entry(rt, path, report.line, reason);
+        return tell_number(rt, path, report.line, reason);
     }
-    match fault_again(rt, path) {
-        Some(fault) => eprintln!(rt; "{path}: {fault} (reason {reason})"),
-        None => tell_entry(rt, path, report.line, reason),
+    match read_again(rt, path) {
+        Ok(Some(file)) => tell_found(rt, path, file.as_slice(), report),
+        _ => tell_number(rt, path, report.line, reason),
     }
 }
 

@@ -6,9 +6,11 @@ mod endings;
 mod line_causes;
 mod rehearsing;
 mod running;
+mod second_looks;
 
 pub use asked_run::Run;
 pub use endings::{CauseTeller, NOT_GIVEN};
 pub use line_causes::{find_line, line_cause};
 pub use rehearsing::rehearse_on;
 pub use running::{Rehearsal, run_rehearsal, run_scenario};
+pub use second_looks::read_again;
