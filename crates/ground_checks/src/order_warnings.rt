@@ -2,18 +2,9 @@
 
 use crate::checking::seen_file;
 use crate::file_order::{SeenFile, warn_of_place};
-use ground_files::is_stream;
+use ground_runs::read_again;
 use std::alloc::AllocError;
 use std::rt::Files;
-use std::{fs, io};
-
-/// The bytes of a file that can be read again. Nothing is read of a stream or a device, of which the rehearsal alone would have the bytes.
-fn read_again<R: Files + AllocGlobal>(rt: &R, path: &str) -> io::Result<Option<Vec<u8>>> {
-    if is_stream(path) || !fs::metadata(rt, path)?.is_file() {
-        return Ok(None);
-    }
-    Ok(Some(fs::read(rt, path)?))
-}
 
 /// Warns of a file at its place behind others. What can't be read is told by the rehearsal.
 fn warn_of_file<'a, R: Files + Eprint + AllocGlobal>(
