@@ -3,13 +3,12 @@
 use crate::book_causes::BookTeller;
 use crate::epochs::scenario_epoch;
 use crate::shelved_books::{ShelvedBook, shelve_book};
-use ground_files::{Status, tell_no_memory, tell_unread};
+use ground_files::{Status, get, tell_no_memory, tell_unread};
 use ground_making::{MOST_BYTES, Refusal, tell_refusal};
 use ground_runs::{Rehearsal, Run, run_rehearsal};
 use load_books::book_forms;
 use rehearsal::Words;
 use std::alloc::Global;
-use std::fs;
 use std::rt::Files;
 use std::thread::Threads;
 
@@ -70,14 +69,14 @@ where
 /// lines of the log are told in times from the epoch of the plan, where the words have none.
 pub fn run_book<R>(rt: &R, run: &Run<'_>) -> Status
 where
-    R: Threads + Sync + Files + Print + Eprint + AllocGlobal,
+    R: Threads + Sync + Files + Input + Print + Eprint + AllocGlobal,
 {
     let name = run.scenario;
     if !run.files.is_empty() {
         let _told = eprintln!(rt; "{name}: a book has its files in it: no FILE stands behind it");
         return Status::WordsRefused;
     }
-    let text = match fs::read(rt, name) {
+    let text = match get(rt, name) {
         Ok(text) => text,
         Err(error) => return tell_unread(rt, name, &error),
     };

@@ -80,7 +80,7 @@ pub fn compare<R: Files + Input + Print + Eprint + AllocGlobal>(
 /// The verb that rehearses a scenario or a book.
 pub fn rehearse<R>(rt: &R, asked: &ArgMatches<'_>) -> Status
 where
-    R: Threads + Sync + Files + Print + Eprint + AllocGlobal,
+    R: Threads + Sync + Files + Input + Print + Eprint + AllocGlobal,
 {
     let run = Run {
         scenario: asked.get_str("scenario").unwrap_or("-"),
