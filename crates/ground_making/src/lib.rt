@@ -7,8 +7,10 @@ mod making;
 mod named_files;
 mod refusing;
 mod scenarios;
+mod shown_files;
 
 pub use books::is_book;
 pub use made_files::{Wanted, make_one};
 pub use making::{MOST_BYTES, Making, Refusal, load_of, look_at};
 pub use refusing::tell_refusal;
+pub use shown_files::{Shown, show_files};

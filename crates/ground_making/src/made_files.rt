@@ -26,7 +26,7 @@ pub struct Wanted<'a> {
 }
 
 /// Writes what was made.
-fn write_made<R: Files + Print + Eprint + AllocGlobal>(
+pub(crate) fn write_made<R: Files + Print + Eprint + AllocGlobal>(
     rt: &R,
     path: Option<&str>,
     made: &[u8],
@@ -85,18 +85,30 @@ fn tell_shown<R: Eprint + AllocGlobal>(rt: &R, wanted: &Wanted<'_>, file: &[u8])
     }
 }
 
+/// What is made of bytes, or the status, once it was told why nothing is.
+pub(crate) fn made_of<R: Eprint + AllocGlobal>(
+    rt: &R,
+    wanted: &Wanted<'_>,
+    bytes: &[u8],
+) -> Result<Vec<u8>, Status> {
+    match wanted.making.make(rt.alloc(), wanted.epoch, bytes) {
+        Ok(made) => {
+            tell_shown(rt, wanted, bytes);
+            Ok(made)
+        }
+        Err(refusal) => Err(tell_unmade(rt, wanted, bytes, &refusal)),
+    }
+}
+
 /// Makes bytes into what is wanted, and writes that.
 fn make_bytes<R: Files + Print + Eprint + AllocGlobal>(
     rt: &R,
     wanted: &Wanted<'_>,
     bytes: &[u8],
 ) -> Status {
-    match wanted.making.make(rt.alloc(), wanted.epoch, bytes) {
-        Ok(made) => {
-            tell_shown(rt, wanted, bytes);
-            write_made(rt, wanted.path, made.as_slice())
-        }
-        Err(refusal) => tell_unmade(rt, wanted, bytes, &refusal),
+    match made_of(rt, wanted, bytes) {
+        Ok(made) => write_made(rt, wanted.path, made.as_slice()),
+        Err(status) => status,
     }
 }
 

@@ -116,16 +116,15 @@ fn table<'a>(alloc: Global) -> Result<Command<'a>, AllocError> {
 fn show<'a>(alloc: Global) -> Result<Command<'a>, AllocError> {
     Command::new(alloc, "show")
         .about(
-            "Shows the file of a table, or one to be loaded, as text, from which `table` makes that file, and a scenario as a plan, for `scenario`",
+            "Shows files of tables, and files to be loaded, as text, from which `table` makes them, and scenarios as plans, for `scenario`",
         )
         .arg(epoch(alloc, "What times are shown from, such as +0:01:00"))?
         .arg(output(alloc))?
-        .arg(input(
-            alloc,
-            "input",
-            "FILE",
-            "The file of a table or of a load, or a scenario; - is standard input",
-        ))
+        .arg(
+            files(alloc).required(true).help(
+                "Files of tables or of loads, or scenarios; - is standard input",
+            ),
+        )
 }
 
 fn scenario<'a>(alloc: Global) -> Result<Command<'a>, AllocError> {

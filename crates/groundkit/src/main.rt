@@ -17,7 +17,7 @@ use std::process::ExitCode;
 use std::rt::Files;
 use std::thread::Threads;
 use std::{env, io};
-use verbs::{build, check, compare, export, make, rehearse};
+use verbs::{build, check, compare, export, make, rehearse, show};
 
 /// The status where the words are refused, or where they ask for help or the version.
 fn status_of_words(error: &Error) -> Status {
@@ -39,7 +39,7 @@ fn carry_out<R: Threads + Sync + Files + Input + Print + Eprint + AllocGlobal>(
         "build" => build(rt, asked),
         "table" => make(rt, Making::Table, asked),
         "scenario" => make(rt, Making::Scenario, asked),
-        "show" => make(rt, Making::Text, asked),
+        "show" => show(rt, asked),
         "check" => check(rt, asked),
         "csv" => export(rt, Export::Rows, asked),
         "pcap" => export(rt, Export::Capture, asked),

@@ -7,7 +7,7 @@ use ground_checks::{Check, check_files, warn_of_order};
 use ground_differences::{LogPair, compare_logs};
 use ground_exports::{Export, Exported, export_log};
 use ground_files::{Status, tell_no_memory};
-use ground_making::{Making, Wanted, make_one};
+use ground_making::{Making, Shown, Wanted, make_one, show_files};
 use ground_runs::{Run, run_scenario};
 use std::rt::Files;
 use std::thread::Threads;
@@ -25,6 +25,19 @@ pub fn make<R: Files + Input + Print + Eprint + AllocGlobal>(
         path: asked.get_str("output"),
     };
     make_one(rt, &wanted)
+}
+
+/// The verb that shows files as text.
+pub fn show<R: Files + Input + Print + Eprint + AllocGlobal>(
+    rt: &R,
+    asked: &ArgMatches<'_>,
+) -> Status {
+    let shown = Shown {
+        epoch: asked.get_one::<u32>("epoch"),
+        files: asked.get_strs("files").unwrap_or(&[]),
+        path: asked.get_str("output"),
+    };
+    show_files(rt, &shown)
 }
 
 /// The verb that writes the files of a book.
