@@ -37,6 +37,17 @@ pub struct LogPair<'a> {
     pub path: Option<&'a str>,
 }
 
+impl<'a> LogPair<'a> {
+    /// The name for people of a place where a comparison failed.
+    fn name_at(&self, place: Place) -> &'a str {
+        match place {
+            Place::One => input_name(self.one),
+            Place::Other => input_name(self.other),
+            Place::Told => "the differences",
+        }
+    }
+}
+
 /// What a comparison of two logs gave.
 #[derive(Clone, Copy, Debug, PartialEq, Eq)]
 struct Compared {
@@ -45,19 +56,54 @@ struct Compared {
     is_whole: bool,
 }
 
+/// Where a comparison failed.
+#[derive(Clone, Copy, Debug, PartialEq, Eq)]
+enum Place {
+    One,
+    Other,
+    /// In what is told of both.
+    Told,
+}
+
+/// What ended a comparison, and where.
+#[derive(Drop)]
+struct PlacedFault {
+    place: Place,
+    fault: Fault,
+}
+
+impl PlacedFault {
+    fn of_one(fault: Fault) -> PlacedFault {
+        let place = Place::One;
+        PlacedFault { place, fault }
+    }
+
+    fn of_other(fault: Fault) -> PlacedFault {
+        let place = Place::Other;
+        PlacedFault { place, fault }
+    }
+
+    fn of_told(fault: Fault) -> PlacedFault {
+        let place = Place::Told;
+        PlacedFault { place, fault }
+    }
+}
+
 /// Tells the frames of two logs, side by side, to the end of both.
 fn tell_frames<L: Read + Drop, E: Eprint, W: Write>(
     ones: &mut FrameSource<'_, L, E>,
     others: &mut FrameSource<'_, L, E>,
     teller: &mut Teller<'_, W>,
-) -> Result<(), Fault> {
+) -> Result<(), PlacedFault> {
     for _ in 0..u64::MAX {
         let Some(frame) = next_frame(ones.next(), others.next()) else {
             break;
         };
-        ones.read_frame(frame)?;
-        others.read_frame(frame)?;
-        teller.tell_both(frame, ones.lines(), others.lines())?;
+        ones.read_frame(frame).map_err(PlacedFault::of_one)?;
+        others.read_frame(frame).map_err(PlacedFault::of_other)?;
+        teller
+            .tell_both(frame, ones.lines(), others.lines())
+            .map_err(PlacedFault::of_told)?;
     }
     Ok(())
 }
@@ -76,15 +122,15 @@ fn compare<L: Read + Drop, E: Eprint, W: Write>(
     one: Given<'_, L, E>,
     other: Given<'_, L, E>,
     out: &mut W,
-) -> Result<Compared, Fault> {
+) -> Result<Compared, PlacedFault> {
     let mut teller = Teller::new(one.telling.alloc, epoch, out);
     let Given { telling, log } = one;
-    let mut ones = FrameSource::begin(&telling, log)?;
+    let mut ones = FrameSource::begin(&telling, log).map_err(PlacedFault::of_one)?;
     let Given {
         telling: telling_other,
         log: log_other,
     } = other;
-    let mut others = FrameSource::begin(&telling_other, log_other)?;
+    let mut others = FrameSource::begin(&telling_other, log_other).map_err(PlacedFault::of_other)?;
     tell_frames(&mut ones, &mut others, &mut teller)?;
     Ok(Compared {
         found: teller.found(),
@@ -196,6 +242,6 @@ fn write_differences<R: Files + Print + Eprint + AllocGlobal, L: Read + Drop>(
             let status = tell_found(rt, pair, &compared);
             status_made(rt, output, settled, status)
         }
-        Err(fault) => tell_fault(rt, "one of the logs", output, &fault),
+        Err(PlacedFault { place, fault }) => { tell_fault(rt, pair.name_at(place), output, &fault) }
     }
 }
