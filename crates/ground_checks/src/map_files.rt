@@ -4,6 +4,7 @@ ghost use Rattle.std.specs.Prelude.{◌+◌, ◌<◌, ◌^◌, length};
 
 use crate::book_checks::{is_book, tell_unread_book};
 use crate::map_texts::{MapFault, scenario_map};
+use ground_faults::key_in_plan;
 use ground_files::{Status, get, input_name, tell_no_memory, tell_unread};
 use ground_runs::line_cause;
 use load_books::{book_forms, read_book};
@@ -96,7 +97,10 @@ fn tell_line<R: Eprint>(rt: &R, name: &str, text: &[u8], line: u32, reason: u8) 
 fn tell_text<R: Eprint>(rt: &R, name: &str, text: &[u8], fault: TextFault) -> Status {
     match fault {
         TextFault::Plan(fault) => {
-            let _told = eprintln!(rt; "{name}: {fault}");
+            let _told = match key_in_plan(text, &fault) {
+                Some(key) => eprintln!(rt; "{name}: {fault}: `{key}=`"),
+                None => eprintln!(rt; "{name}: {fault}"),
+            };
             Status::ScenarioRefused
         }
         TextFault::Line { line, reason } => tell_line(rt, name, text, line, reason),

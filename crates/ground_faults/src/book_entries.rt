@@ -3,6 +3,7 @@
 use crate::book_parts::{PartText, part_texts};
 use crate::entry_lines::{SaidLine, said_entry};
 use crate::telling::tell_entry;
+use crate::wanted_keys::key_in_book;
 use ground_files::{Status, tell_no_memory};
 use load_books::{BookFault, book_forms};
 use std::alloc::{AllocError, Global};
@@ -225,7 +226,11 @@ pub fn tell_book_fault<R: Eprint + AllocGlobal>(
         let told = tell_first(rt, name, text, line, RefusedEntry { kind, fault });
         return status_told(rt, told);
     }
-    let _told = eprintln!(rt; "{name}: {fault}");
+    // There is no other place to tell it.
+    let _told = match key_in_book(text, fault) {
+        Some(key) => eprintln!(rt; "{name}: {fault}: `{key}=`"),
+        None => eprintln!(rt; "{name}: {fault}"),
+    };
     Status::FileRefused
 }
 

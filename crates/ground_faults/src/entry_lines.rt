@@ -100,7 +100,7 @@ fn line_of<'a>(lines: &[SaidLine<'a>], kind: TableKind, entry: u32) -> Option<Sa
 }
 
 /// The fields that stand in the line of an entry.
-fn fields_of(kind: TableKind, entry: u32) -> &'static [Field] {
+pub(crate) fn fields_of(kind: TableKind, entry: u32) -> &'static [Field] {
     let layouts = table_layouts();
     match layouts.form(kind) {
         PayloadForm::Entries(layout) => layout.fields,

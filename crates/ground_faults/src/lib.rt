@@ -6,7 +6,9 @@ mod book_parts;
 mod entry_faults;
 mod entry_lines;
 mod telling;
+mod wanted_keys;
 
 pub use book_entries::{tell_book, tell_book_fault};
 pub use entry_faults::{PAYLOAD, blank_entry, clear_faults};
 pub use telling::{tell_entries, tell_entry, tell_said};
+pub use wanted_keys::{key_in_book, key_in_load, key_in_plan, key_in_table};

@@ -1,7 +1,7 @@
 //! What is told where nothing is made.
 
 use crate::making::Refusal;
-use ground_faults::tell_book_fault;
+use ground_faults::{key_in_book, key_in_load, key_in_plan, key_in_table, tell_book_fault};
 use ground_files::Status;
 use std::alloc::AllocError;
 
@@ -27,6 +27,21 @@ fn tell_line_ends<R: Eprint>(rt: &R, name: &str, text: &[u8], refusal: &Refusal)
     }
 }
 
+/// The key that is wanted where a text has another one.
+fn key_of(text: &[u8], refusal: &Refusal) -> Option<&'static str> {
+    match refusal {
+        Refusal::Text(fault) => key_in_table(text, fault),
+        Refusal::LoadText(fault) => key_in_load(text, fault),
+        Refusal::Plan(fault) => key_in_plan(text, fault),
+        Refusal::Book(fault) => key_in_book(text, fault),
+        Refusal::Scenario(_)
+        | Refusal::Entry(_, _)
+        | Refusal::File(_)
+        | Refusal::Long
+        | Refusal::Memory => None,
+    }
+}
+
 /// Tells why a file or a text is refused, and answers the status. Of an entry in a book's table the line of the book is told.
 pub fn tell_refusal<R: Eprint + AllocGlobal>(
     rt: &R,
@@ -38,7 +53,10 @@ pub fn tell_refusal<R: Eprint + AllocGlobal>(
     if let Refusal::Book(fault) = refusal {
         return tell_book_fault(rt, name, bytes, fault);
     }
-    let _told = eprintln!(rt; "{name}: {refusal}");
+    let _told = match key_of(bytes, refusal) {
+        Some(key) => eprintln!(rt; "{name}: {refusal}: `{key}=`"),
+        None => eprintln!(rt; "{name}: {refusal}"),
+    };
     if *refusal == Refusal::Memory {
         Status::NoMemory
     } else {
