@@ -8,7 +8,7 @@ use ground_files::{
     Output, PartFile, Status, open_output, output_name, settle, tell_no_memory, tell_replaced,
     tell_unwritten,
 };
-use ground_summaries::{summary_of, unwanted_of};
+use ground_summaries::{refused_allow, summary_of, unwanted_of};
 use ground_tools::{ToldLog, Trouble};
 use rehearsal::{Report, Status as End, Words};
 use std::io::{self, Printer, Write};
@@ -256,19 +256,32 @@ fn open_log<'a, R: Files + Print + AllocGlobal>(
     }
 }
 
-/// Says why words of a rehearsal are refused; whether they are.
-fn refuse<R: Files + Eprint + AllocGlobal>(rt: &R, run: &Run<'_>) -> bool {
+/// Says which words of `--allow` name nothing, if any do, and answers the status.
+fn refuse_allow<R: Eprint + AllocGlobal>(rt: &R, allowed: &[&str]) -> Option<Status> {
+    match refused_allow(rt.alloc(), allowed) {
+        Ok(Some(told)) => {
+            let text = std::str::from_utf8(told.as_slice()).unwrap_or("");
+            let _told = eprint!(rt; "{text}");
+            Some(Status::WordsRefused)
+        }
+        Ok(None) => None,
+        Err(_) => Some(tell_no_memory(rt)),
+    }
+}
+
+/// Says why words of a rehearsal are refused, if they are, and answers the status.
+fn refuse<R: Files + Eprint + AllocGlobal>(rt: &R, run: &Run<'_>) -> Option<Status> {
     if let Some(cause) = run.refusal() {
         let _told = eprintln!(rt; "{cause}");
-        return true;
+        return Some(Status::WordsRefused);
     }
     for output in [run.log, run.path] {
         if run.would_replace(rt, output) {
             tell_replaced(rt, output);
-            return true;
+            return Some(Status::WordsRefused);
         }
     }
-    false
+    refuse_allow(rt, run.allowed)
 }
 
 /// Rehearses this, as the words ask for it: the words of the log go to `path`, or standard output, and the log is kept in the file `log`,
@@ -279,8 +292,8 @@ where
     S: Shelf + Drop,
     T: CauseTeller + Drop,
 {
-    if refuse(rt, run) {
-        return Status::WordsRefused;
+    if let Some(status) = refuse(rt, run) {
+        return status;
     }
     match open_output(rt, run.path) {
         Ok((part, words)) => carry_out(rt, run, what, part, words),
