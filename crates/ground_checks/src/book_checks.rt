@@ -2,7 +2,9 @@
 
 ghost use Rattle.std.specs.Prelude.{◌≡◌, ◌+◌, ◌<◌, ◌^◌, length, true};
 
+use crate::checking::{earlier, seen_at};
 use crate::file_checks::tell_file;
+use crate::file_order::{SeenFile, warn_of_place};
 use crate::map_files::MOST_TEXT;
 use crate::map_texts::scenario_map;
 use ground_faults::tell_book;
@@ -32,16 +34,26 @@ pub(crate) fn tell_unread_book<R: Eprint + AllocGlobal>(
     }
 }
 
-/// Looks at a file of a book, with the map of its own plan.
-fn tell_part_file<R: Eprint + AllocGlobal>(
+/// Looks at a file of a book, with the map of its own plan, and at its place behind others.
+fn tell_part_file<'a, R: Eprint + AllocGlobal>(
     rt: &R,
     map: Option<&Map>,
     name: &str,
-    file: &BookFile<'_>,
+    file: &'a BookFile<'_>,
+    seen: &mut Vec<SeenFile<'a>>,
 ) -> Result<Status, AllocError> {
     let part = from_utf8(file.name).unwrap_or("");
-    let place = format!(in rt.alloc(); "{name}: {part}")?;
-    Ok(tell_file(rt, map, place.as_str(), file.bytes.as_slice()))
+    let title = format!(in rt.alloc(); "{name}: {part}")?;
+    let bytes = file.bytes.as_slice();
+    let status = tell_file(rt, map, title.as_str(), bytes);
+    let is_taken = status == Status::Done;
+    let place = String::from_str(rt.alloc(), part)?;
+    let one = seen_at(rt.alloc(), part, place, bytes, is_taken)?;
+    if is_taken {
+        warn_of_place(rt, title.as_str(), seen.as_slice(), &one);
+    }
+    seen.push(one)?;
+    Ok(status)
 }
 
 /// Looks at the files of a book, with the map of its own plan. The first status that isn't `Done` stands.
@@ -51,12 +63,11 @@ fn tell_files<R: Eprint + AllocGlobal>(
     name: &str,
     book: &Book<'_>,
 ) -> Result<Status, AllocError> {
+    let mut seen = Vec::new(rt.alloc());
     let mut status = Status::Done;
-    for file in book.files.as_slice() {
-        let one = tell_part_file(rt, map, name, file)?;
-        if status == Status::Done {
-            status = one;
-        }
+    'files: for file in book.files.as_slice() {
+        let one = tell_part_file(rt, map, name, file, &mut seen)?;
+        status = earlier(status, one);
     }
     Ok(status)
 }

@@ -10,7 +10,7 @@ use ground_files::{
 };
 use memory_window::Map;
 use packet_forms::{behind, front};
-use std::alloc::AllocError;
+use std::alloc::{AllocError, Global};
 use std::fs;
 use std::rt::Files;
 use std::str::from_utf8;
@@ -50,6 +50,25 @@ fn place_of<R: Files + AllocGlobal>(rt: &R, path: &str) -> Result<String, AllocE
     String::from_str(rt.alloc(), path)
 }
 
+/// A file that was looked at, by its path for people and the path behind symbolic links.
+pub(crate) fn seen_at<'a>(
+    alloc: Global,
+    path: &'a str,
+    place: String,
+    file: &[u8],
+    is_taken: bool,
+) -> Result<SeenFile<'a>, AllocError> {
+    let holding = holding_of(file);
+    let name = String::from_str(alloc, table_name(file))?;
+    Ok(SeenFile {
+        path,
+        place,
+        holding,
+        name,
+        is_taken,
+    })
+}
+
 /// A file that was looked at.
 pub(crate) fn seen_file<'a, R: Files + AllocGlobal>(
     rt: &R,
@@ -57,14 +76,8 @@ pub(crate) fn seen_file<'a, R: Files + AllocGlobal>(
     file: &[u8],
     is_taken: bool,
 ) -> Result<SeenFile<'a>, AllocError> {
-    let holding = holding_of(file);
-    Ok(SeenFile {
-        path: input_name(path),
-        place: place_of(rt, path)?,
-        holding,
-        name: String::from_str(rt.alloc(), table_name(file))?,
-        is_taken,
-    })
+    let place = place_of(rt, path)?;
+    seen_at(rt.alloc(), input_name(path), place, file, is_taken)
 }
 
 /// What `check` is asked for.
@@ -96,14 +109,14 @@ fn check_file<'a, R: Files + Input + Eprint + AllocGlobal>(
     let is_taken = status == Status::Done;
     let file = seen_file(rt, path, bytes.as_slice(), is_taken)?;
     if is_taken {
-        warn_of_place(rt, seen.as_slice(), &file);
+        warn_of_place(rt, name, seen.as_slice(), &file);
     }
     seen.push(file)?;
     Ok(status)
 }
 
 /// The first of two statuses that isn't `Done`.
-fn earlier(one: Status, other: Status) -> Status {
+pub(crate) fn earlier(one: Status, other: Status) -> Status {
     if one == Status::Done { other } else { one }
 }
 

@@ -66,11 +66,15 @@ fn is_among(files: &[SeenFile<'_>], file: &SeenFile<'_>) -> bool {
     false
 }
 
-/// Warns of a file that is given again, or whose table an earlier file has.
-pub(crate) fn warn_of_place<R: Eprint>(rt: &R, before: &[SeenFile<'_>], file: &SeenFile<'_>) {
-    let path = file.path;
+/// Warns, under its title, of a file that is given again, or whose table an earlier file has.
+pub(crate) fn warn_of_place<R: Eprint>(
+    rt: &R,
+    title: &str,
+    before: &[SeenFile<'_>],
+    file: &SeenFile<'_>,
+) {
     if is_among(before, file) {
-        let _told = eprintln!(rt; "{path}: warning: this file is given already");
+        let _told = eprintln!(rt; "{title}: warning: this file is given already");
         return;
     }
     let Some(first) = first_of_table(before, file) else {
@@ -79,11 +83,11 @@ pub(crate) fn warn_of_place<R: Eprint>(rt: &R, before: &[SeenFile<'_>], file: &S
     let other = first.path;
     let _told = if file.is_fixed() {
         eprintln!(rt;
-            "{path}: warning: {other} has the same table and is in force; this one is never used"
+            "{title}: warning: {other} has the same table and is in force; this one is never used"
         )
     } else {
         eprintln!(rt;
-            "{path}: warning: {other} has the same table and is in force; this one stands by"
+            "{title}: warning: {other} has the same table and is in force; this one stands by"
         )
     };
 }

@@ -16,7 +16,7 @@ fn warn_of_file<'a, R: Files + Eprint + AllocGlobal>(
         return Ok(());
     };
     let file = seen_file(rt, path, bytes.as_slice(), true)?;
-    warn_of_place(rt, seen.as_slice(), &file);
+    warn_of_place(rt, file.path, seen.as_slice(), &file);
     seen.push(file)?;
     Ok(())
 }
