@@ -2,7 +2,7 @@
 
 ghost use Rattle.std.specs.Prelude.{◌≡◌, ◌+◌, ◌<◌, ◌^◌, length, true};
 
-use crate::checking::{earlier, seen_at};
+use crate::checking::{earlier, seen_at, tell_count};
 use crate::file_checks::tell_file;
 use crate::file_order::{SeenFile, warn_of_place};
 use crate::map_files::MOST_TEXT;
@@ -64,7 +64,7 @@ fn tell_files<R: Eprint + AllocGlobal>(
     book: &Book<'_>,
 ) -> Result<Status, AllocError> {
     let mut seen = Vec::new(rt.alloc());
-    let mut status = Status::Done;
+    let mut status = tell_count(rt, name, book.files.len());
     'files: for file in book.files.as_slice() {
         let one = tell_part_file(rt, map, name, file, &mut seen)?;
         status = earlier(status, one);

@@ -21,6 +21,9 @@ const NAME: usize = 76;
 
 const MOST_NAME: usize = 40;
 
+/// How many files the program takes beside a scenario.
+const MOST_FILES: usize = 100;
+
 /// The name of a table in the headers of its file.
 fn table_name(file: &[u8]) -> &str {
     let field = front(behind(file, NAME), MOST_NAME);
@@ -115,6 +118,16 @@ fn check_file<'a, R: Files + Input + Eprint + AllocGlobal>(
     Ok(status)
 }
 
+/// Tells that files are more than the program takes, where they are, and answers the status.
+pub(crate) fn tell_count<R: Eprint>(rt: &R, title: &str, count: usize) -> Status {
+    if count <= MOST_FILES {
+        return Status::Done;
+    }
+    // There is no other place to tell it.
+    let _told = eprintln!(rt; "{title}: {count} files, and vigil takes at most {MOST_FILES}");
+    Status::WordsRefused
+}
+
 /// The first of two statuses that isn't `Done`.
 pub(crate) fn earlier(one: Status, other: Status) -> Status {
     if one == Status::Done { other } else { one }
@@ -122,6 +135,7 @@ pub(crate) fn earlier(one: Status, other: Status) -> Status {
 
 /// Tells the order of the files, and answers the status.
 fn end_check<R: Print + Eprint>(rt: &R, seen: &[SeenFile<'_>], status: Status) -> Status {
+    let status = earlier(status, tell_count(rt, "the FILEs", seen.len()));
     match tell_order(rt, seen) {
         Ok(()) => status,
         Err(error) => earlier(status, tell_unwritten(rt, output_name(None), &error)),
