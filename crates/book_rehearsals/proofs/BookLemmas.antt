@@ -17,7 +17,7 @@ use Rattle.load_books.specs.declared.files.BookFile.{BookFile}
 use Rattle.load_books.specs.declared.reading.Book.{Book}
 use Rattle.load_books.specs.Files.{FileMade, file_made}
 use Rattle.load_books.specs.Books.{BookMade, book_made}
-use Rattle.load_books.specs.Manifests.{manifest_said}
+use Rattle.ground_books.specs.Manifests.{manifest_said}
 use Rattle.ground_books.specs.Built.{Built, file_built, built_said}
 use Rattle.ground_runs.specs.Rehearsing.{silent}
 use Rattle.book_rehearsals.specs.Shelves.{by_numbers, stored_names, never_opened, file_bytes, HasFiles}

@@ -8,7 +8,7 @@ ghost use Rattle.rehearsal.specs.Beside.{crowd_for};
 ghost use Rattle.rehearsal.specs.Promise.{ShelfUse, SinkUse, NoneFailed, Promise};
 ghost use Rattle.rehearsal.specs.declared.report.Report.{Report};
 ghost use Rattle.load_books.specs.Books.{BookMade};
-ghost use Rattle.load_books.specs.Manifests.{manifest_said};
+ghost use Rattle.ground_books.specs.Manifests.{manifest_said};
 ghost use Rattle.ground_books.specs.Built.{Built, built_said};
 ghost use Rattle.ground_runs.specs.Rehearsing.{silent};
 ghost use Rattle.book_rehearsals.specs.ShelvedBooks.{files_in_book, stored_in_book, scenario_name, names_in_book, IsShelved};

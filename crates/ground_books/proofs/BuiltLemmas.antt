@@ -5,7 +5,7 @@ use Rattle.std.proofs.lemmas.List.{map-append}
 use Rattle.load_books.specs.declared.files.BookFile.{BookFile}
 use Rattle.load_books.specs.Files.{FileMade, file_made}
 use Rattle.load_books.specs.Books.{BookMade}
-use Rattle.load_books.specs.Manifests.{manifest_said}
+use Rattle.ground_books.specs.Manifests.{manifest_said}
 use Rattle.ground_books.specs.Built.{Built, named, file_built, built_said}
 
 -- a file behind those that were built

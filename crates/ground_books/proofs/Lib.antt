@@ -1,1 +1,2 @@
 mod BuiltLemmas
+mod ManifestLemmas

@@ -4,11 +4,9 @@ use Rattle.std.proofs.Common.{Vec, Global}
 use Rattle.load_books.specs.declared.fault.BookFault.{BookFault}
 use Rattle.load_books.specs.declared.fault.BookError.{BookError}
 use Rattle.load_books.specs.declared.fault.BookError.TheVariants as errors
-use Rattle.load_books.specs.declared.titles.FileKind.{FileKind}
-use Rattle.load_books.specs.declared.titles.FileKind.TheVariants as kinds
 use Rattle.load_books.specs.Files.{FileMade}
 use Rattle.load_books.specs.Books.{BookMade}
-use Rattle.load_books.specs.Manifests.{manifest_said}
+use Rattle.ground_books.specs.Manifests.{ending_of, manifest_said}
 use Rattle.ground_books.specs.declared.book_files.BuiltFile.{BuiltFile}
 
 -- a file by its name in the folder
@@ -18,10 +16,6 @@ pub record Built : Type 0 where
 
 abbrev pub named : List ℕ → List ℕ → Built
 named name bytes = record { name = name; bytes = bytes }
-
-abbrev pub ending_of : FileKind → List ℕ
-ending_of kinds.Table = codes ".table"
-ending_of kinds.Load = codes ".load"
 
 abbrev pub file_built : FileMade → Built
 file_built m = named (m.name ++ ending_of m.kind) m.bytes

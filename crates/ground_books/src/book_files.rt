@@ -6,9 +6,10 @@ ghost use Rattle.table_forms.specs.Layouts.{are_layouts};
 ghost use Rattle.load_texts.specs.Headers.{is_header};
 ghost use Rattle.load_books.specs.Files.{file_made};
 ghost use Rattle.load_books.specs.Books.{book_made, book_said};
-ghost use Rattle.ground_books.specs.Built.{ending_of, named, built_seen, file_built, built_said, GivesBuilt};
+ghost use Rattle.ground_books.specs.Built.{named, built_seen, file_built, built_said, GivesBuilt};
 
-use load_books::{Book, BookError, BookFile, BookForms, FileKind, book_manifest, read_book};
+use crate::manifest::{ending_of, files_manifest};
+use load_books::{Book, BookError, BookFile, BookForms, read_book};
 use std::alloc::{AllocError, Global};
 
 /// A file that is written of a book: its name in the folder, and its bytes.
@@ -16,16 +17,6 @@ use std::alloc::{AllocError, Global};
 pub struct BuiltFile {
     pub name: Vec<u8>,
     pub bytes: Vec<u8>,
-}
-
-/// How the names of files of a kind end.
-fn ending_of(kind: FileKind) -> &'static [u8]
-    ensures { result.now ≡ ending_of kind }
-{
-    match kind {
-        FileKind::Table => b".table",
-        FileKind::Load => b".load",
-    }
 }
 
 /// A name and its ending.
@@ -72,7 +63,7 @@ fn add_parts(
 fn files_of(alloc: Global, book: Book<'_>) -> Result<Vec<BuiltFile>, AllocError>
     ensures { IfOk result (λ files. map built_seen files.items ≡ built_said (book_made book.entry)) }
 {
-    let manifest = book_manifest(alloc, &book)?;
+    let manifest = files_manifest(alloc, &book)?;
     let mut out = Vec::new(alloc);
     let Book {
         name,

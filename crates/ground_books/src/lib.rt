@@ -3,6 +3,7 @@
 
 mod book_files;
 mod building;
+mod manifest;
 
 pub use book_files::{BuiltFile, built_files};
 pub use building::{Build, build_book};
