@@ -8,6 +8,7 @@ mod named_files;
 mod refusing;
 mod scenarios;
 mod shown_files;
+mod shown_times;
 
 pub use books::is_book;
 pub use made_files::{Wanted, make_one};

@@ -12,6 +12,7 @@ ghost use Rattle.ground_making.specs.declared.making.Making.TheVariants as makin
 
 use crate::books::{book_scenario, is_book};
 use crate::scenarios::plan_of;
+use crate::shown_times::with_times;
 use load_books::BookFault;
 use load_texts::{LoadFault, header_fields, read_load, show_load};
 use plan_text::{PlanError, PlanFault};
@@ -170,7 +171,7 @@ fn text_of(alloc: Global, epoch: Option<u32>, file: &[u8]) -> Result<Vec<u8>, Re
     }
 }
 
-/// The text of the file of a table of this kind.
+/// The text of the file of a table of this kind, with its times told from the epoch on, where there is one.
 fn show_of(
     alloc: Global,
     epoch: Option<u32>,
@@ -180,9 +181,12 @@ fn show_of(
     requires { kind_of_file file.now ≡ Some kind }
 {
     let mut text = Vec::new(alloc);
-    match show_table(alloc, &forms(epoch), kind, file, &mut text) {
-        Ok(()) => Ok(text),
-        Err(error) => Err(Refusal::from(error)),
+    if let Err(error) = show_table(alloc, &forms(epoch), kind, file, &mut text) {
+        return Err(Refusal::from(error));
+    }
+    match epoch {
+        Some(epoch) => Ok(with_times(alloc, epoch, text.as_slice())?),
+        None => Ok(text),
     }
 }
 

@@ -118,7 +118,10 @@ fn show<'a>(alloc: Global) -> Result<Command<'a>, AllocError> {
         .about(
             "Shows files of tables, and files to be loaded, as text, from which `table` makes them, and scenarios as plans, for `scenario`",
         )
-        .arg(epoch(alloc, "What times are shown from, such as +0:01:00"))?
+        .arg(epoch(
+            alloc,
+            "What times in tables are counted from, as in time=+0:01:00 [default: times are in seconds]",
+        ))?
         .arg(output(alloc))?
         .arg(
             files(alloc).required(true).help(
