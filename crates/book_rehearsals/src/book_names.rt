@@ -1,5 +1,6 @@
-//! Which names are those of books.
+//! Which names are those of books, and from when scenarios count.
 
+use crate::epochs::epoch_of;
 use ground_files::is_stream;
 use ground_making::{MOST_BYTES, is_book};
 use ground_runs::Run;
@@ -44,21 +45,33 @@ fn read_beginning<F: Read>(alloc: Global, text: &mut F) -> io::Result<Vec<u8>> {
     Ok(front)
 }
 
-/// Whether a file is a book.
-fn is_book_file<R: Files + AllocGlobal>(rt: &R, path: &str) -> io::Result<bool> {
-    if !fs::metadata(rt, path)?.is_file() {
-        return Ok(false);
+/// The beginning of a file, up to its first line that says something; none of what is no regular file, since it couldn't be read again.
+fn beginning_of<R: Files + AllocGlobal>(rt: &R, run: &Run<'_>) -> io::Result<Option<Vec<u8>>> {
+    let path = run.scenario;
+    if is_stream(path) || run.is_drill() || !fs::metadata(rt, path)?.is_file() {
+        return Ok(None);
     }
     let mut file = fs::open(rt, path)?;
-    let front = read_beginning(rt.alloc(), &mut file)?;
-    Ok(is_book(front.as_slice()))
+    Ok(Some(read_beginning(rt.alloc(), &mut file)?))
 }
 
 /// Whether a rehearsal's scenario is the name of a book: of a file whose first line that says something begins with `book`. Only the
 /// beginning of the file is read; of what is no regular file nothing is, since it couldn't be read again.
 pub fn names_book<R: Files + AllocGlobal>(rt: &R, run: &Run<'_>) -> bool {
-    if is_stream(run.scenario) || run.is_drill() {
-        return false;
+    match beginning_of(rt, run) {
+        Ok(Some(front)) => is_book(front.as_slice()),
+        _ => false,
     }
-    is_book_file(rt, run.scenario).unwrap_or(false)
+}
+
+/// The time of frame 0 by which the lines of a rehearsal are told: that of the words, or else that of the scenario's file. None of what
+/// is no regular file.
+pub fn epoch_of_run<R: Files + AllocGlobal>(rt: &R, run: &Run<'_>) -> Option<u32> {
+    if run.epoch.is_some() {
+        return run.epoch;
+    }
+    match beginning_of(rt, run) {
+        Ok(Some(front)) => epoch_of(front.as_slice()),
+        _ => None,
+    }
 }

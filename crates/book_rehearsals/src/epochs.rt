@@ -3,6 +3,7 @@
 ghost use Rattle.std.specs.Prelude.{◌≡◌, ◌<◌, ◌+◌, ◌^◌, length};
 ghost use Rattle.load_books.specs.Scenarios.{epoch_said};
 
+use ground_making::MOST_BYTES;
 use row_forms::{number, split_word};
 use table_texts::next_line;
 
@@ -28,4 +29,12 @@ pub fn scenario_epoch(text: &[u8]) -> Option<u32>
         Some((digits, _)) => number(LAST_EPOCH, digits),
         None => None,
     }
+}
+
+/// The epoch of a scenario of any length: one that is longer than an input may be has none.
+pub(crate) fn epoch_of(text: &[u8]) -> Option<u32> {
+    if text.len() > MOST_BYTES {
+        return None;
+    }
+    scenario_epoch(text)
 }

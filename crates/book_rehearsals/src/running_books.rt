@@ -1,7 +1,7 @@
 //! The verb that rehearses a book.
 
 use crate::book_causes::BookTeller;
-use crate::epochs::scenario_epoch;
+use crate::epochs::epoch_of;
 use crate::shelved_books::{ShelvedBook, shelve_book};
 use ground_files::{Status, get, tell_no_memory, tell_unread};
 use ground_making::{MOST_BYTES, Refusal, tell_refusal};
@@ -27,14 +27,6 @@ fn shelved<'a>(
     }
 }
 
-/// By what times lines are told: from the epoch of the words, or else from that of the scenario.
-fn told_epoch(run: &Run<'_>, scenario: &[u8]) -> Option<u32> {
-    if run.epoch.is_some() || scenario.len() > MOST_BYTES {
-        return run.epoch;
-    }
-    scenario_epoch(scenario)
-}
-
 /// Rehearses the book that a text says.
 fn run_text<R>(rt: &R, run: &Run<'_>, text: &[u8]) -> Status
 where
@@ -51,7 +43,7 @@ where
     };
     let scenario = book.scenario.as_slice();
     let mut timed = *run;
-    timed.epoch = told_epoch(run, scenario);
+    timed.epoch = run.epoch.or(epoch_of(scenario));
     let teller = BookTeller {
         name,
         text,

@@ -27,7 +27,7 @@ fn time_of_frame_0<'a>(alloc: Global) -> Arg<'a> {
 fn time_of_run<'a>(alloc: Global) -> Arg<'a> {
     epoch(
         alloc,
-        "The time of frame 0, as `epoch` gives it in the scenario [default: that of a book; lines of a scenario have frames]",
+        "The time of frame 0 [default: that of the book or the scenario, where it is a file; else lines have frames]",
     )
 }
 

@@ -1,6 +1,6 @@
 //! What the words of each verb ask for, by their names in the command line, and the call that does it.
 
-use book_rehearsals::{names_book, run_book};
+use book_rehearsals::{epoch_of_run, names_book, run_book};
 use clap::ArgMatches;
 use ground_books::{Build, build_book};
 use ground_checks::{Check, check_files, warn_of_order};
@@ -112,5 +112,7 @@ where
     if warn_of_order(rt, run.files).is_err() {
         return tell_no_memory(rt);
     }
-    run_scenario(rt, &run)
+    let mut timed = run;
+    timed.epoch = epoch_of_run(rt, &run);
+    run_scenario(rt, &timed)
 }
