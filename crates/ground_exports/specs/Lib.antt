@@ -1,2 +1,3 @@
+pub mod Exports
 pub mod Records
 pub mod Rows

@@ -1,5 +1,8 @@
 //! The verbs that make something of a log.
 
+ghost use Rattle.std.specs.Prelude.{◌≡◌, ℕ, List, Some, IfOk};
+ghost use Rattle.ground_exports.specs.Exports.{IsExportOf, known_epoch};
+
 use crate::captures::write_capture;
 use crate::csv_rows::write_rows;
 use ground_files::{
@@ -21,6 +24,16 @@ pub enum Export {
     Capture,
 }
 
+/// The time of frame 0 in seconds, where it is known.
+fn seconds_of(epoch: Option<u32>) -> u32
+    ensures { result ≡ known_epoch epoch }
+{
+    match epoch {
+        Some(seconds) => seconds,
+        None => 0,
+    }
+}
+
 impl Export {
     /// Makes a log into this. Says whether all of its lines are a log's.
     fn make<E: Eprint, R: Read + Drop, W: Write>(
@@ -29,11 +42,14 @@ impl Export {
         epoch: Option<u32>,
         mut log: R,
         out: &mut W,
-    ) -> Result<bool, Fault> {
+    ) -> Result<bool, Fault>
+        ensures { IfOk result (λ whole. (text : List ℕ) → R.remaining log ≡ Some text
+            → IsExportOf self epoch text whole (W.contents out.old) (W.contents out.new)) }
+    {
         match self {
             Export::Words => telling.tell(epoch, &mut log, out),
             Export::Rows => write_rows(telling, log, out),
-            Export::Capture => write_capture(telling, epoch.unwrap_or(0), log, out),
+            Export::Capture => write_capture(telling, seconds_of(epoch), log, out),
         }
     }
 }
