@@ -1,6 +1,7 @@
 //! What is wrong with a book, in words.
 
 ghost use Rattle.std.specs.Prelude.{◌≡◌, ◌+◌, ◌<◌, ◌^◌, length, true};
+ghost use Rattle.load_books.specs.Books.{is_book_text};
 
 use crate::checking::{earlier, seen_at, tell_count};
 use crate::file_checks::tell_file;
@@ -16,7 +17,8 @@ use std::str::from_utf8;
 
 /// Whether bytes are the text of a book, and no more than one has.
 pub(crate) fn is_book(bytes: &[u8]) -> bool
-    ensures { result ≡ true → 1 + length bytes.now < 2 ^ 32 }
+    ensures short { result ≡ true → 1 + length bytes.now < 2 ^ 32 }
+    ensures book { result ≡ true → is_book_text bytes.now ≡ true }
 {
     bytes.len() <= MOST_TEXT && is_book_text(bytes)
 }

@@ -1,5 +1,10 @@
 //! The verb that looks at files.
 
+ghost use Rattle.std.specs.Prelude.{◌≡◌, ◌≢◌, false, None, option_map, IfOk};
+ghost use Rattle.ground_files.specs.declared.verb_status.Status.TheVariants as statuses;
+ghost use Rattle.load_books.specs.Books.{is_book_text};
+ghost use Rattle.ground_checks.specs.Faults.{fault_of};
+
 use crate::book_checks::{is_book, tell_book_file};
 use crate::file_checks::tell_file;
 use crate::file_order::{Holding, SeenFile, tell_order, warn_of_place};
@@ -92,30 +97,59 @@ pub struct Check<'a> {
     pub map: Option<&'a str>,
 }
 
-/// Looks at a file as the program does, and then at its place behind others. A book has none: its files are in it.
+/// Puts a file behind those that were looked at, and warns of its place where it is taken.
+fn add_seen<'a, R: Files + Eprint + AllocGlobal>(
+    rt: &R,
+    path: &'a str,
+    bytes: &[u8],
+    is_taken: bool,
+    seen: &mut Vec<SeenFile<'a>>,
+) -> Result<(), AllocError> {
+    let file = seen_file(rt, path, bytes, is_taken)?;
+    if is_taken {
+        warn_of_place(rt, file.path, seen.as_slice(), &file);
+    }
+    seen.push(file)?;
+    Ok(())
+}
+
+/// Looks at the bytes of a file as the program does, and then at its place behind others. A book has none: its files are in it.
+fn check_bytes<'a, R: Files + Eprint + AllocGlobal>(
+    rt: &R,
+    map: Option<&Map>,
+    path: &'a str,
+    bytes: &[u8],
+    seen: &mut Vec<SeenFile<'a>>,
+) -> Result<Status, AllocError>
+    ensures taken { IfOk result (λ status. status ≡ statuses.Done → is_book_text bytes.now ≡ false
+        → fault_of (option_map (λ known. known.now) map.entry) bytes.now ≡ None) }
+    ensures refused { IfOk result (λ status. status ≡ statuses.FileRefused → is_book_text bytes.now ≡ false
+        → fault_of (option_map (λ known. known.now) map.entry) bytes.now ≢ None) }
+{
+    let name = input_name(path);
+    if is_book(bytes) {
+        return Ok(tell_book_file(rt, name, bytes));
+    }
+    let status = tell_file(rt, map, name, bytes);
+    add_seen(rt, path, bytes, status == Status::Done, seen)?;
+    Ok(status)
+}
+
+/// Looks at a file, and then at its place behind others. One that can't be read isn't taken.
 fn check_file<'a, R: Files + Input + Eprint + AllocGlobal>(
     rt: &R,
     map: Option<&Map>,
     path: &'a str,
     seen: &mut Vec<SeenFile<'a>>,
 ) -> Result<Status, AllocError> {
-    let name = input_name(path);
-    let (status, bytes) = match get(rt, path) {
-        Ok(bytes) => {
-            if is_book(bytes.as_slice()) {
-                return Ok(tell_book_file(rt, name, bytes.as_slice()));
-            }
-            (tell_file(rt, map, name, bytes.as_slice()), bytes)
+    match get(rt, path) {
+        Ok(bytes) => check_bytes(rt, map, path, bytes.as_slice(), seen),
+        Err(error) => {
+            let status = tell_unread(rt, input_name(path), &error);
+            add_seen(rt, path, &[], false, seen)?;
+            Ok(status)
         }
-        Err(error) => (tell_unread(rt, name, &error), Vec::new(rt.alloc())),
-    };
-    let is_taken = status == Status::Done;
-    let file = seen_file(rt, path, bytes.as_slice(), is_taken)?;
-    if is_taken {
-        warn_of_place(rt, name, seen.as_slice(), &file);
     }
-    seen.push(file)?;
-    Ok(status)
 }
 
 /// Tells that files are more than the program takes, where they are, and answers the status.
