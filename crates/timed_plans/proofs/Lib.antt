@@ -6,4 +6,5 @@ pub mod CheckLemmas
 pub mod SortLemmas
 pub mod GoodLemmas
 pub mod FrameLemmas
+pub mod ItemLemmas
 pub mod PlanLemmas

@@ -1,14 +1,17 @@
 //! Laws of plans, as contracts of functions that do nothing.
-ghost use Rattle.std.specs.Prelude.{◌≡◌, ◌∷◌, [], ℕ, List, Ok, Err, codes, true, Some, None};
+ghost use Rattle.std.specs.Prelude.{◌≡◌, ◌<◌, ◌∷◌, [], ℕ, List, Ok, Err, codes, true, Some, None};
+ghost use Rattle.packet_forms.specs.Names.{is_name_text, name_of};
 ghost use Rattle.telecommands.specs.declared.command.Command.{Command};
 ghost use Rattle.telecommands.specs.Commands.{are_good};
 ghost use Rattle.telecommands.specs.Dictionary.{dictionary};
 ghost use Rattle.calendar_dates.specs.declared.fault.DateFault.TheVariants as dates;
 ghost use Rattle.scenario.specs.Texts.{Ended, reading};
+ghost use Rattle.scenario.specs.declared.sentence.Sentence.TheVariants as says;
 ghost use Rattle.plan_text.specs.declared.fault.PlanReason.TheVariants as reasons;
-ghost use Rattle.plan_text.specs.Frames.{head_said, frames_said};
-ghost use Rattle.plan_text.specs.Plans.{fault_on};
-ghost use Rattle.timed_plans.specs.Schedules.{Schedule, scenario_lines, words_of, timed_items};
+ghost use Rattle.plan_text.specs.Frames.{head_said, frames_said, sentence_said};
+ghost use Rattle.plan_text.specs.Lines.{sent_line};
+ghost use Rattle.plan_text.specs.Plans.{fault_on, packet_sent};
+ghost use Rattle.timed_plans.specs.Schedules.{Schedule, app_line, scenario_lines, words_of, timed_items};
 ghost use Rattle.timed_plans.specs.Plans.{schedule_said, period_said};
 ghost use Rattle.timed_plans.specs.Checks.{scenario_said, IsSaid};
 ghost use Rattle.timed_plans.specs.Worked.{plan, scenario, dated_plan, dated_scenario};
@@ -25,6 +28,17 @@ pub fn scenarios_give_their_frames()
         → (reading (record { bytes = made; closed = true })).ending ≡ Ended }
     ensures items { (cs : List Command) (text made : List ℕ) (s : Schedule) → are_good cs ≡ true → scenario_said cs text ≡ Ok made → schedule_said cs text ≡ Ok s
         → (reading (record { bytes = made; closed = true })).items ≡ head_said [] (words_of (scenario_lines s)) ∷ frames_said s.frames 0 (timed_items s.lines) }
+{}
+
+/// What the lines of items say in their frames: that of a `send` the packet that the words behind it say, and that of a counter its name
+/// and its value.
+pub fn items_say_their_values()
+    ensures sends { (cs : List Command) (epoch : ℕ) (ws : List (List ℕ)) (packet : List ℕ)
+        → are_good cs ≡ true → packet_sent cs epoch ws ≡ Ok packet
+        → sentence_said (sent_line packet) ≡ Ok (says.Send packet) }
+    ensures counters { (name : List ℕ) (value : ℕ) → is_name_text name ≡ true → value < 4294967296
+        → sentence_said (app_line name value)
+        ≡ Ok (says.Count (record { name = name_of name; value = value })) }
 {}
 
 /// Faults with their lines: spans that are empty or out of form, a period of nothing, items out of their forms, an end before an item, and
