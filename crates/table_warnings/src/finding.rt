@@ -1,144 +1,187 @@
 //! The warnings of a table.
-ghost use Rattle.std.specs.Prelude.{◌≡◌, ◌<◌, ◌≤◌, length};
+ghost use Rattle.std.specs.Prelude.{◌≡◌, ◌<◌, ◌≤◌, ◌++◌, length, IfOk, OnOk};
 ghost use Rattle.table_files.specs.Kinds.{IsTable};
+ghost use Rattle.table_warnings.specs.Used.{count_of};
+ghost use Rattle.table_warnings.specs.Warned.{gap_of, gap_at, gaps_in, told_gaps, unwatched_at, unwatched_in, others_in, warnings_in, absolute_in, relative_in};
+ghost use Rattle.sc_tables.specs.Absolute.{ats_of};
+ghost use Rattle.sc_tables.specs.Relative.{rts_of};
 
-use crate::commands::{ends_absolute, is_ninth, starts_relative};
+use crate::adding::{add_warning, warn_if};
 use crate::dwelling::has_no_delay;
+use crate::sequences::{warn_absolute, warn_relative};
 use crate::used::{count_of, is_gap, is_used};
-use crate::warning::{Place, Warning};
+use crate::warning::Warning;
 use crate::watched::is_watched;
 use packet_forms::be16;
-use sc_tables::{Ats, Rts, load_ats, load_rts};
+use sc_tables::{load_ats, load_rts};
 use std::alloc::{AllocError, Global};
 use table_files::TableKind;
 
-/// The warnings of a table's payload, in the order of its entries. A sequence that its loader refuses has none.
+/// The warnings of a table's payload, in the order of its entries: its unused entries, and behind them what is odd in the others. A sequence
+/// that its loader refuses has none.
+#[tactic(auto, unfolding(crate::specs::Warned::warnings_in))]
 pub fn find_warnings(
     alloc: Global,
     kind: TableKind,
     payload: &[u8],
 ) -> Result<Vec<Warning>, AllocError>
     requires { IsTable kind (length payload.now) }
+    ensures { IfOk result (λ warnings. warnings.items ≡ warnings_in kind payload.now) }
 {
-    let mut warnings = Vec::new(alloc);
-    warn_gaps(kind, payload, &mut warnings)?;
+    let mut warnings = find_gaps(alloc, kind, payload)?;
+    warn_others(alloc, kind, payload, &mut warnings)?;
+    Ok(warnings)
+}
+
+/// Warns of what is odd in a table but for unused entries.
+fn warn_others(
+    alloc: Global,
+    kind: TableKind,
+    payload: &[u8],
+    warnings: &mut Vec<Warning>,
+) -> Result<(), AllocError>
+    requires { IsTable kind (length payload.now) }
+    ensures { OnOk result (warnings.new.items ≡ warnings.old.items ++ others_in kind payload.now) }
+{
     match kind {
         TableKind::Dwell(_) => {
-            if is_used(kind, payload, 0) && has_no_delay(payload) {
-                warnings.push(Warning::NoDelay)?;
-            }
+            let is_still = is_used(kind, payload, 0) && has_no_delay(payload);
+            warn_if(is_still, Warning::NoDelay, warnings)
         }
-        TableKind::Wdt => warn_unwatched(payload, &mut warnings)?,
-        TableKind::Ats(_) => {
-            if let Ok(ats) = load_ats(payload) {
-                warn_absolute(alloc, &ats, &mut warnings)?;
-            }
-        }
-        TableKind::Rts(n) => {
-            if let Ok(rts) = load_rts(payload) {
-                warn_relative(alloc, n, &rts, &mut warnings)?;
-            }
-        }
+        TableKind::Wdt => warn_unwatched(payload, warnings),
+        TableKind::Ats(_) => warn_of_absolute(alloc, payload, warnings),
+        TableKind::Rts(n) => warn_of_relative(alloc, n, payload, warnings),
         TableKind::AppMon
         | TableKind::EventMon
         | TableKind::ExeCount
         | TableKind::MsgActs
         | TableKind::Eeprom
         | TableKind::Memory
-        | TableKind::Adt => {}
+        | TableKind::Adt => Ok(()),
+    }
+}
+
+/// The warning of an unused entry between used ones: those behind the first of length 0 are never read in a dwell table.
+fn gap_of(kind: TableKind, entry: u32) -> Warning
+    ensures { result ≡ gap_of kind entry }
+{
+    match kind {
+        TableKind::Dwell(_) => Warning::Unread(entry),
+        TableKind::AppMon
+        | TableKind::EventMon
+        | TableKind::ExeCount
+        | TableKind::MsgActs
+        | TableKind::Ats(_)
+        | TableKind::Rts(_)
+        | TableKind::Eeprom
+        | TableKind::Memory
+        | TableKind::Wdt
+        | TableKind::Adt => Warning::Gap(entry),
+    }
+}
+
+/// The warning of the entry in a place, where it is unused and stands between used ones.
+#[tactic(auto, unfolding(crate::specs::Warned::gap_at))]
+fn gap_at(kind: TableKind, payload: &[u8], place: usize) -> Option<Warning>
+    requires table { IsTable kind (length payload.now) }
+    requires place { place < count_of kind }
+    ensures { result ≡ gap_at kind payload.now place }
+{
+    if is_gap(kind, payload, place) {
+        return Some(gap_of(kind, place as u32 + 1));
+    }
+    None
+}
+
+/// The warnings of all unused entries between used ones.
+#[tactic(auto, unfolding(crate::specs::Warned::gaps_in))]
+fn find_all_gaps(alloc: Global, kind: TableKind, payload: &[u8]) -> Result<Vec<Warning>, AllocError>
+    requires { IsTable kind (length payload.now) }
+    ensures { IfOk result (λ warnings. warnings.items ≡ gaps_in kind payload.now) }
+{
+    let mut warnings = Vec::new(alloc);
+    for place in 0..count_of(kind) {
+        add_warning(gap_at(kind, payload, place), &mut warnings)?;
     }
     Ok(warnings)
 }
 
-/// The warning of an unused entry between used ones: those behind the first of length 0 are never read in a dwell table.
-fn gap_of(kind: TableKind, entry: u32) -> Warning {
+/// The warnings of unused entries between used ones; in a dwell table of the first alone.
+fn find_gaps(alloc: Global, kind: TableKind, payload: &[u8]) -> Result<Vec<Warning>, AllocError>
+    requires { IsTable kind (length payload.now) }
+    ensures { IfOk result (λ warnings. warnings.items ≡ told_gaps kind (gaps_in kind payload.now)) }
+{
+    let mut warnings = find_all_gaps(alloc, kind, payload)?;
     match kind {
-        TableKind::Dwell(_) => Warning::Unread(entry),
-        _ => Warning::Gap(entry),
+        TableKind::Dwell(_) => {
+            warnings.truncate(1);
+            Ok(warnings)
+        }
+        TableKind::AppMon
+        | TableKind::EventMon
+        | TableKind::ExeCount
+        | TableKind::MsgActs
+        | TableKind::Ats(_)
+        | TableKind::Rts(_)
+        | TableKind::Eeprom
+        | TableKind::Memory
+        | TableKind::Wdt
+        | TableKind::Adt => Ok(warnings),
     }
 }
 
-/// Warns of unused entries between used ones; in a dwell table of the first alone.
-fn warn_gaps(kind: TableKind, payload: &[u8], warnings: &mut Vec<Warning>) -> Result<(), AllocError>
-    requires { IsTable kind (length payload.now) }
+/// The warning of the watchpoint in a place, where the limit checker never gets its packets.
+#[tactic(auto, unfolding(crate::specs::Warned::unwatched_at))]
+fn unwatched_at(payload: &[u8], place: usize) -> Option<Warning>
+    requires table { length payload.now ≡ 512 }
+    requires place { place < 32 }
+    ensures { result ≡ unwatched_at payload.now place }
 {
-    for place in 0..count_of(kind) {
-        if is_gap(kind, payload, place) {
-            warnings.push(gap_of(kind, place as u32 + 1))?;
-            if matches!(kind, TableKind::Dwell(_)) {
-                return Ok(());
-            }
-        }
+    let id = be16(payload, 16 * place + 2);
+    if be16(payload, 16 * place) != 0 && !is_watched(id) {
+        return Some(Warning::Unwatched(place as u32 + 1, id));
     }
-    Ok(())
+    None
 }
 
 /// Warns of watchpoints whose packets the limit checker never gets.
+#[tactic(auto, unfolding(crate::specs::Warned::unwatched_in))]
 fn warn_unwatched(payload: &[u8], warnings: &mut Vec<Warning>) -> Result<(), AllocError>
     requires { length payload.now ≡ 512 }
+    ensures { OnOk result (warnings.new.items ≡ warnings.old.items ++ unwatched_in payload.now) }
 {
     for place in 0..32usize {
-        let id = be16(payload, 16 * place + 2);
-        if be16(payload, 16 * place) != 0 && !is_watched(id) {
-            warnings.push(Warning::Unwatched(place as u32 + 1, id))?;
-        }
+        add_warning(unwatched_at(payload, place), warnings)?;
     }
     Ok(())
 }
 
-/// Warns of what is odd in an absolute sequence, by time and then by number.
-fn warn_absolute(
+/// Warns of what is odd in an absolute sequence, unless its loader refuses it.
+fn warn_of_absolute(
     alloc: Global,
-    ats: &Ats<'_>,
+    payload: &[u8],
     warnings: &mut Vec<Warning>,
-) -> Result<(), AllocError> {
-    let mut times = Vec::new(alloc);
-    let mut end: Option<u32> = None;
-    for k in 0..ats.len() {
-        let command = ats.command(k);
-        let place = Place::Number(command.number);
-        if end.is_some_and(|end| end < command.tag) {
-            warnings.push(Warning::BehindEnd(place))?;
-        }
-        if end.is_none() && ends_absolute(&command.packet) {
-            end = Some(command.tag);
-        }
-        push_time(place, command.tag, &mut times, warnings)?;
+) -> Result<(), AllocError>
+    ensures { OnOk result (warnings.new.items ≡ warnings.old.items ++ absolute_in (ats_of payload.now)) }
+{
+    match load_ats(payload) {
+        Ok(ats) => warn_absolute(alloc, &ats, warnings),
+        Err(_) => Ok(()),
     }
-    Ok(())
 }
 
-/// Warns of what is odd in a relative sequence, as its commands are stored.
-fn warn_relative(
+/// Warns of what is odd in relative sequence n, unless its loader refuses it.
+fn warn_of_relative(
     alloc: Global,
     n: u8,
-    rts: &Rts<'_>,
+    payload: &[u8],
     warnings: &mut Vec<Warning>,
-) -> Result<(), AllocError> {
-    let mut times = Vec::new(alloc);
-    let mut time: u32 = 0;
-    for k in 0..rts.len() {
-        let command = rts.command(k);
-        if starts_relative(n, &command.packet) {
-            warnings.push(Warning::StartsItself(k + 1))?;
-        }
-        time = time.saturating_add(u32::from(command.tag));
-        push_time(Place::Entry(k + 1), time, &mut times, warnings)?;
+) -> Result<(), AllocError>
+    requires { length payload.now ≤ 2048 }
+    ensures { OnOk result (warnings.new.items ≡ warnings.old.items ++ relative_in n (rts_of payload.now)) }
+{
+    match load_rts(payload) {
+        Ok(rts) => warn_relative(alloc, n, &rts, warnings),
+        Err(_) => Ok(()),
     }
-    Ok(())
-}
-
-/// Appends the time of a command, and warns where it is the ninth of its second.
-fn push_time(
-    place: Place,
-    time: u32,
-    times: &mut Vec<u32>,
-    warnings: &mut Vec<Warning>,
-) -> Result<(), AllocError> {
-    let before = times.len();
-    times.push(time)?;
-    if is_ninth(times, before) {
-        warnings.push(Warning::Crowded(place))?;
-    }
-    Ok(())
 }

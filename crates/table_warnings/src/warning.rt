@@ -1,5 +1,6 @@
 //! What is odd in a table.
 
+use packet_forms::Name;
 use thiserror::Error;
 
 /// An entry of a table.
@@ -33,4 +34,10 @@ pub enum Warning {
     /// A watchpoint's entry and its message id.
     #[error("entry {0} never has a result: no packet of id 0x{1:04X} comes to the limit checker")]
     Unwatched(u32, u16),
+    /// An entry of a table of Health and Safety, and its name.
+    #[error("entry {0} names {name}, which is no application of the bench and stands in no counter or event of the scenario", name = .1.text())]
+    Unknown(u32, Name),
+    /// An entry of a checksum table.
+    #[error("entry {0} begins in one region of memory and ends in another, so that it can't be used")]
+    Split(u32),
 }
