@@ -1,5 +1,5 @@
 -- Lemmas on whole texts.
-use Rattle.std.proofs.Common.{◌≡◌, ℕ, zero, suc, ◌+◌, ◌-◌, ◌*◌, Bool, true, false, List, [], ◌∷◌, ◌++◌, length, take, drop, map, Option, Some, None, refl, ap, sym, subst, ◌∙◌, arith, length-append, length-take, length-drop}
+use Rattle.std.proofs.Common.{◌≡◌, ℕ, zero, suc, ◌+◌, ◌-◌, ◌*◌, ◌≤◌, Bool, true, false, List, [], ◌∷◌, ◌++◌, length, take, drop, map, Option, Some, None, refl, ap, sym, subst, ◌∙◌, arith, length-append, length-take, length-drop}
 use Rattle.std.specs.Prelude.{◌==◌, codes, option_map, Result, Ok, Err, replicate}
 use Rattle.std.specs.List.{range_with_len}
 use Rattle.std.proofs.lemmas.Bool.Decides.{nat_tests}
@@ -33,8 +33,8 @@ use Rattle.md_dwell.specs.Tables.{dwell_of, entry_at, entries_in}
 use Rattle.cs_slices.specs.Tables.{segments_of, segment_at}
 use Rattle.lc_watch.specs.Watchpoints as watchpoints
 use Rattle.lc_watch.specs.Actionpoints as actionpoints
-use Rattle.sc_tables.specs.Absolute.{stored_ats, ats_fault_of, timed_form}
-use Rattle.sc_tables.specs.Relative.{stored_rts, rts_fault_of, relative_form}
+use Rattle.sc_tables.specs.Absolute.{stored_ats, ats_fault_of, timed_form, timed_size}
+use Rattle.sc_tables.specs.Relative.{stored_rts, rts_fault_of, relative_form, relative_size}
 use Rattle.sc_tables.specs.Grammar.{read_of, fault_in}
 use Rattle.sc_tables.specs.Spelling.{timed_spelled, relative_spelled}
 use Rattle.table_forms.specs.declared.fault.TableFault.{TableFault}
@@ -197,17 +197,26 @@ read_ok : {E : Type 0} (r : Result (List E) EntryFault) → fault_in r ≡ None 
 read_ok (Ok entries) e = (entries, refl)
 read_ok (Err fault) e = absurd (cc)
 
-absolute_mean : (f : TextForms) (fs : List Field) (n : ℕ) (lines : List Numbered) (payload : List ℕ) → are_good f.commands.now ≡ true → map placed_field fs ≡ all_layouts.absolute.now → as_table (sequence_said f.epoch f.commands.now fs n lines) ≡ Ok payload → ats_fault_of payload ≡ None → SequenceMeans (timed_meant f.epoch f.commands.now) lines (stored_ats payload)
-unfolding ats_fault_of stored_ats
-absolute_mean f fs n lines payload good known said well plain =
-    let read = read_ok (read_of timed_form payload) well in
-    sequence_read timed_form timed_spelled (timed_meant f.epoch f.commands.now) f.epoch f.commands.now fs (timed_item f.epoch f.commands.now fs good known) n lines read.0 payload plain (table_ok (sequence_said f.epoch f.commands.now fs n lines) payload said) read.1
+-- an entry has a byte at least
+timed_least : (bytes : List ℕ) → 1 ≤ timed_form.size bytes
+unfolding timed_size
+timed_least bytes = omega arith
 
-relative_mean : (f : TextForms) (fs : List Field) (n : ℕ) (lines : List Numbered) (payload : List ℕ) → are_good f.commands.now ≡ true → map placed_field fs ≡ all_layouts.relative.now → as_table (sequence_said f.epoch f.commands.now fs n lines) ≡ Ok payload → rts_fault_of payload ≡ None → SequenceMeans (relative_meant f.epoch f.commands.now) lines (stored_rts payload)
+relative_least : (bytes : List ℕ) → 1 ≤ relative_form.size bytes
+unfolding relative_size
+relative_least bytes = omega arith
+
+absolute_mean : (f : TextForms) (fs : List Field) (n : ℕ) (lines : List Numbered) (payload : List ℕ) → are_good f.commands.now ≡ true → map placed_field fs ≡ all_layouts.absolute.now → as_table (sequence_said f.epoch f.commands.now fs n lines) ≡ Ok payload → ats_fault_of payload ≡ None → SequenceMeans timed_form timed_spelled (timed_meant f.epoch f.commands.now) lines (stored_ats payload)
+unfolding ats_fault_of stored_ats
+absolute_mean f fs n lines payload good known said well =
+    let read = read_ok (read_of timed_form payload) well in
+    sequence_read timed_form timed_spelled (timed_meant f.epoch f.commands.now) f.epoch f.commands.now fs timed_least (timed_item f.epoch f.commands.now fs good known) n lines read.0 payload (table_ok (sequence_said f.epoch f.commands.now fs n lines) payload said) read.1
+
+relative_mean : (f : TextForms) (fs : List Field) (n : ℕ) (lines : List Numbered) (payload : List ℕ) → are_good f.commands.now ≡ true → map placed_field fs ≡ all_layouts.relative.now → as_table (sequence_said f.epoch f.commands.now fs n lines) ≡ Ok payload → rts_fault_of payload ≡ None → SequenceMeans relative_form relative_spelled (relative_meant f.epoch f.commands.now) lines (stored_rts payload)
 unfolding rts_fault_of stored_rts
-relative_mean f fs n lines payload good known said well plain =
+relative_mean f fs n lines payload good known said well =
     let read = read_ok (read_of relative_form payload) well in
-    sequence_read relative_form relative_spelled (relative_meant f.epoch f.commands.now) f.epoch f.commands.now fs (relative_item f.epoch f.commands.now fs good known) n lines read.0 payload plain (table_ok (sequence_said f.epoch f.commands.now fs n lines) payload said) read.1
+    sequence_read relative_form relative_spelled (relative_meant f.epoch f.commands.now) f.epoch f.commands.now fs relative_least (relative_item f.epoch f.commands.now fs good known) n lines read.0 payload (table_ok (sequence_said f.epoch f.commands.now fs n lines) payload said) read.1
 
 -- ---- all kinds
 

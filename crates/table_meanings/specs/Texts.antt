@@ -1,6 +1,7 @@
 -- What the texts of tables mean: the entries that the tables' loaders read in their files.
-use Rattle.std.specs.Prelude.{◌≡◌, ℕ, ◌==◌, true, false, List, [], ◌∷◌, map, Option, Some, option_map, Result, Ok, Err, codes}
+use Rattle.std.specs.Prelude.{◌≡◌, ℕ, ◌==◌, true, List, [], ◌∷◌, map, Option, Some, option_map, Result, Ok, Err, codes}
 use Rattle.table_files.specs.Headers.{payload_of_file}
+use Rattle.table_files.specs.declared.fault.EntryFault.{EntryFault}
 use Rattle.table_files.specs.declared.kinds.TableKind.{TableKind}
 use Rattle.table_files.specs.declared.kinds.TableKind.TheVariants.{AppMon, EventMon, ExeCount, MsgActs, Ats, Rts, Dwell, Eeprom, Memory, Wdt, Adt}
 use Rattle.telecommands.specs.Commands.{are_good}
@@ -14,8 +15,10 @@ use Rattle.md_dwell.specs.Tables.{dwell_of}
 use Rattle.cs_slices.specs.Tables.{segments_of}
 use Rattle.lc_watch.specs.Watchpoints as watchpoints
 use Rattle.lc_watch.specs.Actionpoints as actionpoints
-use Rattle.sc_tables.specs.Absolute.{stored_ats}
-use Rattle.sc_tables.specs.Relative.{stored_rts}
+use Rattle.sc_tables.specs.Grammar.{EntryForm}
+use Rattle.sc_tables.specs.Absolute.{timed_form, stored_ats}
+use Rattle.sc_tables.specs.Relative.{relative_form, stored_rts}
+use Rattle.sc_tables.specs.Spelling.{timed_spelled, relative_spelled}
 use Rattle.table_forms.specs.declared.fault.TableFault.{TableFault}
 use Rattle.table_forms.specs.declared.forms.TextForms.{TextForms}
 use Rattle.table_forms.specs.Layouts.{all_layouts, are_layouts, placed}
@@ -23,7 +26,7 @@ use Rattle.table_forms.specs.Reading.{First, first_said}
 use Rattle.table_meanings.specs.Meanings.{meanings_said, amount_in}
 use Rattle.table_meanings.specs.Entries.{EntryMeaning, entries_meant}
 use Rattle.table_meanings.specs.Tables.{counters_meaning, apps_meaning, events_meaning, messages_meaning, dwells_meaning, segments_meaning, watchpoints_meaning, actionpoints_meaning}
-use Rattle.table_meanings.specs.Sequences.{timed_meant, relative_meant, has_raw, commands_meant}
+use Rattle.table_meanings.specs.Sequences.{timed_meant, relative_meant, Parted, sequence_meant, commands_read}
 
 -- a loader's entries are those that lines mean, so many
 abbrev pub Mean : {E : Type 0} → EntryMeaning E → ℕ → List Numbered → List E → Type 0
@@ -38,9 +41,10 @@ abbrev pub HeadedMeans : Option ℕ → List Numbered → List ℕ → Type 0
 HeadedMeans epoch [] payload = ⊥
 HeadedMeans epoch (head ∷ more) payload = DwellMeans epoch head more payload
 
--- what is stored of a payload are the commands of the lines, where none of these has bytes in place of words
-abbrev pub SequenceMeans : {E F : Type 0} → (List (List ℕ) → Option E) → List Numbered → Result (List E) F → Type 0
-SequenceMeans {E = E} said lines stored = has_raw lines ≡ false → (commands : List E) × (commands_meant said lines ≡ Some commands) × (stored ≡ Ok commands)
+-- what is stored of a payload are the commands that the lines mean, and behind them those that the loader reads in the bytes that lines say
+-- from the first `raw` on: without such a line there are no bytes, and the commands are all
+abbrev pub SequenceMeans : {E : Type 0} → EntryForm E → (E → List ℕ) → (List (List ℕ) → Option E) → List Numbered → Result (List E) EntryFault → Type 0
+SequenceMeans {E = E} form spelled said lines stored = (meant : Parted E) × (sequence_meant said spelled lines ≡ Some meant) × (stored ≡ commands_read form meant)
 
 -- the entries that the loader of a kind reads in a payload are those that these lines mean
 abbrev pub PayloadMeans : TextForms → TableKind → List Numbered → List ℕ → Type 0
@@ -48,8 +52,8 @@ PayloadMeans f AppMon lines payload = Mean (apps_meaning f.epoch) 32 lines (apps
 PayloadMeans f EventMon lines payload = Mean (events_meaning f.epoch) 16 lines (events.rows_of payload)
 PayloadMeans f ExeCount lines payload = Mean (counters_meaning f.epoch) 32 lines (counters.rows_of payload)
 PayloadMeans f MsgActs lines payload = Mean (messages_meaning f.epoch f.commands.now) 8 lines (actions.rows_of payload)
-PayloadMeans f (Ats n) lines payload = SequenceMeans (timed_meant f.epoch f.commands.now) lines (stored_ats payload)
-PayloadMeans f (Rts n) lines payload = SequenceMeans (relative_meant f.epoch f.commands.now) lines (stored_rts payload)
+PayloadMeans f (Ats n) lines payload = SequenceMeans timed_form timed_spelled (timed_meant f.epoch f.commands.now) lines (stored_ats payload)
+PayloadMeans f (Rts n) lines payload = SequenceMeans relative_form relative_spelled (relative_meant f.epoch f.commands.now) lines (stored_rts payload)
 PayloadMeans f (Dwell n) lines payload = HeadedMeans f.epoch lines payload
 PayloadMeans f Eeprom lines payload = Mean (segments_meaning f.epoch) 16 lines (segments_of payload)
 PayloadMeans f Memory lines payload = Mean (segments_meaning f.epoch) 16 lines (segments_of payload)

@@ -126,3 +126,15 @@ relative_text = joined (codes "table SC.RTS_TBL002" ∷ codes "command after=5 m
 
 unfoldable pub relative_commands : List Relative
 relative_commands = record { tag = 5; packet = no_op } ∷ record { tag = 263; packet = no_op } ∷ []
+
+-- a command, bytes that are one, a command behind them, and zero bytes at the end
+unfoldable pub bytes_text : List ℕ
+bytes_text = joined (
+    codes "table SC.RTS_TBL003" ∷ codes "command after=5 mm.no_op" ∷ codes "raw 01071888C000000100AE" ∷ codes "command after=9 packet=1888C000000100AE"
+    ∷ codes "raw 0000" ∷ codes "end" ∷ [])
+
+unfoldable pub bytes_left : List ℕ
+bytes_left = 0x01 ∷ 0x07 ∷ no_op ++ 0x00 ∷ 0x09 ∷ no_op ++ 0x00 ∷ 0x00 ∷ []
+
+unfoldable pub bytes_commands : List Relative
+bytes_commands = record { tag = 5; packet = no_op } ∷ record { tag = 263; packet = no_op } ∷ record { tag = 9; packet = no_op } ∷ []

@@ -1,6 +1,6 @@
 //! A text of each kind of table, and the entries that it means. What its words mean, and what the loader reads in its file, are the entries
 //! that are written by hand.
-ghost use Rattle.std.specs.Prelude.{◌≡◌, ◌∷◌, ◌++◌, [], map, drop, codes, decimal, Some, None, Ok};
+ghost use Rattle.std.specs.Prelude.{◌≡◌, ◌∷◌, ◌++◌, [], map, take, drop, codes, decimal, Some, None, Ok};
 ghost use Rattle.std.specs.List.{range_with_len};
 ghost use Rattle.hs_tables.specs.Apps as apps;
 ghost use Rattle.hs_tables.specs.Events as events;
@@ -17,11 +17,12 @@ ghost use Rattle.table_forms.specs.Layouts.{operators, steps};
 ghost use Rattle.lc_watch.specs.Actionpoints as actionpoints;
 ghost use Rattle.sc_tables.specs.Absolute.{stored_ats};
 ghost use Rattle.sc_tables.specs.Relative.{stored_rts};
+ghost use Rattle.sc_tables.specs.Spelling.{timed_spelled, relative_spelled};
 ghost use Rattle.telecommands.specs.Dictionary.{dictionary};
 ghost use Rattle.table_meanings.specs.Entries.{entries_meant};
 ghost use Rattle.table_meanings.specs.Tables.{counters_meaning, apps_meaning, events_meaning, messages_meaning, dwells_meaning, segments_meaning, watchpoints_meaning, actionpoints_meaning};
-ghost use Rattle.table_meanings.specs.Sequences.{timed_meant, relative_meant, commands_meant};
-ghost use Rattle.table_meanings.specs.Worked.{behind_name, loaded, counters_text, counters_rows, apps_text, apps_rows, events_text, events_rows, dwell_text, dwell_table, checksum_text, checksum_rows, watch_text, watch_rows, points_text, points_rows, messages_text, messages_rows, absolute_text, absolute_commands, relative_text, relative_commands};
+ghost use Rattle.table_meanings.specs.Sequences.{timed_meant, relative_meant, parted, sequence_meant};
+ghost use Rattle.table_meanings.specs.Worked.{behind_name, loaded, counters_text, counters_rows, apps_text, apps_rows, events_text, events_rows, dwell_text, dwell_table, checksum_text, checksum_rows, watch_text, watch_rows, points_text, points_rows, messages_text, messages_rows, absolute_text, absolute_commands, relative_text, relative_commands, bytes_text, bytes_left, bytes_commands};
 
 /// Names, cycles and actions of Health and Safety, with entries left out, a comment and an entry in bytes.
 pub fn hs_texts_in_entries()
@@ -51,12 +52,14 @@ pub fn limit_texts_in_entries()
     ensures points_read { loaded actionpoints.rows_of points_text ≡ Some points_rows }
 {}
 
-/// Commands of an absolute and of a relative sequence.
+/// Commands of an absolute and of a relative sequence, and bytes in place of words.
 pub fn sequence_texts_in_commands()
-    ensures absolute { commands_meant (timed_meant None dictionary) (behind_name absolute_text) ≡ Some absolute_commands }
+    ensures absolute { sequence_meant (timed_meant None dictionary) timed_spelled (behind_name absolute_text) ≡ Some (parted absolute_commands []) }
     ensures absolute_read { loaded stored_ats absolute_text ≡ Some (Ok absolute_commands) }
-    ensures relative { commands_meant (relative_meant None dictionary) (behind_name relative_text) ≡ Some relative_commands }
+    ensures relative { sequence_meant (relative_meant None dictionary) relative_spelled (behind_name relative_text) ≡ Some (parted relative_commands []) }
     ensures relative_read { loaded stored_rts relative_text ≡ Some (Ok relative_commands) }
+    ensures bytes { sequence_meant (relative_meant None dictionary) relative_spelled (behind_name bytes_text) ≡ Some (parted (take 1 relative_commands) bytes_left) }
+    ensures bytes_read { loaded stored_rts bytes_text ≡ Some (Ok bytes_commands) }
 {}
 
 /// The words of operators and of the steps of expressions, and what the loader makes of their numbers.

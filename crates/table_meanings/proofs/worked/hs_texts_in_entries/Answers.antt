@@ -37,12 +37,12 @@ use Rattle.table_forms.specs.Reading.{first_said}
 use Rattle.table_meanings.specs.Meanings.{meanings_said}
 use Rattle.table_meanings.specs.Entries.{entry_number, line_about}
 use Rattle.table_meanings.specs.Tables.{counter_of, app_of, event_of, dwell_entry_of, segment_of, watchpoint_of, actionpoint_of, counters_meaning, apps_meaning, events_meaning, dwells_meaning, segments_meaning, watchpoints_meaning, actionpoints_meaning, message_meant, messages_meaning}
-use Rattle.table_meanings.specs.Sequences.{timed_meant, relative_meant, commands_meant}
+use Rattle.table_meanings.specs.Sequences.{timed_meant, relative_meant}
 use Rattle.table_meanings.specs.Worked.{counters_text, counters_rows, apps_text, apps_rows, events_text, events_rows, messages_text, messages_rows}
 use Rattle.table_meanings.proofs.worked.hs_texts_in_entries.Goals as goal
 
 pub returns-clause-counters : goal.returns-clause-counters
-unfolding command_of primary_header with_checksum fault_of is_name is_name_text name_text named_bytes be16_at be32_at be16_bytes be32_bytes version_of sequence_flags length_field checksum_of message_id is_command words digits number hex_said name_said choice_said time_said steps_said expression_said steps_at value_said behind_key field_said row_said named command_said dictionary hs_rows mm_rows md_rows cs_rows sc_rows lc_rows lines_of kept all_layouts action_words event_actions message_states entry_states point_states value_types operators steps meanings_said entry_number line_about counter_of app_of event_of dwell_entry_of segment_of watchpoint_of actionpoint_of counters_meaning apps_meaning events_meaning dwells_meaning segments_meaning watchpoints_meaning actionpoints_meaning message_meant messages_meaning timed_meant relative_meant commands_meant actions.packet_in words_at counters_text counters_rows
+unfolding command_of primary_header with_checksum fault_of is_name is_name_text name_text named_bytes be16_at be32_at be16_bytes be32_bytes version_of sequence_flags length_field checksum_of message_id is_command words digits number hex_said name_said choice_said time_said steps_said expression_said steps_at value_said behind_key field_said row_said named command_said dictionary hs_rows mm_rows md_rows cs_rows sc_rows lc_rows lines_of kept all_layouts action_words event_actions message_states entry_states point_states value_types operators steps meanings_said entry_number line_about counter_of app_of event_of dwell_entry_of segment_of watchpoint_of actionpoint_of counters_meaning apps_meaning events_meaning dwells_meaning segments_meaning watchpoints_meaning actionpoints_meaning message_meant messages_meaning timed_meant relative_meant actions.packet_in words_at counters_text counters_rows
 returns-clause-counters c = refl
 
 pub returns-clause-counters_read : goal.returns-clause-counters_read
@@ -50,7 +50,7 @@ unfolding command_of primary_header with_checksum fault_of is_name is_name_text 
 returns-clause-counters_read c = refl
 
 pub returns-clause-apps : goal.returns-clause-apps
-unfolding command_of primary_header with_checksum fault_of is_name is_name_text name_text named_bytes be16_at be32_at be16_bytes be32_bytes version_of sequence_flags length_field checksum_of message_id is_command words digits number hex_said name_said choice_said time_said steps_said expression_said steps_at value_said behind_key field_said row_said named command_said dictionary hs_rows mm_rows md_rows cs_rows sc_rows lc_rows lines_of kept all_layouts action_words event_actions message_states entry_states point_states value_types operators steps meanings_said entry_number line_about counter_of app_of event_of dwell_entry_of segment_of watchpoint_of actionpoint_of counters_meaning apps_meaning events_meaning dwells_meaning segments_meaning watchpoints_meaning actionpoints_meaning message_meant messages_meaning timed_meant relative_meant commands_meant actions.packet_in words_at apps_text apps_rows
+unfolding command_of primary_header with_checksum fault_of is_name is_name_text name_text named_bytes be16_at be32_at be16_bytes be32_bytes version_of sequence_flags length_field checksum_of message_id is_command words digits number hex_said name_said choice_said time_said steps_said expression_said steps_at value_said behind_key field_said row_said named command_said dictionary hs_rows mm_rows md_rows cs_rows sc_rows lc_rows lines_of kept all_layouts action_words event_actions message_states entry_states point_states value_types operators steps meanings_said entry_number line_about counter_of app_of event_of dwell_entry_of segment_of watchpoint_of actionpoint_of counters_meaning apps_meaning events_meaning dwells_meaning segments_meaning watchpoints_meaning actionpoints_meaning message_meant messages_meaning timed_meant relative_meant actions.packet_in words_at apps_text apps_rows
 returns-clause-apps c = refl
 
 pub returns-clause-apps_read : goal.returns-clause-apps_read
@@ -58,7 +58,7 @@ unfolding command_of primary_header with_checksum fault_of is_name is_name_text 
 returns-clause-apps_read c = refl
 
 pub returns-clause-events : goal.returns-clause-events
-unfolding command_of primary_header with_checksum fault_of is_name is_name_text name_text named_bytes be16_at be32_at be16_bytes be32_bytes version_of sequence_flags length_field checksum_of message_id is_command words digits number hex_said name_said choice_said time_said steps_said expression_said steps_at value_said behind_key field_said row_said named command_said dictionary hs_rows mm_rows md_rows cs_rows sc_rows lc_rows lines_of kept all_layouts action_words event_actions message_states entry_states point_states value_types operators steps meanings_said entry_number line_about counter_of app_of event_of dwell_entry_of segment_of watchpoint_of actionpoint_of counters_meaning apps_meaning events_meaning dwells_meaning segments_meaning watchpoints_meaning actionpoints_meaning message_meant messages_meaning timed_meant relative_meant commands_meant actions.packet_in words_at events_text events_rows
+unfolding command_of primary_header with_checksum fault_of is_name is_name_text name_text named_bytes be16_at be32_at be16_bytes be32_bytes version_of sequence_flags length_field checksum_of message_id is_command words digits number hex_said name_said choice_said time_said steps_said expression_said steps_at value_said behind_key field_said row_said named command_said dictionary hs_rows mm_rows md_rows cs_rows sc_rows lc_rows lines_of kept all_layouts action_words event_actions message_states entry_states point_states value_types operators steps meanings_said entry_number line_about counter_of app_of event_of dwell_entry_of segment_of watchpoint_of actionpoint_of counters_meaning apps_meaning events_meaning dwells_meaning segments_meaning watchpoints_meaning actionpoints_meaning message_meant messages_meaning timed_meant relative_meant actions.packet_in words_at events_text events_rows
 returns-clause-events c = refl
 
 pub returns-clause-events_read : goal.returns-clause-events_read
@@ -66,7 +66,7 @@ unfolding command_of primary_header with_checksum fault_of is_name is_name_text 
 returns-clause-events_read c = refl
 
 pub returns-clause-messages : goal.returns-clause-messages
-unfolding command_of primary_header with_checksum fault_of is_name is_name_text name_text named_bytes be16_at be32_at be16_bytes be32_bytes version_of sequence_flags length_field checksum_of message_id is_command words digits number hex_said name_said choice_said time_said steps_said expression_said steps_at value_said behind_key field_said row_said named command_said dictionary hs_rows mm_rows md_rows cs_rows sc_rows lc_rows lines_of kept all_layouts action_words event_actions message_states entry_states point_states value_types operators steps meanings_said entry_number line_about counter_of app_of event_of dwell_entry_of segment_of watchpoint_of actionpoint_of counters_meaning apps_meaning events_meaning dwells_meaning segments_meaning watchpoints_meaning actionpoints_meaning message_meant messages_meaning timed_meant relative_meant commands_meant actions.packet_in words_at messages_text messages_rows
+unfolding command_of primary_header with_checksum fault_of is_name is_name_text name_text named_bytes be16_at be32_at be16_bytes be32_bytes version_of sequence_flags length_field checksum_of message_id is_command words digits number hex_said name_said choice_said time_said steps_said expression_said steps_at value_said behind_key field_said row_said named command_said dictionary hs_rows mm_rows md_rows cs_rows sc_rows lc_rows lines_of kept all_layouts action_words event_actions message_states entry_states point_states value_types operators steps meanings_said entry_number line_about counter_of app_of event_of dwell_entry_of segment_of watchpoint_of actionpoint_of counters_meaning apps_meaning events_meaning dwells_meaning segments_meaning watchpoints_meaning actionpoints_meaning message_meant messages_meaning timed_meant relative_meant actions.packet_in words_at messages_text messages_rows
 returns-clause-messages c = refl
 
 pub returns-clause-messages_read : goal.returns-clause-messages_read

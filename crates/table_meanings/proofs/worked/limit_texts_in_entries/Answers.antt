@@ -37,12 +37,12 @@ use Rattle.table_forms.specs.Reading.{first_said}
 use Rattle.table_meanings.specs.Meanings.{meanings_said}
 use Rattle.table_meanings.specs.Entries.{entry_number, line_about}
 use Rattle.table_meanings.specs.Tables.{counter_of, app_of, event_of, dwell_entry_of, segment_of, watchpoint_of, actionpoint_of, counters_meaning, apps_meaning, events_meaning, dwells_meaning, segments_meaning, watchpoints_meaning, actionpoints_meaning, message_meant, messages_meaning}
-use Rattle.table_meanings.specs.Sequences.{timed_meant, relative_meant, commands_meant}
+use Rattle.table_meanings.specs.Sequences.{timed_meant, relative_meant}
 use Rattle.table_meanings.specs.Worked.{watch_text, watch_rows, points_text, points_rows}
 use Rattle.table_meanings.proofs.worked.limit_texts_in_entries.Goals as goal
 
 pub returns-clause-watch : goal.returns-clause-watch
-unfolding command_of primary_header with_checksum fault_of is_name is_name_text name_text named_bytes be16_at be32_at be16_bytes be32_bytes version_of sequence_flags length_field checksum_of message_id is_command words digits number hex_said name_said choice_said time_said steps_said expression_said steps_at value_said behind_key field_said row_said named command_said dictionary hs_rows mm_rows md_rows cs_rows sc_rows lc_rows lines_of kept all_layouts action_words event_actions message_states entry_states point_states value_types operators steps meanings_said entry_number line_about counter_of app_of event_of dwell_entry_of segment_of watchpoint_of actionpoint_of counters_meaning apps_meaning events_meaning dwells_meaning segments_meaning watchpoints_meaning actionpoints_meaning message_meant messages_meaning timed_meant relative_meant commands_meant actions.packet_in words_at watch_text watch_rows
+unfolding command_of primary_header with_checksum fault_of is_name is_name_text name_text named_bytes be16_at be32_at be16_bytes be32_bytes version_of sequence_flags length_field checksum_of message_id is_command words digits number hex_said name_said choice_said time_said steps_said expression_said steps_at value_said behind_key field_said row_said named command_said dictionary hs_rows mm_rows md_rows cs_rows sc_rows lc_rows lines_of kept all_layouts action_words event_actions message_states entry_states point_states value_types operators steps meanings_said entry_number line_about counter_of app_of event_of dwell_entry_of segment_of watchpoint_of actionpoint_of counters_meaning apps_meaning events_meaning dwells_meaning segments_meaning watchpoints_meaning actionpoints_meaning message_meant messages_meaning timed_meant relative_meant actions.packet_in words_at watch_text watch_rows
 returns-clause-watch c = refl
 
 pub returns-clause-watch_read : goal.returns-clause-watch_read
@@ -50,7 +50,7 @@ unfolding command_of primary_header with_checksum fault_of is_name is_name_text 
 returns-clause-watch_read c = refl
 
 pub returns-clause-points : goal.returns-clause-points
-unfolding command_of primary_header with_checksum fault_of is_name is_name_text name_text named_bytes be16_at be32_at be16_bytes be32_bytes version_of sequence_flags length_field checksum_of message_id is_command words digits number hex_said name_said choice_said time_said steps_said expression_said steps_at value_said behind_key field_said row_said named command_said dictionary hs_rows mm_rows md_rows cs_rows sc_rows lc_rows lines_of kept all_layouts action_words event_actions message_states entry_states point_states value_types operators steps meanings_said entry_number line_about counter_of app_of event_of dwell_entry_of segment_of watchpoint_of actionpoint_of counters_meaning apps_meaning events_meaning dwells_meaning segments_meaning watchpoints_meaning actionpoints_meaning message_meant messages_meaning timed_meant relative_meant commands_meant actions.packet_in words_at points_text points_rows
+unfolding command_of primary_header with_checksum fault_of is_name is_name_text name_text named_bytes be16_at be32_at be16_bytes be32_bytes version_of sequence_flags length_field checksum_of message_id is_command words digits number hex_said name_said choice_said time_said steps_said expression_said steps_at value_said behind_key field_said row_said named command_said dictionary hs_rows mm_rows md_rows cs_rows sc_rows lc_rows lines_of kept all_layouts action_words event_actions message_states entry_states point_states value_types operators steps meanings_said entry_number line_about counter_of app_of event_of dwell_entry_of segment_of watchpoint_of actionpoint_of counters_meaning apps_meaning events_meaning dwells_meaning segments_meaning watchpoints_meaning actionpoints_meaning message_meant messages_meaning timed_meant relative_meant actions.packet_in words_at points_text points_rows
 returns-clause-points c = refl
 
 pub returns-clause-points_read : goal.returns-clause-points_read
