@@ -8,10 +8,10 @@ use crate::file_checks::tell_file;
 use crate::file_order::{SeenFile, warn_of_place};
 use crate::map_files::MOST_TEXT;
 use crate::map_texts::scenario_map;
+use crate::scenario_names::{Known, known_names, known_of};
 use ground_faults::tell_book;
 use ground_files::{Status, tell_no_memory};
 use load_books::{Book, BookError, BookFile, book_forms, is_book_text, read_book};
-use memory_window::Map;
 use std::alloc::AllocError;
 use std::str::from_utf8;
 
@@ -39,7 +39,7 @@ pub(crate) fn tell_unread_book<R: Eprint + AllocGlobal>(
 /// Looks at a file of a book, with the map of its own plan, and at its place behind others.
 fn tell_part_file<'a, R: Eprint + AllocGlobal>(
     rt: &R,
-    map: Option<&Map>,
+    known: &Known,
     name: &str,
     file: &'a BookFile<'_>,
     seen: &mut Vec<SeenFile<'a>>,
@@ -47,7 +47,8 @@ fn tell_part_file<'a, R: Eprint + AllocGlobal>(
     let part = from_utf8(file.name).unwrap_or("");
     let title = format!(in rt.alloc(); "{name}: {part}")?;
     let bytes = file.bytes.as_slice();
-    let status = tell_file(rt, map, title.as_str(), bytes);
+    let names = known_names(known);
+    let status = tell_file(rt, Some(&known.map), names, title.as_str(), bytes);
     let is_taken = status == Status::Done;
     let place = String::from_str(rt.alloc(), part)?;
     let one = seen_at(rt.alloc(), part, place, bytes, is_taken)?;
@@ -61,14 +62,14 @@ fn tell_part_file<'a, R: Eprint + AllocGlobal>(
 /// Looks at the files of a book, with the map of its own plan. The first status that isn't `Done` stands.
 fn tell_files<R: Eprint + AllocGlobal>(
     rt: &R,
-    map: Option<&Map>,
+    known: &Known,
     name: &str,
     book: &Book<'_>,
 ) -> Result<Status, AllocError> {
     let mut seen = Vec::new(rt.alloc());
     let mut status = tell_count(rt, name, book.files.len());
     'files: for file in book.files.as_slice() {
-        let one = tell_part_file(rt, map, name, file, &mut seen)?;
+        let one = tell_part_file(rt, known, name, file, &mut seen)?;
         status = earlier(status, one);
     }
     Ok(status)
@@ -85,7 +86,10 @@ pub(crate) fn tell_book_file<R: Eprint + AllocGlobal>(rt: &R, name: &str, text: 
     let Ok(map) = scenario_map(rt.alloc(), book.scenario.as_slice()) else {
         return tell_no_memory(rt);
     };
-    match tell_files(rt, Some(&map), name, &book) {
+    let Ok(known) = known_of(rt.alloc(), map, book.scenario.as_slice()) else {
+        return tell_no_memory(rt);
+    };
+    match tell_files(rt, &known, name, &book) {
         Ok(status) => status,
         Err(_) => tell_no_memory(rt),
     }

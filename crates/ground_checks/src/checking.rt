@@ -10,11 +10,12 @@ use crate::file_checks::tell_file;
 use crate::file_order::{Holding, SeenFile, tell_order, warn_of_place};
 use crate::map_files::read_map;
 use crate::read_words::tell_regions;
+use crate::scenario_names::{Known, known_names};
 use ground_files::{
     Status, get, input_name, is_stream, output_name, tell_no_memory, tell_unread, tell_unwritten,
 };
 use memory_window::Map;
-use packet_forms::{behind, front};
+use packet_forms::{Name, behind, front};
 use std::alloc::{AllocError, Global};
 use std::fs;
 use std::rt::Files;
@@ -117,6 +118,7 @@ fn add_seen<'a, R: Files + Eprint + AllocGlobal>(
 fn check_bytes<'a, R: Files + Eprint + AllocGlobal>(
     rt: &R,
     map: Option<&Map>,
+    names: Option<&[Name]>,
     path: &'a str,
     bytes: &[u8],
     seen: &mut Vec<SeenFile<'a>>,
@@ -130,7 +132,7 @@ fn check_bytes<'a, R: Files + Eprint + AllocGlobal>(
     if is_book(bytes) {
         return Ok(tell_book_file(rt, name, bytes));
     }
-    let status = tell_file(rt, map, name, bytes);
+    let status = tell_file(rt, map, names, name, bytes);
     add_seen(rt, path, bytes, status == Status::Done, seen)?;
     Ok(status)
 }
@@ -139,11 +141,12 @@ fn check_bytes<'a, R: Files + Eprint + AllocGlobal>(
 fn check_file<'a, R: Files + Input + Eprint + AllocGlobal>(
     rt: &R,
     map: Option<&Map>,
+    names: Option<&[Name]>,
     path: &'a str,
     seen: &mut Vec<SeenFile<'a>>,
 ) -> Result<Status, AllocError> {
     match get(rt, path) {
-        Ok(bytes) => check_bytes(rt, map, path, bytes.as_slice(), seen),
+        Ok(bytes) => check_bytes(rt, map, names, path, bytes.as_slice(), seen),
         Err(error) => {
             let status = tell_unread(rt, input_name(path), &error);
             add_seen(rt, path, &[], false, seen)?;
@@ -180,13 +183,14 @@ fn end_check<R: Print + Eprint>(rt: &R, seen: &[SeenFile<'_>], status: Status) -
 fn check_all<R: Files + Input + Print + Eprint + AllocGlobal>(
     rt: &R,
     map: Option<&Map>,
+    names: Option<&[Name]>,
     files: &[&str],
     first: Status,
 ) -> Status {
     let mut seen = Vec::new(rt.alloc());
     let mut status = first;
     'files: for file in files {
-        let Ok(one) = check_file(rt, map, file, &mut seen) else {
+        let Ok(one) = check_file(rt, map, names, file, &mut seen) else {
             return tell_no_memory(rt);
         };
         status = earlier(status, one);
@@ -194,18 +198,19 @@ fn check_all<R: Files + Input + Print + Eprint + AllocGlobal>(
     end_check(rt, seen.as_slice(), status)
 }
 
-/// Looks at files with a map of memory, whose regions are told before the order of the files.
+/// Looks at files with what a scenario says; the regions of its map are told before the order of the files.
 fn check_with<R: Files + Input + Print + Eprint + AllocGlobal>(
     rt: &R,
     name: &str,
-    map: &Map,
+    known: &Known,
     files: &[&str],
 ) -> Status {
-    let first = match tell_regions(rt, name, map) {
+    let first = match tell_regions(rt, name, &known.map) {
         Ok(()) => Status::Done,
         Err(error) => tell_unwritten(rt, output_name(None), &error),
     };
-    check_all(rt, Some(map), files, first)
+    let names = known_names(known);
+    check_all(rt, Some(&known.map), names, files, first)
 }
 
 /// Looks at files in their order, all of them, and tells this order at the end. The first status that isn't `Done` stands. Where the map of
@@ -215,10 +220,10 @@ pub fn check_files<R: Files + Input + Print + Eprint + AllocGlobal>(
     check: &Check<'_>,
 ) -> Status {
     let Some(path) = check.map else {
-        return check_all(rt, None, check.files, Status::Done);
+        return check_all(rt, None, None, check.files, Status::Done);
     };
     match read_map(rt, path) {
-        Ok(map) => check_with(rt, input_name(path), &map, check.files),
-        Err(status) => check_all(rt, None, check.files, status),
+        Ok(known) => check_with(rt, input_name(path), &known, check.files),
+        Err(status) => check_all(rt, None, None, check.files, status),
     }
 }

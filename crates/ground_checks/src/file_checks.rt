@@ -9,16 +9,26 @@ use crate::read_words::tell_read;
 use ground_faults::{PAYLOAD, tell_entry};
 use ground_files::{Status, tell_no_memory};
 use memory_window::Map;
-use packet_forms::behind;
+use packet_forms::{Name, behind};
 use row_forms::split_word;
 use std::alloc::AllocError;
 use table_files::{FileFault, FileImage, TableKind, read_file};
 use table_texts::next_line;
-use table_warnings::find_warnings;
+use table_warnings::{Warning, find_split_ranges, find_unknown_names, find_warnings};
 
-/// Tells what is odd in a table that is taken.
+/// Tells what is odd in a table.
+fn tell_warnings<R: Eprint>(rt: &R, name: &str, warnings: &[Warning]) {
+    for warning in warnings {
+        // There is no other place to tell it.
+        let _told = eprintln!(rt; "{name}: warning: {warning}");
+    }
+}
+
+/// Tells what is odd in a table that is taken, also by the names and the map that are known.
 fn warn_of_table<R: Eprint + AllocGlobal>(
     rt: &R,
+    map: Option<&Map>,
+    names: Option<&[Name]>,
     name: &str,
     file: &[u8],
 ) -> Result<(), AllocError> {
@@ -26,9 +36,14 @@ fn warn_of_table<R: Eprint + AllocGlobal>(
         return Ok(());
     };
     let warnings = find_warnings(rt.alloc(), kind, payload)?;
-    for warning in warnings.as_slice() {
-        // There is no other place to tell it.
-        let _told = eprintln!(rt; "{name}: warning: {warning}");
+    tell_warnings(rt, name, warnings.as_slice());
+    if let Some(names) = names {
+        let unknown = find_unknown_names(rt.alloc(), kind, names, payload)?;
+        tell_warnings(rt, name, unknown.as_slice());
+    }
+    if let Some(map) = map {
+        let split = find_split_ranges(rt.alloc(), kind, map, payload)?;
+        tell_warnings(rt, name, split.as_slice());
     }
     Ok(())
 }
@@ -143,6 +158,7 @@ fn status_taken<R: Eprint>(rt: &R, told: Result<(), AllocError>) -> Status
 pub(crate) fn tell_file<R: Eprint + AllocGlobal>(
     rt: &R,
     map: Option<&Map>,
+    names: Option<&[Name]>,
     name: &str,
     file: &[u8],
 ) -> Status
@@ -154,7 +170,7 @@ pub(crate) fn tell_file<R: Eprint + AllocGlobal>(
         return Status::NoMemory;
     };
     if faults.is_empty() {
-        let told = warn_of_table(rt, name, file);
+        let told = warn_of_table(rt, map, names, name, file);
         return status_taken(rt, told);
     }
     let told = tell_all(rt, map, name, file, faults.as_slice());

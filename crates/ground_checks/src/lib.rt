@@ -12,6 +12,7 @@ mod map_texts;
 mod order_warnings;
 mod read_faults;
 mod read_words;
+mod scenario_names;
 
 pub use checking::{Check, check_files};
 pub use finding::{FoundFault, find_faults};

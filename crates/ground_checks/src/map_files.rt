@@ -4,6 +4,7 @@ ghost use Rattle.std.specs.Prelude.{◌+◌, ◌<◌, ◌^◌, length};
 
 use crate::book_checks::{is_book, tell_unread_book};
 use crate::map_texts::{MapFault, scenario_map};
+use crate::scenario_names::{Known, known_of};
 use ground_faults::key_in_plan;
 use ground_files::{Status, get, input_name, tell_no_memory, tell_unread};
 use ground_runs::line_cause;
@@ -11,7 +12,7 @@ use load_books::{book_forms, read_book};
 use memory_window::Map;
 use packet_forms::{behind, front};
 use plan_text::{PlanError, PlanFault};
-use std::alloc::Global;
+use std::alloc::{AllocError, Global};
 use std::rt::Files;
 use std::str::from_utf8;
 use telecommands::commands;
@@ -33,14 +34,22 @@ enum TextFault {
     Memory,
 }
 
+/// What a text says, unless memory ended.
+fn as_known(known: Result<Known, AllocError>) -> Result<Known, TextFault> {
+    match known {
+        Ok(known) => Ok(known),
+        Err(_) => Err(TextFault::Memory),
+    }
+}
+
 /// The map of a plan, where its header isn't a scenario's: its epoch is a date. `line` and `reason` are what is wrong with it as a scenario's.
-fn plan_map(alloc: Global, text: &[u8], line: u32, reason: u8) -> Result<Map, TextFault> {
+fn plan_map(alloc: Global, text: &[u8], line: u32, reason: u8) -> Result<Known, TextFault> {
     if text.len() > MOST_TEXT {
         return Err(TextFault::Line { line, reason });
     }
     match schedule_plan(alloc, commands(), text) {
         Ok(scenario) => match scenario_map(alloc, scenario.as_slice()) {
-            Ok(map) => Ok(map),
+            Ok(map) => as_known(known_of(alloc, map, scenario.as_slice())),
             Err(MapFault::Line { line, reason }) => Err(TextFault::Line { line, reason }),
             Err(MapFault::Memory) => Err(TextFault::Memory),
         },
@@ -52,9 +61,9 @@ fn plan_map(alloc: Global, text: &[u8], line: u32, reason: u8) -> Result<Map, Te
 }
 
 /// The map of a scenario or a plan.
-fn text_map(alloc: Global, text: &[u8]) -> Result<Map, TextFault> {
+fn text_map(alloc: Global, text: &[u8]) -> Result<Known, TextFault> {
     match scenario_map(alloc, text) {
-        Ok(map) => Ok(map),
+        Ok(map) => as_known(known_of(alloc, map, text)),
         Err(MapFault::Line { line, reason }) => plan_map(alloc, text, line, reason),
         Err(MapFault::Memory) => Err(TextFault::Memory),
     }
@@ -109,7 +118,7 @@ fn tell_text<R: Eprint>(rt: &R, name: &str, text: &[u8], fault: TextFault) -> St
 }
 
 /// The map of a book's plan, or the status, once it was told why there is none.
-fn book_map<R: Eprint + AllocGlobal>(rt: &R, name: &str, text: &[u8]) -> Result<Map, Status>
+fn book_map<R: Eprint + AllocGlobal>(rt: &R, name: &str, text: &[u8]) -> Result<Known, Status>
     requires { 1 + length text.now < 2 ^ 32 }
 {
     let book = match read_book(rt.alloc(), &book_forms(), text) {
@@ -117,7 +126,10 @@ fn book_map<R: Eprint + AllocGlobal>(rt: &R, name: &str, text: &[u8]) -> Result<
         Err(error) => return Err(tell_unread_book(rt, name, text, &error)),
     };
     match scenario_map(rt.alloc(), book.scenario.as_slice()) {
-        Ok(map) => Ok(map),
+        Ok(map) => match known_of(rt.alloc(), map, book.scenario.as_slice()) {
+            Ok(known) => Ok(known),
+            Err(_) => Err(tell_no_memory(rt)),
+        },
         Err(MapFault::Line { line, reason }) => {
             Err(tell_line(rt, name, book.scenario.as_slice(), line, reason))
         }
@@ -125,11 +137,11 @@ fn book_map<R: Eprint + AllocGlobal>(rt: &R, name: &str, text: &[u8]) -> Result<
     }
 }
 
-/// The map of memory of a scenario, a plan or a book, or the status, once it was told why there is none.
+/// The map of memory of a scenario, a plan or a book and the names that it knows, or the status, once it was told why there is none.
 pub(crate) fn read_map<R: Files + Input + Eprint + AllocGlobal>(
     rt: &R,
     path: &str,
-) -> Result<Map, Status> {
+) -> Result<Known, Status> {
     let name = input_name(path);
     let text = match get(rt, path) {
         Ok(text) => text,
@@ -140,7 +152,7 @@ pub(crate) fn read_map<R: Files + Input + Eprint + AllocGlobal>(
         return book_map(rt, name, text);
     }
     match text_map(rt.alloc(), text) {
-        Ok(map) => Ok(map),
+        Ok(known) => Ok(known),
         Err(fault) => Err(tell_text(rt, name, text, fault)),
     }
 }

@@ -1,7 +1,11 @@
 //! What is told of tables, by the rules of docs/FILES.md and docs/COMMANDS.md.
+ghost use Rattle.std.specs.Prelude.{◌<◌};
+
+use memory_window::{Kind, Map, Region};
+use packet_forms::Name;
 use std::test::Fail;
 use table_files::TableKind;
-use table_warnings::{Place, Warning, find_warnings};
+use table_warnings::{Place, Warning, find_split_ranges, find_unknown_names, find_warnings};
 
 /// A packet of Stored Command of this code and number, behind the seconds of a relative sequence.
 fn started(seconds: u8, code: u8, number: u8) -> [u8; 12] {
@@ -81,5 +85,66 @@ fn a_command_behind_the_end_is_told(rt: HostRuntime) -> Result<(), Fail> {
         warnings.as_slice(),
         [Warning::BehindEnd(Place::Number(7))].as_slice()
     );
+    Ok(())
+}
+
+/// Places a name and the two numbers behind it in the entry in a place of a table of monitors.
+fn place_monitor(payload: &mut [u8; 768], place: usize, name: &[u8; 3], cycles: u8, action: u8)
+    requires { place < 32 }
+{
+    let start = 24 * place;
+    payload[start] = name[0];
+    payload[start + 1] = name[1];
+    payload[start + 2] = name[2];
+    payload[start + 21] = cycles;
+    payload[start + 23] = action;
+}
+
+#[test]
+fn a_name_that_nobody_has_is_told(rt: HostRuntime) -> Result<(), Fail> {
+    let mut payload = [0u8; 768];
+    place_monitor(&mut payload, 0, b"NAV", 3, 2);
+    place_monitor(&mut payload, 1, b"CS\0", 3, 2);
+    place_monitor(&mut payload, 2, b"TBL", 3, 2);
+    place_monitor(&mut payload, 3, b"NA_", 3, 2);
+    place_monitor(&mut payload, 4, b"nav", 0, 2);
+    let known = Name::from_text("NAV").ok_or("no name")?;
+    let sender = Name::from_text("TBL").ok_or("no name")?;
+    let other = Name::from_text("NA_").ok_or("no name")?;
+    let warnings = find_unknown_names(
+        rt.alloc(),
+        TableKind::AppMon,
+        [known].as_slice(),
+        payload.as_slice(),
+    )?;
+    assert_eq!(rt;
+        warnings.as_slice(),
+        [Warning::Unknown(3, sender), Warning::Unknown(4, other)].as_slice()
+    );
+    Ok(())
+}
+
+#[test]
+fn a_range_over_two_regions_is_told(rt: HostRuntime) -> Result<(), Fail> {
+    let first = Region {
+        kind: Kind::Ram,
+        start: 0x1000,
+        len: 256,
+    };
+    let second = Region {
+        kind: Kind::Eeprom,
+        start: 0x1100,
+        len: 256,
+    };
+    let map = Map::new(&[first, second])?;
+    let mut payload = [0u8; 192];
+    payload[6] = 0x10;
+    payload[7] = 0xFF;
+    payload[11] = 2;
+    payload[18] = 0x10;
+    payload[19] = 0xFF;
+    payload[23] = 1;
+    let warnings = find_split_ranges(rt.alloc(), TableKind::Eeprom, &map, payload.as_slice())?;
+    assert_eq!(rt; warnings.as_slice(), [Warning::Split(1)].as_slice());
     Ok(())
 }
