@@ -1,0 +1,4 @@
+pub mod Words
+pub mod Found
+pub mod Commands
+pub mod Worked
