@@ -1,0 +1,99 @@
+//! Warnings of tables, in words.
+
+use crate::warning_lines::warning_line;
+use memory_window::Map;
+use packet_forms::Name;
+use std::alloc::AllocError;
+use table_files::{FileImage, read_file};
+use table_warnings::{Warning, find_split_ranges, find_unknown_names, find_warnings};
+
+/// The most bytes of a text: lines are counted in 32 bits.
+const MOST_TEXT: usize = 4_294_967_294;
+
+/// The text of a table: the name of the file in which it stands, how many lines stand in front of it there, and its bytes.
+#[derive(Clone, Copy, Debug)]
+pub struct PlacedText<'a> {
+    pub name: &'a str,
+    pub before: u32,
+    pub text: &'a [u8],
+}
+
+/// The number of the line at which a warning is told, counted in the file.
+fn line_number(placed: &PlacedText<'_>, warning: Warning) -> Option<u32> {
+    if placed.text.len() > MOST_TEXT {
+        return None;
+    }
+    match warning_line(warning, placed.text) {
+        Some(line) => Some(placed.before.saturating_add(line.number)),
+        None => None,
+    }
+}
+
+/// Tells a warning of a table's text with its line.
+fn tell_at_line<R: Eprint>(rt: &R, placed: &PlacedText<'_>, warning: Warning) {
+    let name = placed.name;
+    // There is no other place to tell it.
+    let _told = match line_number(placed, warning) {
+        Some(number) => eprintln!(rt; "{name}: line {number}: warning: {warning}"),
+        None => eprintln!(rt; "{name}: warning: {warning}"),
+    };
+}
+
+/// Tells warnings of a table: with the lines of its text, where it has one, and else by the name of its file.
+fn tell_warnings<R: Eprint>(
+    rt: &R,
+    name: &str,
+    placed: Option<PlacedText<'_>>,
+    warnings: &[Warning],
+) {
+    for warning in warnings {
+        match placed {
+            Some(placed) => tell_at_line(rt, &placed, *warning),
+            None => {
+                // There is no other place to tell it.
+                let _told = eprintln!(rt; "{name}: warning: {warning}");
+            }
+        }
+    }
+}
+
+/// Tells what is odd in a table's file, also by the names and the map of a scenario where these are known: with the lines of the table's text,
+/// where it has one, and else by the name of the file. Of other files nothing is told.
+pub fn warn_of_table<R: Eprint + AllocGlobal>(
+    rt: &R,
+    map: Option<&Map>,
+    names: Option<&[Name]>,
+    name: &str,
+    placed: Option<PlacedText<'_>>,
+    file: &[u8],
+) -> Result<(), AllocError> {
+    let Ok(FileImage::Table { kind, payload }) = read_file(file) else {
+        return Ok(());
+    };
+    let warnings = find_warnings(rt.alloc(), kind, payload)?;
+    tell_warnings(rt, name, placed, warnings.as_slice());
+    if let Some(names) = names {
+        let unknown = find_unknown_names(rt.alloc(), kind, names, payload)?;
+        tell_warnings(rt, name, placed, unknown.as_slice());
+    }
+    if let Some(map) = map {
+        let split = find_split_ranges(rt.alloc(), kind, map, payload)?;
+        tell_warnings(rt, name, placed, split.as_slice());
+    }
+    Ok(())
+}
+
+/// Tells what is odd in the file that was made of a table's text, with the lines of the text; no scenario is known.
+pub fn warn_of_text<R: Eprint + AllocGlobal>(
+    rt: &R,
+    name: &str,
+    text: &[u8],
+    file: &[u8],
+) -> Result<(), AllocError> {
+    let placed = PlacedText {
+        name,
+        before: 0,
+        text,
+    };
+    warn_of_table(rt, None, None, name, Some(placed), file)
+}
