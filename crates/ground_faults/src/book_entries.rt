@@ -1,7 +1,7 @@
 //! Refused entries of the tables in a book, in words and with the line of the book.
 
 use crate::book_parts::{PartText, part_texts};
-use crate::entry_lines::{SaidLine, said_entry};
+use crate::said_entries::{MOST_TEXT, said_entry};
 use crate::telling::tell_entry;
 use crate::wanted_keys::key_in_book;
 use ground_files::{Status, tell_no_memory};
@@ -9,12 +9,10 @@ use load_books::{BookFault, book_forms};
 use std::alloc::{AllocError, Global};
 use table_files::{EntryFault, TableKind};
 use table_forms::{ReadError, TableFault, TextForms, read_table};
+use table_texts::Line;
 
 /// What a table's times are counted from, where it is only asked whether its entries are refused: no reason speaks of a time.
 const EPOCH: u32 = 0;
-
-/// The most bytes of a table's text: lines are counted in 32 bits.
-const MOST_TEXT: usize = 4_294_967_294;
 
 /// The most faults of one text: each is one of its commands or entries.
 const MOST_FAULTS: u32 = 65_536;
@@ -55,7 +53,7 @@ fn tell_part_entry<R: Eprint + AllocGlobal>(
     rt: &R,
     name: &str,
     part: u32,
-    line: Option<SaidLine<'_>>,
+    line: Option<Line<'_>>,
     payload: &[u8],
     refused: RefusedEntry,
 ) -> Result<(), AllocError> {
@@ -100,6 +98,16 @@ struct LinePlace {
     size: usize,
 }
 
+/// Where a line of a text stands, behind which another one stands.
+fn place_of(text: &[u8], line: &Line<'_>) -> LinePlace {
+    let size = line.bytes.len();
+    let behind = line.rest.len().saturating_add(1).saturating_add(size);
+    LinePlace {
+        start: text.len().saturating_sub(behind),
+        size,
+    }
+}
+
 /// Tells a refused entry of a part's text, and answers where its line stands, if that is known.
 fn tell_refused<R: Eprint + AllocGlobal>(
     rt: &R,
@@ -117,10 +125,7 @@ fn tell_refused<R: Eprint + AllocGlobal>(
     };
     tell_part_entry(rt, name, part, said.line, said.payload.as_slice(), refused)?;
     match said.line {
-        Some(line) => Ok(Some(LinePlace {
-            start: line.start,
-            size: line.bytes.len(),
-        })),
+        Some(line) => Ok(Some(place_of(text, &line))),
         None => Ok(None),
     }
 }

@@ -4,11 +4,12 @@
 mod book_entries;
 mod book_parts;
 mod entry_faults;
-mod entry_lines;
+mod said_entries;
 mod telling;
 mod wanted_keys;
 
 pub use book_entries::{tell_book, tell_book_fault};
+pub use book_parts::{PartText, part_texts};
 pub use entry_faults::{PAYLOAD, blank_entry, clear_faults};
 pub use telling::{tell_entries, tell_entry, tell_said};
 pub use wanted_keys::{key_in_book, key_in_load, key_in_plan, key_in_table};

@@ -1,7 +1,7 @@
 //! Refused entries of tables and of their texts, in words.
 
 use crate::entry_faults::{PAYLOAD, clear_faults};
-use crate::entry_lines::said_entry;
+use crate::said_entries::said_entry;
 use packet_forms::behind;
 use std::alloc::AllocError;
 use std::str::from_utf8;

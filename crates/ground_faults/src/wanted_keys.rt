@@ -2,7 +2,7 @@
 
 ghost use Rattle.std.specs.Prelude.{◌<◌, ◌+◌, ◌^◌, length};
 
-use crate::entry_lines::fields_of;
+use crate::said_entries::{MOST_TEXT, fields_of};
 use load_books::BookFault;
 use load_texts::{LoadFault, header_fields};
 use plan_text::{PlanFault, PlanReason};
@@ -11,9 +11,6 @@ use table_files::TableKind;
 use table_forms::{TableFault, table_kind, table_layouts};
 use table_texts::{LineFault, TextFault, next_line};
 use telecommands::{Command, CommandFault, commands};
-
-/// The most bytes of a text: lines are counted in 32 bits.
-const MOST_TEXT: usize = 4_294_967_294;
 
 /// A word that has another key than the one that is wanted there, by the numbers of its line and of the word in it.
 #[derive(Clone, Copy, Debug)]
