@@ -10,6 +10,7 @@ use ground_files::{
     Status, get, input_name, output_name, put, tell_replaced, tell_unread, tell_unwritten,
     would_replace,
 };
+use ground_warnings::warn_of_text;
 use load_texts::{asked_file, is_load_text};
 use std::rt::Files;
 
@@ -85,6 +86,13 @@ fn tell_shown<R: Eprint + AllocGlobal>(rt: &R, wanted: &Wanted<'_>, file: &[u8])
     }
 }
 
+/// Tells what is odd in a table whose file was made of its text.
+fn warn_of_made<R: Eprint + AllocGlobal>(rt: &R, wanted: &Wanted<'_>, text: &[u8], made: &[u8]) {
+    if wanted.making == Making::Table {
+        let _told = warn_of_text(rt, input_name(wanted.file), text, made);
+    }
+}
+
 /// What is made of bytes, or the status, once it was told why nothing is.
 pub(crate) fn made_of<R: Eprint + AllocGlobal>(
     rt: &R,
@@ -94,6 +102,7 @@ pub(crate) fn made_of<R: Eprint + AllocGlobal>(
     match wanted.making.make(rt.alloc(), wanted.epoch, bytes) {
         Ok(made) => {
             tell_shown(rt, wanted, bytes);
+            warn_of_made(rt, wanted, bytes, made.as_slice());
             Ok(made)
         }
         Err(refusal) => Err(tell_unmade(rt, wanted, bytes, &refusal)),

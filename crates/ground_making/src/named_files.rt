@@ -5,9 +5,13 @@ use ground_files::{Status, input_name, is_stream, tell_no_memory, tell_replaced,
 use load_texts::NamedFile;
 use std::alloc::{AllocError, Global};
 use std::fs;
+use std::io::{self, Read};
 use std::path::Path;
 use std::rt::Files;
 use std::str::from_utf8;
+
+/// How many bytes can be loaded from a file.
+const MOST_LOADED: usize = 65_536;
 
 /// A path as a text names it: from the folder of the text on, and from the current one where the text is standard input.
 fn path_beside(alloc: Global, text: &str, path: &str) -> Result<String, AllocError> {
@@ -18,6 +22,14 @@ fn path_beside(alloc: Global, text: &str, path: &str) -> Result<String, AllocErr
         Some(folder) => Ok(folder.join(alloc, path)?.into_string()),
         None => String::from_str(alloc, path),
     }
+}
+
+/// The bytes of a file, and of one that is too long to be loaded one byte more than can be.
+fn read_few<R: Files + AllocGlobal>(rt: &R, path: &str) -> io::Result<Vec<u8>> {
+    let mut bytes = Vec::new(rt.alloc());
+    let mut file = fs::open(rt, path)?.take(MOST_LOADED as u64 + 1);
+    file.read_to_end(&mut bytes)?;
+    Ok(bytes)
 }
 
 /// Reads a file that the line of a text asks for.
@@ -31,10 +43,17 @@ fn read_path<R: Files + Eprint + AllocGlobal>(
         tell_replaced(rt, wanted.path);
         return Err(Status::WordsRefused);
     }
-    match fs::read(rt, path) {
-        Ok(bytes) => Ok(bytes),
+    let name = input_name(wanted.file);
+    match read_few(rt, path) {
+        Ok(bytes) if bytes.len() <= MOST_LOADED => Ok(bytes),
+        Ok(_) => {
+            // There is no other place to tell it.
+            let _told = eprintln!(rt;
+                "{name}: line {line}: {path} has over {MOST_LOADED} bytes, and no more can be loaded"
+            );
+            Err(Status::FileRefused)
+        }
         Err(error) => {
-            let name = input_name(wanted.file);
             let _told = eprintln!(rt; "{name}: line {line}: {path} can't be read: {error}");
             Err(Status::ReadFailed)
         }
