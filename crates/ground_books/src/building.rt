@@ -1,6 +1,7 @@
 //! The verb that writes the files of a book.
 
 use crate::book_files::{BuiltFile, built_files};
+use ground_checks::warn_of_book;
 use ground_files::{
     PartFile, Status, get, input_name, is_stream, tell_no_memory, tell_replaced, tell_unread,
     tell_unwritten, would_replace,
@@ -163,8 +164,22 @@ fn built(alloc: Global, text: &[u8]) -> Result<Vec<BuiltFile>, Refusal> {
     }
 }
 
+/// Tells what is odd in the tables of a book, and then writes its files.
+fn write_book<R: Files + Eprint + AllocGlobal>(
+    rt: &R,
+    build: &Build<'_>,
+    text: &[u8],
+    files: Vec<BuiltFile>,
+) -> Status {
+    match warn_of_book(rt, input_name(build.book), text) {
+        Status::Done => fill_folder(rt, build, files),
+        status => status,
+    }
+}
+
 /// Writes the files of a book into a folder, which is made where it isn't there: `NAME.table` and `NAME.load` for its parts,
-/// `BOOKNAME.scenario` and `BOOKNAME.manifest`. Where the book is refused, or one of them would be written over it, none is written.
+/// `BOOKNAME.scenario` and `BOOKNAME.manifest`; and tells what is odd in its tables, which changes no status. Where the book is refused, or
+/// one of the files would be written over it, none is written.
 pub fn build_book<R: Files + Input + Eprint + AllocGlobal>(rt: &R, build: &Build<'_>) -> Status {
     let name = input_name(build.book);
     if build.folder.is_some_and(is_stream) {
@@ -176,7 +191,7 @@ pub fn build_book<R: Files + Input + Eprint + AllocGlobal>(rt: &R, build: &Build
         Err(error) => return tell_unread(rt, name, &error),
     };
     match built(rt.alloc(), text.as_slice()) {
-        Ok(files) => fill_folder(rt, build, files),
+        Ok(files) => write_book(rt, build, text.as_slice(), files),
         Err(refusal) => tell_refusal(rt, name, text.as_slice(), &refusal),
     }
 }

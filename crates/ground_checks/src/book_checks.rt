@@ -9,10 +9,11 @@ use crate::file_order::{SeenFile, warn_of_place};
 use crate::map_files::MOST_TEXT;
 use crate::map_texts::scenario_map;
 use crate::scenario_names::{Known, known_names, known_of};
-use ground_faults::tell_book;
+use ground_faults::{PartText, part_texts, tell_book};
 use ground_files::{Status, tell_no_memory};
+use ground_warnings::{PlacedText, warn_of_table};
 use load_books::{Book, BookError, BookFile, book_forms, is_book_text, read_book};
-use std::alloc::AllocError;
+use std::alloc::{AllocError, Global};
 use std::str::from_utf8;
 
 /// Whether bytes are the text of a book, and no more than one has.
@@ -36,10 +37,68 @@ pub(crate) fn tell_unread_book<R: Eprint + AllocGlobal>(
     }
 }
 
+/// A book that is looked at: its files, the texts of its parts, and what its plan says.
+#[derive(Drop)]
+struct LookedBook<'a> {
+    book: Book<'a>,
+    parts: Vec<PartText<'a>>,
+    known: Known,
+}
+
+/// A book with what its plan says.
+fn with_plan<'a>(
+    alloc: Global,
+    book: Book<'a>,
+    text: &'a [u8],
+) -> Result<LookedBook<'a>, AllocError> {
+    let Ok(map) = scenario_map(alloc, book.scenario.as_slice()) else {
+        return Err(AllocError);
+    };
+    let known = known_of(alloc, map, book.scenario.as_slice())?;
+    let parts = part_texts(alloc, text)?;
+    Ok(LookedBook { book, parts, known })
+}
+
+/// A book that is looked at, or the status, once it was told why it is refused.
+fn looked_book<'a, R: Eprint + AllocGlobal>(
+    rt: &R,
+    name: &str,
+    text: &'a [u8],
+) -> Result<LookedBook<'a>, Status>
+    requires { 1 + length text.now < 2 ^ 32 }
+{
+    let book = match read_book(rt.alloc(), &book_forms(), text) {
+        Ok(book) => book,
+        Err(error) => return Err(tell_unread_book(rt, name, text, &error)),
+    };
+    match with_plan(rt.alloc(), book, text) {
+        Ok(looked) => Ok(looked),
+        Err(_) => Err(tell_no_memory(rt)),
+    }
+}
+
+/// The text of a file in the book of this name.
+fn text_of<'b>(
+    name: &'b str,
+    parts: &[PartText<'b>],
+    file: &BookFile<'_>,
+) -> Option<PlacedText<'b>> {
+    for part in parts {
+        if part.name == file.name {
+            return Some(PlacedText {
+                name,
+                before: part.line,
+                text: part.text,
+            });
+        }
+    }
+    None
+}
+
 /// Looks at a file of a book, with the map of its own plan, and at its place behind others.
 fn tell_part_file<'a, R: Eprint + AllocGlobal>(
     rt: &R,
-    known: &Known,
+    looked: &LookedBook<'_>,
     name: &str,
     file: &'a BookFile<'_>,
     seen: &mut Vec<SeenFile<'a>>,
@@ -47,8 +106,16 @@ fn tell_part_file<'a, R: Eprint + AllocGlobal>(
     let part = from_utf8(file.name).unwrap_or("");
     let title = format!(in rt.alloc(); "{name}: {part}")?;
     let bytes = file.bytes.as_slice();
-    let names = known_names(known);
-    let status = tell_file(rt, Some(&known.map), names, title.as_str(), bytes);
+    let names = known_names(&looked.known);
+    let placed = text_of(name, looked.parts.as_slice(), file);
+    let status = tell_file(
+        rt,
+        Some(&looked.known.map),
+        names,
+        title.as_str(),
+        placed,
+        bytes,
+    );
     let is_taken = status == Status::Done;
     let place = String::from_str(rt.alloc(), part)?;
     let one = seen_at(rt.alloc(), part, place, bytes, is_taken)?;
@@ -62,14 +129,14 @@ fn tell_part_file<'a, R: Eprint + AllocGlobal>(
 /// Looks at the files of a book, with the map of its own plan. The first status that isn't `Done` stands.
 fn tell_files<R: Eprint + AllocGlobal>(
     rt: &R,
-    known: &Known,
+    looked: &LookedBook<'_>,
     name: &str,
-    book: &Book<'_>,
 ) -> Result<Status, AllocError> {
+    let files = looked.book.files.as_slice();
     let mut seen = Vec::new(rt.alloc());
-    let mut status = tell_count(rt, name, book.files.len());
-    'files: for file in book.files.as_slice() {
-        let one = tell_part_file(rt, known, name, file, &mut seen)?;
+    let mut status = tell_count(rt, name, files.len());
+    'files: for file in files {
+        let one = tell_part_file(rt, looked, name, file, &mut seen)?;
         status = earlier(status, one);
     }
     Ok(status)
@@ -79,18 +146,43 @@ fn tell_files<R: Eprint + AllocGlobal>(
 pub(crate) fn tell_book_file<R: Eprint + AllocGlobal>(rt: &R, name: &str, text: &[u8]) -> Status
     requires { 1 + length text.now < 2 ^ 32 }
 {
-    let book = match read_book(rt.alloc(), &book_forms(), text) {
-        Ok(book) => book,
-        Err(error) => return tell_unread_book(rt, name, text, &error),
+    let looked = match looked_book(rt, name, text) {
+        Ok(looked) => looked,
+        Err(status) => return status,
     };
-    let Ok(map) = scenario_map(rt.alloc(), book.scenario.as_slice()) else {
-        return tell_no_memory(rt);
-    };
-    let Ok(known) = known_of(rt.alloc(), map, book.scenario.as_slice()) else {
-        return tell_no_memory(rt);
-    };
-    match tell_files(rt, &known, name, &book) {
+    match tell_files(rt, &looked, name) {
         Ok(status) => status,
+        Err(_) => tell_no_memory(rt),
+    }
+}
+
+/// Tells what is odd in the tables of a book.
+fn warn_of_files<R: Eprint + AllocGlobal>(
+    rt: &R,
+    looked: &LookedBook<'_>,
+    name: &str,
+) -> Result<(), AllocError> {
+    let map = Some(&looked.known.map);
+    let names = known_names(&looked.known);
+    'files: for file in looked.book.files.as_slice() {
+        let placed = text_of(name, looked.parts.as_slice(), file);
+        warn_of_table(rt, map, names, name, placed, file.bytes.as_slice())?;
+    }
+    Ok(())
+}
+
+/// Tells what is odd in the tables of a book, with its lines and by its own plan, whatever the memory of the plan gives; and why it is refused,
+/// where it is. Which of its tables stand by isn't told.
+pub fn warn_of_book<R: Eprint + AllocGlobal>(rt: &R, name: &str, text: &[u8]) -> Status {
+    if !is_book(text) {
+        return Status::Done;
+    }
+    let looked = match looked_book(rt, name, text) {
+        Ok(looked) => looked,
+        Err(status) => return status,
+    };
+    match warn_of_files(rt, &looked, name) {
+        Ok(()) => Status::Done,
         Err(_) => tell_no_memory(rt),
     }
 }

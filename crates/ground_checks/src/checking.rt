@@ -132,7 +132,7 @@ fn check_bytes<'a, R: Files + Eprint + AllocGlobal>(
     if is_book(bytes) {
         return Ok(tell_book_file(rt, name, bytes));
     }
-    let status = tell_file(rt, map, names, name, bytes);
+    let status = tell_file(rt, map, names, name, None, bytes);
     add_seen(rt, path, bytes, status == Status::Done, seen)?;
     Ok(status)
 }

@@ -8,45 +8,13 @@ use crate::read_faults::MOST_BYTES;
 use crate::read_words::tell_read;
 use ground_faults::{PAYLOAD, tell_entry};
 use ground_files::{Status, tell_no_memory};
+use ground_warnings::{PlacedText, warn_of_table};
 use memory_window::Map;
 use packet_forms::{Name, behind};
 use row_forms::split_word;
 use std::alloc::AllocError;
 use table_files::{FileFault, FileImage, TableKind, read_file};
 use table_texts::next_line;
-use table_warnings::{Warning, find_split_ranges, find_unknown_names, find_warnings};
-
-/// Tells what is odd in a table.
-fn tell_warnings<R: Eprint>(rt: &R, name: &str, warnings: &[Warning]) {
-    for warning in warnings {
-        // There is no other place to tell it.
-        let _told = eprintln!(rt; "{name}: warning: {warning}");
-    }
-}
-
-/// Tells what is odd in a table that is taken, also by the names and the map that are known.
-fn warn_of_table<R: Eprint + AllocGlobal>(
-    rt: &R,
-    map: Option<&Map>,
-    names: Option<&[Name]>,
-    name: &str,
-    file: &[u8],
-) -> Result<(), AllocError> {
-    let Ok(FileImage::Table { kind, payload }) = read_file(file) else {
-        return Ok(());
-    };
-    let warnings = find_warnings(rt.alloc(), kind, payload)?;
-    tell_warnings(rt, name, warnings.as_slice());
-    if let Some(names) = names {
-        let unknown = find_unknown_names(rt.alloc(), kind, names, payload)?;
-        tell_warnings(rt, name, unknown.as_slice());
-    }
-    if let Some(map) = map {
-        let split = find_split_ranges(rt.alloc(), kind, map, payload)?;
-        tell_warnings(rt, name, split.as_slice());
-    }
-    Ok(())
-}
 
 /// What a text is that was given in the place of a file; none where it isn't one.
 fn text_hint(file: &[u8]) -> Option<&'static str> {
@@ -152,14 +120,15 @@ fn status_taken<R: Eprint>(rt: &R, told: Result<(), AllocError>) -> Status
     }
 }
 
-/// Tells why a file is refused, or what is odd in it. It is `Done` only where the program takes the file, and `FileRefused` only where it
-/// doesn't.
+/// Tells why a file is refused, or what is odd in it, with the lines of its text where it has one. It is `Done` only where the program takes
+/// the file, and `FileRefused` only where it doesn't.
 #[tactic(auto, using(crate::proofs::FoundLemmas::nothing_found, crate::proofs::FoundLemmas::something_found))]
 pub(crate) fn tell_file<R: Eprint + AllocGlobal>(
     rt: &R,
     map: Option<&Map>,
     names: Option<&[Name]>,
     name: &str,
+    placed: Option<PlacedText<'_>>,
     file: &[u8],
 ) -> Status
     ensures taken { result ≡ Status.Done → fault_of (option_map (λ known. known.now) map.entry) file.now ≡ None }
@@ -170,7 +139,7 @@ pub(crate) fn tell_file<R: Eprint + AllocGlobal>(
         return Status::NoMemory;
     };
     if faults.is_empty() {
-        let told = warn_of_table(rt, map, names, name, file);
+        let told = warn_of_table(rt, map, names, name, placed, file);
         return status_taken(rt, told);
     }
     let told = tell_all(rt, map, name, file, faults.as_slice());

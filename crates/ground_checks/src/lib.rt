@@ -14,6 +14,7 @@ mod read_faults;
 mod read_words;
 mod scenario_names;
 
+pub use book_checks::warn_of_book;
 pub use checking::{Check, check_files};
 pub use finding::{FoundFault, find_faults};
 pub use map_texts::{MapFault, scenario_map};
