@@ -14,11 +14,13 @@ use Rattle.hs_tables.specs.Actions.{entry_of}
 use Rattle.hs_tables.specs.declared.actions.ActRow.{ActRow}
 use Rattle.hs_tables.specs.declared.actions.ActEntry.{ActEntry}
 use Rattle.hs_actions.specs.Outcomes.{act_at}
-use Rattle.hs_actions.specs.Items.{hs_name, event_base, event_out, report_items, message_items, performed}
+use Rattle.hs_actions.specs.Messages.{hs_name, event_base, event_place}
+use Rattle.hs_actions.specs.Answers.{event_out, report_items, message_items, performed}
 use Rattle.hs_actions.specs.declared.action.Action.{Action}
 use Rattle.hs_actions.specs.declared.action.Action.TheVariants.{Reset, Restart, Report, Message}
 use Rattle.hs_actions.specs.declared.action.Source.{Source}
 use Rattle.hs_actions.specs.declared.action.Source.TheVariants.{AppMonitor, EventMonitor}
+use Rattle.hs_actions.specs.declared.messages.Event.TheVariants.{ResetAsked, RestartAsked, Reported, MessageSent, NoResetLeft}
 
 -- an item that needs no count or has one
 abbrev Passes : Out → Type 0
@@ -41,18 +43,18 @@ message_passes : (time : ℕ) (source : Source) (found : Option ActEntry) → Al
 message_passes time source None = none
 message_passes time source (Some entry) = by_state (entry.state == 2)
   where
-    by_state : (quiet : Bool) → All Passes (outs.Stored entry.packet ∷ cond quiet [] (event_out time source 4 ∷ []))
+    by_state : (quiet : Bool) → All Passes (outs.Stored entry.packet ∷ cond quiet [] (event_out time source (event_place MessageSent) ∷ []))
     by_state true = one (outs.Stored entry.packet) refl
-    by_state false = two (outs.Stored entry.packet) (event_out time source 4) refl (event_passes time source 4)
+    by_state false = two (outs.Stored entry.packet) (event_out time source (event_place MessageSent)) refl (event_passes time source (event_place MessageSent))
 
 report_passes : (time : ℕ) (source : Source) (name : List ℕ) → All Passes (report_items time source name)
-report_passes time AppMonitor name = one (event_out time AppMonitor 3) (event_passes time AppMonitor 3)
-report_passes time EventMonitor name = two (event_out time EventMonitor 3) (outs.Delete name) (event_passes time EventMonitor 3) refl
+report_passes time AppMonitor name = one (event_out time AppMonitor (event_place Reported)) (event_passes time AppMonitor (event_place Reported))
+report_passes time EventMonitor name = two (event_out time EventMonitor (event_place Reported)) (outs.Delete name) (event_passes time EventMonitor (event_place Reported)) refl
 
 performed_passes : (time : ℕ) (acts : List ActRow) (source : Source) (name : List ℕ) (action : Action) (went : Bool) → All Passes (performed time acts source name action went)
-performed_passes time acts source name Reset true = two (event_out time source 1) outs.Reset (event_passes time source 1) refl
-performed_passes time acts source name Reset false = one (event_out time source 5) (event_passes time source 5)
-performed_passes time acts source name Restart went = two (event_out time source 2) (outs.Restart name) (event_passes time source 2) refl
+performed_passes time acts source name Reset true = two (event_out time source (event_place ResetAsked)) outs.Reset (event_passes time source (event_place ResetAsked)) refl
+performed_passes time acts source name Reset false = one (event_out time source (event_place NoResetLeft)) (event_passes time source (event_place NoResetLeft))
+performed_passes time acts source name Restart went = two (event_out time source (event_place RestartAsked)) (outs.Restart name) (event_passes time source (event_place RestartAsked)) refl
 performed_passes time acts source name Report went = report_passes time source name
 performed_passes time acts source name (Message place) true = message_passes time source (entry_of (act_at acts place))
 performed_passes time acts source name (Message place) false = none

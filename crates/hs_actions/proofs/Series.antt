@@ -11,7 +11,7 @@ use Rattle.hs_tables.specs.declared.actions.ActRow.{ActRow}
 use Rattle.hs_actions.specs.Happenings.{Happening, Attempt, action_of, attempt_by}
 use Rattle.hs_actions.specs.Happenings.Happening.{Attempts}
 use Rattle.hs_actions.specs.Outcomes.{Past, with_more, goes_after}
-use Rattle.hs_actions.specs.Items.{performed, happening_items, items_of}
+use Rattle.hs_actions.specs.Answers.{performed, happening_items, items_of}
 use Rattle.hs_actions.specs.State.{ActionsStand}
 use Rattle.hs_actions.specs.Performs.{Performs}
 use Rattle.hs_actions.specs.declared.action.Action.{Action}
@@ -92,7 +92,7 @@ module _ (acts : List ActRow) (time : ℕ) where
         ∙ sym (ap (adding before) (items_both time acts past (first k) (second k)));
   }
 
-  -- the same, written in another way
+  -- what happens may be written in another way
   pub performs_same : (first second : ℕ → List Happening) (old new : Actions) (before after : Held Out) → ((k : ℕ) → first k ≡ second k) → Performs acts time first old new before after → Performs acts time second old new before after
   performs_same first second old new before after same p = record {
     stands = λ past k now stood. subst (λ (h : List Happening). ActionsStand acts (with_more past h) new) (same k) (p.stands past k now stood);

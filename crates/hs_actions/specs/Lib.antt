@@ -1,6 +1,7 @@
 pub mod Happenings
 pub mod Outcomes
-pub mod Items
+pub mod Messages
+pub mod Answers
 pub mod State
 pub mod Performs
 pub mod Rows

@@ -69,7 +69,7 @@ action_goes acts begins earlier k Restart = true
 action_goes acts begins earlier k Report = true
 action_goes acts begins earlier k (Message place) = message_goes (act_at acts place) (sendings place earlier) k
 
--- Whether what happens goes; what is no attempt does.
+-- Whether a happening goes: an attempt by its action, a clearing and a new maximum always.
 abbrev pub goes : List ActRow → Beginning → Outcomes → Happening → Bool
 goes acts begins earlier Clears = true
 goes acts begins earlier (Limits n) = true
@@ -85,15 +85,15 @@ pub record Past : Type 0 where
   pub wakeups : ℕ
   pub happened : List Happening
 
--- Before the first wakeup.
+-- What was before the first wakeup: so many resets made, of at most so many.
 abbrev pub past_from : ℕ → ℕ → Past
 past_from made max = record { begins = record { made = made; max = max }; wakeups = 0; happened = [] }
 
--- Once the next wakeup has begun.
+-- What was before, once the next wakeup has begun.
 abbrev pub in_next_wakeup : Past → Past
 in_next_wakeup past = record { begins = past.begins; wakeups = past.wakeups + 1; happened = past.happened }
 
--- Once more happened.
+-- What was before, once this happened too.
 abbrev pub with_more : Past → List Happening → Past
 with_more past more = record { begins = past.begins; wakeups = past.wakeups; happened = past.happened ++ more }
 

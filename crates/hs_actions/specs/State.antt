@@ -9,7 +9,7 @@ use Rattle.hs_actions.specs.declared.state.Actions.{Actions}
 abbrev pub resets_made : Actions → ℕ
 resets_made a = a.made
 
--- Their maximum.
+-- The maximum of resets.
 abbrev pub resets_most : Actions → ℕ
 resets_most a = a.max
 
@@ -32,7 +32,7 @@ pub record StandsOn (acts : List ActRow) (begins : Beginning) (wakeups : ℕ) (e
   pub max : resets_most a ≡ max_of begins earlier
   pub sent : actions_sent a ≡ sent_of earlier
 
--- It stands for what was before.
+-- The state stands for what was before.
 unfoldable pub ActionsStand : List ActRow → Past → Actions → Type 0
 ActionsStand acts past a = StandsOn acts past.begins past.wakeups (outcomes_in acts past) a
 

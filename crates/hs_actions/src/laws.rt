@@ -3,7 +3,7 @@ ghost use Rattle.std.specs.Prelude.{◌≡◌, ◌++◌, [], ◌∷◌, map, sli
 ghost use Rattle.bus_pipes.specs.declared.names.Out.TheVariants as outs;
 ghost use Rattle.hs_actions.specs.Happenings.{action_of};
 ghost use Rattle.hs_actions.specs.Happenings.Happening.{Clears, Limits};
-ghost use Rattle.hs_actions.specs.Items.{performed, items_of};
+ghost use Rattle.hs_actions.specs.Answers.{performed, items_of};
 ghost use Rattle.hs_actions.specs.Outcomes.{act_at};
 ghost use Rattle.hs_actions.specs.Rows.{load_bytes, noop_bytes, hs_event, one_act, twice, reset_once, past_after, act_in, heard_once, past_with, late_event};
 ghost use Rattle.hs_actions.specs.declared.action.Action.TheVariants.{Reset, Restart, Report, Message};

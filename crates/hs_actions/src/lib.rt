@@ -2,9 +2,11 @@
 #![tactic(auto)]
 
 mod action;
-mod items;
+mod answers;
 pub mod laws;
+mod messages;
 mod state;
 
 pub use action::Source;
+pub use messages::hs_name;
 pub use state::Actions;

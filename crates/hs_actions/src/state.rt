@@ -7,12 +7,12 @@ ghost use Rattle.hs_tables.specs.declared.actions.ActRow.{ActRow};
 ghost use Rattle.hs_actions.specs.Happenings.{Attempt, action_of, HasPlace};
 ghost use Rattle.hs_actions.specs.Happenings.Happening.{Limits, Clears, Attempts};
 ghost use Rattle.hs_actions.specs.Outcomes.{Past, past_from, in_next_wakeup, with_more, goes_after};
-ghost use Rattle.hs_actions.specs.Items.{happening_items};
+ghost use Rattle.hs_actions.specs.Answers.{happening_items};
 ghost use Rattle.hs_actions.specs.State.{ActionsStand, is_cooling, resets_made, resets_most, actions_sent};
 ghost use Rattle.hs_actions.specs.declared.action.Action.TheVariants.{Reset, Message};
 
 use crate::action::{Action, Source, action_of};
-use crate::items::put_items;
+use crate::answers::put_items;
 use bus_pipes::Outbox;
 use hs_tables::MsgActs;
 use packet_forms::Name;

@@ -26,24 +26,24 @@ use Rattle.hs_monitors.proofs.Following.{orders_activated, heard_activated, watc
 use Rattle.hs_monitors.proofs.Obeying.{entries_as}
 
 module _ (setup : Setup) (history : List HsEntry) (a : Activation) (old new : Hs) (stood : Stands setup history old)
-    (counts : new.counts ≡ old.counts) (monitoring : new.monitors.monitoring ≡ old.monitors.monitoring) (listening : new.monitors.listening ≡ old.monitors.listening) (actions : new.monitors.actions ≡ old.monitors.actions) where
+    (counts : new.counts ≡ old.counts) (monitoring : new.duty.monitoring ≡ old.duty.monitoring) (listening : new.duty.listening ≡ old.duty.listening) (actions : new.duty.actions ≡ old.duty.actions) where
   orders_same : orders_of history ++ [] ≡ orders_of (history ++ Activated a ∷ []) ++ []
   orders_same = ap (λ (orders : List Instruction). orders ++ []) (sym (orders_activated history a))
 
   -- by the places and what is kept of the application monitors
-  activated_by : new.monitors.places ≡ places_of (apps_after setup (history ++ Activated a ∷ [])) → EntriesStand (apps_after setup (history ++ Activated a ∷ [])) (λ (k : ℕ). watch_at (history ++ Activated a ∷ []) []) new.monitors.kept
+  activated_by : new.duty.places ≡ places_of (apps_after setup (history ++ Activated a ∷ [])) → EntriesStand (apps_after setup (history ++ Activated a ∷ [])) (λ (k : ℕ). watch_at (history ++ Activated a ∷ []) []) new.duty.kept
       → Stands setup (history ++ Activated a ∷ []) new
   unfolding Stands
   activated_by places kept = record {
     counts = counts ∙ stood.counts ∙ ap counts_of (sym (heard_activated history a));
-    monitors = record {
-      monitoring = monitoring ∙ stood.monitors.monitoring ∙ ap is_on orders_same;
-      listening = listening ∙ stood.monitors.listening ∙ ap is_listening orders_same;
+    duty = record {
+      monitoring = monitoring ∙ stood.duty.monitoring ∙ ap is_on orders_same;
+      listening = listening ∙ stood.duty.listening ∙ ap is_listening orders_same;
       places = places;
       kept = kept;
       actions =
           subst (λ (x : Actions). ActionsStand setup.tables.acts (past_of setup (history ++ Activated a ∷ [])) x) (sym actions)
-          (subst (λ (p : Past). ActionsStand setup.tables.acts p old.monitors.actions) (sym (past_activated setup history a)) stood.monitors.actions);
+          (subst (λ (p : Past). ActionsStand setup.tables.acts p old.duty.actions) (sym (past_activated setup history a)) stood.duty.actions);
     };
   }
 
@@ -55,13 +55,13 @@ activates tables kind named x a is here given = same (sym (sym (ap (λ (k : Tabl
     same e = cc
 
 -- other application monitors
-pub apps_activated : (setup : Setup) (history : List HsEntry) (rows : List AppRow) (a : Activation) (old new : Hs) → a ≡ Apps rows → new.counts ≡ old.counts → new.monitors.monitoring ≡ old.monitors.monitoring
-    → new.monitors.listening ≡ old.monitors.listening → new.monitors.actions ≡ old.monitors.actions → new.monitors.places ≡ places_of rows → EntriesStand rows (λ (k : ℕ). []) new.monitors.kept
+pub apps_activated : (setup : Setup) (history : List HsEntry) (rows : List AppRow) (a : Activation) (old new : Hs) → a ≡ Apps rows → new.counts ≡ old.counts → new.duty.monitoring ≡ old.duty.monitoring
+    → new.duty.listening ≡ old.duty.listening → new.duty.actions ≡ old.duty.actions → new.duty.places ≡ places_of rows → EntriesStand rows (λ (k : ℕ). []) new.duty.kept
     → Stands setup history old → Stands setup (history ++ Activated a ∷ []) new
 apps_activated setup history rows a old new is counts monitoring listening actions places kept stood =
     let apps : rows ≡ apps_after setup (history ++ Activated a ∷ []) = sym (in_force_activated apps_in setup.tables.apps history a ∙ ap (λ (x : Activation). replaced_by (apps_in x) (apps_after setup history)) is) in
     let anew : [] ≡ watch_at (history ++ Activated a ∷ []) [] = sym (watch_unordered (history ++ Activated a ∷ []) ∙ ap (λ (x : Activation). watch_of (history ++ Activated x ∷ [])) is ∙ watch_apps history rows) in
-    activated_by setup history a old new stood counts monitoring listening actions (places ∙ ap places_of apps) (entries_as rows (apps_after setup (history ++ Activated a ∷ [])) [] (watch_at (history ++ Activated a ∷ []) []) new.monitors.kept apps anew kept)
+    activated_by setup history a old new stood counts monitoring listening actions (places ∙ ap places_of apps) (entries_as rows (apps_after setup (history ++ Activated a ∷ [])) [] (watch_at (history ++ Activated a ∷ []) []) new.duty.kept apps anew kept)
 
 -- other tables, of which the state keeps nothing
 kept_activated : (setup : Setup) (history : List HsEntry) (a : Activation) (hs : Hs) → apps_in a ≡ None → watch_of (history ++ Activated a ∷ []) ≡ watch_of history → Stands setup history hs → Stands setup (history ++ Activated a ∷ []) hs
@@ -69,8 +69,8 @@ unfolding Stands
 kept_activated setup history a hs none same stood =
     let apps : apps_after setup history ≡ apps_after setup (history ++ Activated a ∷ []) = sym (in_force_activated apps_in setup.tables.apps history a ∙ ap (λ (found : Option (List AppRow)). replaced_by found (apps_after setup history)) none) in
     let checks : watch_at history [] ≡ watch_at (history ++ Activated a ∷ []) [] = watch_unordered history ∙ sym (watch_unordered (history ++ Activated a ∷ []) ∙ same) in
-    activated_by setup history a hs hs stood refl refl refl refl (stood.monitors.places ∙ ap places_of apps)
-    (entries_as (apps_after setup history) (apps_after setup (history ++ Activated a ∷ [])) (watch_at history []) (watch_at (history ++ Activated a ∷ []) []) hs.monitors.kept apps checks stood.monitors.kept)
+    activated_by setup history a hs hs stood refl refl refl refl (stood.duty.places ∙ ap places_of apps)
+    (entries_as (apps_after setup history) (apps_after setup (history ++ Activated a ∷ [])) (watch_at history []) (watch_at (history ++ Activated a ∷ []) []) hs.duty.kept apps checks stood.duty.kept)
 
 pub events_activated : (setup : Setup) (history : List HsEntry) (rows : List EventRow) (a : Activation) (hs : Hs) → a ≡ Events rows → Stands setup history hs → Stands setup (history ++ Activated a ∷ []) hs
 events_activated setup history rows a hs is stood = subst (λ (x : Activation). Stands setup (history ++ Activated x ∷ []) hs) (sym is) (kept_activated setup history (Events rows) hs refl (watch_events history rows) stood)

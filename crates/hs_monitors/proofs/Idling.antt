@@ -15,7 +15,8 @@ use Rattle.commands.proofs.Heard.{no_packets, no_answers, verdicts_none, orders_
 use Rattle.hs_tables.specs.Apps.{entry_of}
 use Rattle.hs_tables.specs.declared.apps.AppRow.{AppRow}
 use Rattle.hs_actions.specs.Happenings.{Happening}
-use Rattle.hs_actions.specs.Items.{hs_name, items_of}
+use Rattle.hs_actions.specs.Messages.{hs_name}
+use Rattle.hs_actions.specs.Answers.{items_of}
 use Rattle.hs_actions.specs.Outcomes.{Past, in_next_wakeup, with_more}
 use Rattle.hs_actions.specs.State.{ActionsStand, is_cooling}
 use Rattle.hs_actions.proofs.Series.{more_none, items_none}
@@ -118,8 +119,8 @@ module _ (setup : Setup) (history : List HsEntry) (input : Input) (quiet : input
   orders_next = sym (orders_woken history input ∙ ap (λ (orders : List Instruction). orders_of history ++ orders) unordered)
 
   -- what is kept of the entries, of which none is checked
-  kept_next : (hs : Hs) → EntriesStand (apps_after setup history) (λ (k : ℕ). watch_at history []) hs.monitors.kept
-      → EntriesStand (apps_after setup (history ++ Woken input ∷ [])) (λ (k : ℕ). watch_at (history ++ Woken input ∷ []) []) hs.monitors.kept
+  kept_next : (hs : Hs) → EntriesStand (apps_after setup history) (λ (k : ℕ). watch_at history []) hs.duty.kept
+      → EntriesStand (apps_after setup (history ++ Woken input ∷ [])) (λ (k : ℕ). watch_at (history ++ Woken input ∷ []) []) hs.duty.kept
   kept_next hs stood = elim (off_or_none (is_on (orders_of history)) (places_of (apps_after setup history)) halves.0) [
     | inl off ↦
         let same : watch_at history [] ≡ watch_at (history ++ Woken input ∷ []) [] =
@@ -127,9 +128,9 @@ module _ (setup : Setup) (history : List HsEntry) (input : Input) (quiet : input
         watch_unordered (history ++ Woken input ∷ []) ∙ watch_woken history input
         ∙ ap (λ (b : Bool). cond b (watch_at history (ordered_at input) ++ input.seen.counters ∷ []) (watch_at history (ordered_at input))) (on_same ∙ off)
         ∙ ap (watch_at history) unordered) in
-        entries_as (apps_after setup history) (apps_after setup (history ++ Woken input ∷ [])) (watch_at history []) (watch_at (history ++ Woken input ∷ []) []) hs.monitors.kept (sym (apps_woken setup history input)) same stood
+        entries_as (apps_after setup history) (apps_after setup (history ++ Woken input ∷ [])) (watch_at history []) (watch_at (history ++ Woken input ∷ []) []) hs.duty.kept (sym (apps_woken setup history input)) same stood
     | inr none ↦
-        entries_as (apps_after setup history) (apps_after setup (history ++ Woken input ∷ [])) (watch_at (history ++ Woken input ∷ []) []) (watch_at (history ++ Woken input ∷ []) []) hs.monitors.kept (sym (apps_woken setup history input)) refl
+        entries_as (apps_after setup history) (apps_after setup (history ++ Woken input ∷ [])) (watch_at (history ++ Woken input ∷ []) []) (watch_at (history ++ Woken input ∷ []) []) hs.duty.kept (sym (apps_woken setup history input)) refl
         (record { each = λ k e within some. absurd (no_entry (entry_of (row_at (apps_after setup history) k)) e (none_used (apps_after setup history) k none) some) })
   ]
 
@@ -137,14 +138,14 @@ module _ (setup : Setup) (history : List HsEntry) (input : Input) (quiet : input
   unfolding Stands hs_heard
   idle_stands hs stood = record {
     counts = stood.counts ∙ ap counts_of (sym (heard_idle hs_protocol (λ (earlier : List HsEntry) (e : HsEntry). tt) packets_in history (Woken input) quiet));
-    monitors = record {
-      monitoring = stood.monitors.monitoring ∙ ap is_on orders_next;
-      listening = stood.monitors.listening ∙ ap is_listening orders_next;
-      places = stood.monitors.places ∙ ap places_of (sym (apps_woken setup history input));
-      kept = kept_next hs stood.monitors.kept;
+    duty = record {
+      monitoring = stood.duty.monitoring ∙ ap is_on orders_next;
+      listening = stood.duty.listening ∙ ap is_listening orders_next;
+      places = stood.duty.places ∙ ap places_of (sym (apps_woken setup history input));
+      kept = kept_next hs stood.duty.kept;
       actions =
-          subst (λ (p : Past). ActionsStand setup.tables.acts p hs.monitors.actions) (sym past_next)
-          (stands_idle setup.tables.acts (past_of setup history) hs.monitors.actions (off_by_not (is_cooling setup.tables.acts (past_of setup history)) halves.1) stood.monitors.actions);
+          subst (λ (p : Past). ActionsStand setup.tables.acts p hs.duty.actions) (sym past_next)
+          (stands_idle setup.tables.acts (past_of setup history) hs.duty.actions (off_by_not (is_cooling setup.tables.acts (past_of setup history)) halves.1) stood.duty.actions);
     };
   }
 

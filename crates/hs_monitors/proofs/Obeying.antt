@@ -17,13 +17,13 @@ use Rattle.hs_monitors.specs.Watches.{watch_at}
 use Rattle.hs_monitors.specs.Monitors.{places_of}
 use Rattle.hs_monitors.specs.Attempts.{past_of, past_in}
 use Rattle.hs_monitors.specs.Entries.{EntriesStand}
-use Rattle.hs_monitors.specs.State.{MonitorsStand}
+use Rattle.hs_monitors.specs.State.{DutyStands}
 use Rattle.hs_monitors.specs.declared.instructions.Instruction.{Instruction}
 use Rattle.hs_monitors.specs.declared.watches.Watched.{Watched}
-use Rattle.hs_monitors.specs.declared.monitors.Monitors.{Monitors}
+use Rattle.hs_monitors.specs.declared.duty.Duty.{Duty}
 use Rattle.hs_monitors.proofs.Following.{on_more, listening_more, watch_ordered, watch_unordered, watch_none, orders_none, past_none, past_unordered, past_ordered}
 
--- entries that stand, on other rows and other checks that are the same
+-- entries that stand, on equal rows and equal checks
 pub entries_as : (rows other : List AppRow) (checks more : List (List Counter)) (kept : List Watched) → rows ≡ other → checks ≡ more → EntriesStand rows (λ (k : ℕ). checks) kept → EntriesStand other (λ (k : ℕ). more) kept
 entries_as rows other checks more kept same_rows same_checks stood =
     subst (λ (cs : List (List Counter)). EntriesStand other (λ (k : ℕ). cs) kept) same_checks (subst (λ (xs : List AppRow). EntriesStand xs (λ (k : ℕ). checks) kept) same_rows stood)
@@ -38,8 +38,8 @@ unfolding is_listening last_or
 listening_first = refl
 
 -- before the first wakeup
-pub starts_stand : (tables : HsTables) (made limit : ℕ) (m : Monitors) → m.monitoring ≡ true → m.listening ≡ true → m.places ≡ places_of tables.apps → EntriesStand tables.apps (λ (k : ℕ). []) m.kept
-    → ((acts : List ActRow) → ActionsStand acts (past_from made limit) m.actions) → MonitorsStand (setup_of tables made limit) [] [] (past_of (setup_of tables made limit) []) m
+pub starts_stand : (tables : HsTables) (made limit : ℕ) (m : Duty) → m.monitoring ≡ true → m.listening ≡ true → m.places ≡ places_of tables.apps → EntriesStand tables.apps (λ (k : ℕ). []) m.kept
+    → ((acts : List ActRow) → ActionsStand acts (past_from made limit) m.actions) → DutyStands (setup_of tables made limit) [] [] (past_of (setup_of tables made limit) []) m
 starts_stand tables made limit m monitoring listening places kept actions =
     let setup = setup_of tables made limit in
     let apps : tables.apps ≡ apps_after setup [] = sym (in_force_none Input apps_in tables.apps) in
@@ -54,9 +54,9 @@ starts_stand tables made limit m monitoring listening places kept actions =
 
 module _ (setup : Setup) (history : List HsEntry) where
   -- a wakeup begins
-  pub ticked_stand : (old new : Monitors) → new.monitoring ≡ old.monitoring → new.listening ≡ old.listening → new.places ≡ old.places → new.kept ≡ old.kept
+  pub ticked_stand : (old new : Duty) → new.monitoring ≡ old.monitoring → new.listening ≡ old.listening → new.places ≡ old.places → new.kept ≡ old.kept
       → ((acts : List ActRow) (past : Past) → ActionsStand acts past old.actions → ActionsStand acts (in_next_wakeup past) new.actions)
-      → MonitorsStand setup history [] (past_of setup history) old → MonitorsStand setup history [] (past_in setup history []) new
+      → DutyStands setup history [] (past_of setup history) old → DutyStands setup history [] (past_in setup history []) new
   ticked_stand old new monitoring listening places kept actions stood = record {
     monitoring = monitoring ∙ stood.monitoring;
     listening = listening ∙ stood.listening;
@@ -66,10 +66,10 @@ module _ (setup : Setup) (history : List HsEntry) where
   }
 
   -- one order more, by what it makes of each part
-  pub obeyed : (orders : List Instruction) (o : Instruction) (old new : Monitors) → new.monitoring ≡ unwrap_or (monitor_in o) old.monitoring → new.listening ≡ unwrap_or (listen_in o) old.listening → new.places ≡ old.places
+  pub obeyed : (orders : List Instruction) (o : Instruction) (old new : Duty) → new.monitoring ≡ unwrap_or (monitor_in o) old.monitoring → new.listening ≡ unwrap_or (listen_in o) old.listening → new.places ≡ old.places
       → EntriesStand (apps_after setup history) (λ (k : ℕ). cond (refreshes o) [] (watch_at history orders)) new.kept
       → ActionsStand setup.tables.acts (with_more (past_in setup history orders) (by_order o)) new.actions
-      → MonitorsStand setup history orders (past_in setup history orders) old → MonitorsStand setup history (orders ++ o ∷ []) (past_in setup history (orders ++ o ∷ [])) new
+      → DutyStands setup history orders (past_in setup history orders) old → DutyStands setup history (orders ++ o ∷ []) (past_in setup history (orders ++ o ∷ [])) new
   obeyed orders o old new monitoring listening places kept actions stood = record {
     monitoring = monitoring ∙ ap (unwrap_or (monitor_in o)) stood.monitoring ∙ sym (on_more (orders_of history) orders o);
     listening = listening ∙ ap (unwrap_or (listen_in o)) stood.listening ∙ sym (listening_more (orders_of history) orders o);

@@ -63,7 +63,7 @@ cycles_of cycles action name e is = by_tests (cycles == 0) refl (action == 0) na
 pub entry_cycles : (row : AppRow) (e : AppEntry) → apps.entry_of row ≡ Some e → 0 < e.cycles
 entry_cycles row e is = cycles_of row.cycles row.action row.name e is
 
--- the same of event monitors
+-- the attempts of event monitors
 pub event_none : (row : EventRow) (found : Option EventEntry) (p : List ℕ) (k : ℕ) → found ≡ events.entry_of row → found ≡ None → event_attempt k p row ≡ []
 unfolding event_attempt
 event_none row found p k is none = ap (heard.attempt_where k p) (sym is ∙ none)

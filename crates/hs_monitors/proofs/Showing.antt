@@ -16,14 +16,14 @@ use Rattle.hs_actions.specs.State.{ActionsStand}
 use Rattle.hs_monitors.specs.Histories.{Input, HsEntry, Setup, apps_after, tables_after}
 use Rattle.hs_monitors.specs.Watches.{watch_at}
 use Rattle.hs_monitors.specs.Acting.{changes, has_acted}
-use Rattle.hs_monitors.specs.Monitors.{row_at, watches, is_watching}
+use Rattle.hs_monitors.specs.Monitors.{row_at, is_entry_watching, is_watching}
 use Rattle.hs_monitors.specs.Attempts.{past_in}
-use Rattle.hs_monitors.specs.Housekeeping.{watching_of, shown_bytes, housekeeping_of, housekeeping_at}
+use Rattle.hs_monitors.specs.Housekeeping.{watching_bits, shown_bytes, housekeeping_of, housekeeping_at}
 use Rattle.hs_monitors.specs.Entries.{EntryStands}
-use Rattle.hs_monitors.specs.State.{MonitorsStand}
+use Rattle.hs_monitors.specs.State.{DutyStands}
 use Rattle.hs_monitors.specs.declared.instructions.Instruction.{Instruction}
 use Rattle.hs_monitors.specs.declared.watches.Watched.{Watched}
-use Rattle.hs_monitors.specs.declared.monitors.Monitors.{Monitors}
+use Rattle.hs_monitors.specs.declared.duty.Duty.{Duty}
 use Rattle.hs_monitors.proofs.Lists.{map_by_all}
 use Rattle.hs_monitors.proofs.Acting.{running, acted_over}
 
@@ -38,11 +38,11 @@ watches_is e checks w some stood = by_case (has_acted e.cycles (changes e.name c
 pub shown_used : (row : AppRow) (found : Option AppEntry) (e : AppEntry) (checks : List (List Counter)) (w : Watched) → found ≡ entry_of row → found ≡ Some e → 0 < e.cycles → EntryStands e checks w
     → not (w.countdown == 0) ≡ is_watching checks row
 unfolding is_watching
-shown_used row found e checks w found_is some used stood = watches_is e checks w used stood ∙ ap (watches checks) (sym (sym found_is ∙ some))
+shown_used row found e checks w found_is some used stood = watches_is e checks w used stood ∙ ap (is_entry_watching checks) (sym (sym found_is ∙ some))
 
 pub shown_unused : (row : AppRow) (found : Option AppEntry) (checks : List (List Counter)) → found ≡ entry_of row → found ≡ None → false ≡ is_watching checks row
 unfolding is_watching
-shown_unused row found checks found_is none = ap (watches checks) (sym (sym found_is ∙ none))
+shown_unused row found checks found_is none = ap (is_entry_watching checks) (sym (sym found_is ∙ none))
 
 -- the bytes of the counters, at one more
 pub counters_none : (counters : List Counter) (rows : List CountRow) (before : List ℕ) → before ≡ before ++ flat_map (shown_bytes counters) (take 0 rows)
@@ -55,9 +55,9 @@ counters_more counters rows i row start before after within is so_far here =
     ∙ ap (λ (bytes : List ℕ). start ++ bytes) (sym (flat_map_front (shown_bytes counters) rows i row within is))
 
 -- the packet at a place
-pub housekeeping_shown : (setup : Setup) (history : List HsEntry) (input : Input) (orders : List Instruction) (counts : Counts) (m : Monitors) (now watching : ℕ) (p : List ℕ)
-    → MonitorsStand setup history orders (past_in setup history orders) m → input.time ≡ now
-    → watching ≡ watching_of (apps_after setup history) (watch_at history orders)
+pub housekeeping_shown : (setup : Setup) (history : List HsEntry) (input : Input) (orders : List Instruction) (counts : Counts) (m : Duty) (now watching : ℕ) (p : List ℕ)
+    → DutyStands setup history orders (past_in setup history orders) m → input.time ≡ now
+    → watching ≡ watching_bits (apps_after setup history) (watch_at history orders)
     → p ≡ housekeeping_of now counts m.monitoring m.listening m.actions.made m.actions.max m.actions.sent watching (tables_after setup history).counts input.seen.counters
     → p ≡ housekeeping_at setup history input counts orders
 unfolding housekeeping_at ActionsStand
@@ -73,6 +73,6 @@ bits_more rows checks bits i b inside before here k below = elim (cases_eq i k) 
 ]
 
 pub bits_all : (rows : List AppRow) (checks : List (List Counter)) (bits : List Bool) (mask : ℕ) → length bits ≡ length rows → ((k : ℕ) → k < length rows → get_or bits k false ≡ is_watching checks (row_at rows k)) → mask ≡ bits_of bits
-    → mask ≡ watching_of rows checks
-unfolding watching_of
+    → mask ≡ watching_bits rows checks
+unfolding watching_bits
 bits_all rows checks bits mask long each is = is ∙ ap bits_of (map_by_all (is_watching checks) rows bits blank_row false long each)

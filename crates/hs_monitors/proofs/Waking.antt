@@ -14,7 +14,8 @@ use Rattle.hs_tables.specs.declared.events.EventRow.{EventRow}
 use Rattle.hs_tables.specs.declared.tables.HsTables.{HsTables}
 use Rattle.hs_actions.specs.Happenings.{Happening}
 use Rattle.hs_actions.specs.Outcomes.{Past, with_more}
-use Rattle.hs_actions.specs.Items.{hs_name, items_of}
+use Rattle.hs_actions.specs.Messages.{hs_name}
+use Rattle.hs_actions.specs.Answers.{items_of}
 use Rattle.hs_actions.specs.State.{ActionsStand}
 use Rattle.hs_actions.specs.Performs.{Performs}
 use Rattle.hs_actions.specs.declared.state.Actions.{Actions}
@@ -27,9 +28,9 @@ use Rattle.hs_monitors.specs.Events.{event_attempts}
 use Rattle.hs_monitors.specs.Attempts.{by_monitors, past_of, past_in}
 use Rattle.hs_monitors.specs.Step.{turn_of, hs_answers, hs_items}
 use Rattle.hs_monitors.specs.Entries.{EntriesStand}
-use Rattle.hs_monitors.specs.State.{MonitorsStand}
+use Rattle.hs_monitors.specs.State.{DutyStands}
 use Rattle.hs_monitors.specs.declared.watches.Watched.{Watched}
-use Rattle.hs_monitors.specs.declared.monitors.Monitors.{Monitors}
+use Rattle.hs_monitors.specs.declared.duty.Duty.{Duty}
 use Rattle.hs_monitors.proofs.Following.{orders_woken, watch_woken, watch_unordered, past_woken}
 use Rattle.hs_monitors.proofs.Obeying.{entries_as}
 
@@ -62,20 +63,20 @@ attempted_is setup history input on listening on_is listening_is =
     ∙ ap (λ (xs : List Happening). xs ++ heard (is_listening (orders_of history ++ ordered_at input))) (by_watch history input k apps (is_on (orders_of history ++ ordered_at input)) refl)
 
 -- What a wakeup does behind its commands: the application monitors may be one check further, and what both monitors attempted was performed.
-pub record Wakes (setup : Setup) (history : List HsEntry) (input : Input) (before after : Monitors) (mid end : Held Out) : Type 0 where
-  pub stood : MonitorsStand setup history (ordered_at input) (past_in setup history (ordered_at input)) before
+pub record Wakes (setup : Setup) (history : List HsEntry) (input : Input) (before after : Duty) (mid end : Held Out) : Type 0 where
+  pub stood : DutyStands setup history (ordered_at input) (past_in setup history (ordered_at input)) before
   pub monitoring : after.monitoring ≡ before.monitoring
   pub listening : after.listening ≡ before.listening
   pub places : after.places ≡ before.places
   pub kept : EntriesStand (apps_after setup history) (λ (k : ℕ). cond before.monitoring (watch_at history (ordered_at input) ++ input.seen.counters ∷ []) (watch_at history (ordered_at input))) after.kept
   pub performs : Performs setup.tables.acts input.time (attempted before.monitoring before.listening (watch_at history (ordered_at input)) input.seen.counters (apps_after setup history) (tables_after setup history).events input.seen.events) before.actions after.actions mid end
 
-module _ (setup : Setup) (history : List HsEntry) (input : Input) (before after : Monitors) (mid end : Held Out) (wakes : Wakes setup history input before after mid end) where
+module _ (setup : Setup) (history : List HsEntry) (input : Input) (before after : Duty) (mid end : Held Out) (wakes : Wakes setup history input before after mid end) where
   is_by : attempted before.monitoring before.listening (watch_at history (ordered_at input)) input.seen.counters (apps_after setup history) (tables_after setup history).events input.seen.events (length (wakeups history)) ≡ by_monitors setup history input
   is_by = attempted_is setup history input before.monitoring before.listening wakes.stood.monitoring wakes.stood.listening
 
   -- the monitors behind a wakeup
-  pub woken_stand : MonitorsStand setup (history ++ Woken input ∷ []) [] (past_of setup (history ++ Woken input ∷ [])) after
+  pub woken_stand : DutyStands setup (history ++ Woken input ∷ []) [] (past_of setup (history ++ Woken input ∷ [])) after
   woken_stand =
       let checks = watch_at history (ordered_at input) in
       record {

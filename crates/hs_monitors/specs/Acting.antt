@@ -33,7 +33,7 @@ is_still n changed = nat_le n (length changed) && list_all not (drop (length cha
 unfoldable pub was_still : ℕ → List Bool → Bool
 was_still n changed = list_any (λ b. b) (along (λ earlier this. is_still n (earlier ++ this ∷ [])) changed)
 
--- An entry with the cycle count n acts at a check where this holds of it and of no earlier check.
+-- An entry with the cycle count n acts at the first check up to which the last n exist and are unchanged.
 unfoldable pub acts : ℕ → List Bool → Bool → Bool
 acts n earlier this = is_still n (earlier ++ this ∷ []) && not (was_still n earlier)
 

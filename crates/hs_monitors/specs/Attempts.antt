@@ -20,14 +20,14 @@ by_apps setup earlier input =
     then flat_map (app_attempt (length (wakeups earlier)) (watch_of (earlier ++ Woken input ∷ []))) (tables_after setup earlier).apps
     else []
 
--- What the event monitors attempt in it, packet by packet, where event monitoring is on.
+-- What the event monitors attempt in a wakeup behind a history, packet by packet, where event monitoring is on.
 abbrev pub by_events : Setup → List HsEntry → Input → List Happening
 by_events setup earlier input =
     if is_listening (orders_of earlier ++ ordered_at input)
     then flat_map (event_attempts (length (wakeups earlier)) (tables_after setup earlier).events) input.seen.events
     else []
 
--- What both do: the application monitors come first.
+-- What both kinds of monitors attempt in it: the application monitors come first.
 unfoldable pub by_monitors : Setup → List HsEntry → Input → List Happening
 by_monitors setup earlier input = by_apps setup earlier input ++ by_events setup earlier input
 
@@ -39,7 +39,7 @@ happened_at setup earlier (Activated a) = []
 unfoldable pub happened_of : Setup → List HsEntry → List Happening
 happened_of setup entries = joined_along (happened_at setup) entries
 
--- What was before, behind these entries, and at a place in the next wakeup, behind what was ordered in it so far.
+-- What the actions went through in these entries; and at a place in the next wakeup, once this was ordered in it.
 abbrev pub past_of : Setup → List HsEntry → Past
 past_of setup entries = record { begins = record { made = setup.made; max = setup.max }; wakeups = length (wakeups entries); happened = happened_of setup entries }
 

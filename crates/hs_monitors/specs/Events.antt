@@ -35,6 +35,6 @@ attempt_where k p (Some e) = attempt_of k p e
 unfoldable pub event_attempt : ℕ → List ℕ → EventRow → List Happening
 event_attempt k p row = attempt_where k p (entry_of row)
 
--- Those of all entries in table order, at a packet of the event pipe: one that is no event message is ignored.
+-- The attempts of all entries in table order, at a packet of the event pipe: a packet that is no event message is ignored.
 unfoldable pub event_attempts : ℕ → List EventRow → List ℕ → List Happening
 event_attempts k rows p = if is_event p then flat_map (event_attempt k p) rows else []

@@ -3,7 +3,7 @@ use Rattle.std.specs.Prelude.{ℕ, ◌==◌, true, false, if◌then◌else◌, L
 use Rattle.packet_forms.specs.MessageIds.{hs_command, hs_request}
 use Rattle.packet_forms.specs.Numbers.{be16_at}
 use Rattle.commands.specs.Verdicts.{Language}
-use Rattle.hs_actions.specs.Items.{hs_name}
+use Rattle.hs_actions.specs.Messages.{hs_name}
 use Rattle.hs_monitors.specs.Messages.{hs_codes}
 use Rattle.hs_monitors.specs.declared.instructions.Instruction.{Instruction}
 use Rattle.hs_monitors.specs.declared.instructions.Instruction.TheVariants.{Plain, Monitor, Listen, Clear, Limit}

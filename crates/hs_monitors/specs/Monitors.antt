@@ -35,9 +35,9 @@ unfoldable pub app_attempt : ℕ → List (List Counter) → AppRow → List Hap
 app_attempt k watch row = attempt_where k watch (entry_of row)
 
 -- Whether an entry is used and no check of a watch acted.
-abbrev pub watches : List (List Counter) → Option AppEntry → Bool
-watches watch None = false
-watches watch (Some e) = not (has_acted e.cycles (changes e.name watch))
+abbrev pub is_entry_watching : List (List Counter) → Option AppEntry → Bool
+is_entry_watching watch None = false
+is_entry_watching watch (Some e) = not (has_acted e.cycles (changes e.name watch))
 
 unfoldable pub is_watching : List (List Counter) → AppRow → Bool
-is_watching watch row = watches watch (entry_of row)
+is_watching watch row = is_entry_watching watch (entry_of row)

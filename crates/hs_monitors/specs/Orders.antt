@@ -35,7 +35,7 @@ monitor_in (Listen on) = None
 monitor_in Clear = None
 monitor_in (Limit max) = None
 
--- The same of event monitoring.
+-- Whether an order switches event monitoring on or off, where it does one of them.
 abbrev pub listen_in : Instruction → Option Bool
 listen_in Plain = None
 listen_in (Monitor on) = None

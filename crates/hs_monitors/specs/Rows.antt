@@ -37,11 +37,11 @@ enable = 0x18 ∷ 0xAE ∷ 0xC0 ∷ 0 ∷ 0 ∷ 1 ∷ 2 ∷ 0x8A ∷ []
 abbrev pub disable : List ℕ
 disable = 0x18 ∷ 0xAE ∷ 0xC0 ∷ 0 ∷ 0 ∷ 1 ∷ 3 ∷ 0x8B ∷ []
 
--- the one that switches event monitoring off
+-- the command that switches event monitoring off
 abbrev pub deafen : List ℕ
 deafen = 0x18 ∷ 0xAE ∷ 0xC0 ∷ 0 ∷ 0 ∷ 1 ∷ 5 ∷ 0x8D ∷ []
 
--- those that set the resets made to 0, and their maximum to none
+-- the commands that set the resets made to 0, and the maximum of resets to 0
 abbrev pub clear : List ℕ
 clear = 0x18 ∷ 0xAE ∷ 0xC0 ∷ 0 ∷ 0 ∷ 1 ∷ 8 ∷ 0x80 ∷ []
 

@@ -15,21 +15,21 @@ use Rattle.hs_monitors.specs.Attempts.{past_of}
 use Rattle.hs_monitors.specs.Step.{hs_heard}
 use Rattle.hs_monitors.specs.Entries.{EntriesStand}
 use Rattle.hs_monitors.specs.declared.instructions.Instruction.{Instruction}
-use Rattle.hs_monitors.specs.declared.monitors.Monitors.{Monitors}
+use Rattle.hs_monitors.specs.declared.duty.Duty.{Duty}
 use Rattle.hs_monitors.specs.declared.state.Hs.{Hs}
 
--- The monitors stand for a history, what was ordered in the next wakeup so far, and what happened to the actions.
-pub record MonitorsStand (setup : Setup) (history : List HsEntry) (orders : List Instruction) (past : Past) (m : Monitors) : Type 0 where
-  pub monitoring : m.monitoring ≡ is_on (orders_of history ++ orders)
-  pub listening : m.listening ≡ is_listening (orders_of history ++ orders)
-  pub places : m.places ≡ places_of (apps_after setup history)
-  pub kept : EntriesStand (apps_after setup history) (λ place. watch_at history orders) m.kept
-  pub actions : ActionsStand setup.tables.acts past m.actions
+-- The duty stands for a history, what was ordered in the next wakeup so far, and what happened to the actions.
+pub record DutyStands (setup : Setup) (history : List HsEntry) (orders : List Instruction) (past : Past) (duty : Duty) : Type 0 where
+  pub monitoring : duty.monitoring ≡ is_on (orders_of history ++ orders)
+  pub listening : duty.listening ≡ is_listening (orders_of history ++ orders)
+  pub places : duty.places ≡ places_of (apps_after setup history)
+  pub kept : EntriesStand (apps_after setup history) (λ place. watch_at history orders) duty.kept
+  pub actions : ActionsStand setup.tables.acts past duty.actions
 
 -- The state stands for what it was set up with and a history.
 pub record StandsFor (setup : Setup) (history : List HsEntry) (hs : Hs) : Type 0 where
   pub counts : hs.counts ≡ counts_of (hs_heard history)
-  pub monitors : MonitorsStand setup history [] (past_of setup history) hs.monitors
+  pub duty : DutyStands setup history [] (past_of setup history) hs.duty
 
 unfoldable pub Stands : Setup → List HsEntry → Hs → Type 0
 Stands setup history hs = StandsFor setup history hs
@@ -39,7 +39,7 @@ unfoldable pub are_idle : Setup → List HsEntry → Bool
 are_idle setup history =
     not (is_on (orders_of history) && nat_lt 0 (places_of (apps_after setup history))) && not (is_cooling setup.tables.acts (past_of setup history))
 
--- And the whole has nothing to do where there are no packets.
+-- Health and Safety has nothing to do where there are no packets and its monitors have nothing to do.
 unfoldable pub is_idle_on : Setup → List HsEntry → List (List ℕ) → List (List ℕ) → Bool
 is_idle_on setup history commands events = ((length commands == 0) && (length events == 0)) && are_idle setup history
 

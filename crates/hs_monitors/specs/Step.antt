@@ -4,7 +4,8 @@ use Rattle.bus_pipes.specs.declared.names.Out.{Out}
 use Rattle.commands.specs.Inputs.{Wakeup, heard_along}
 use Rattle.commands.specs.Answering.{Answers, command_items}
 use Rattle.commands.specs.declared.verdicts.Verdict.{Verdict}
-use Rattle.hs_actions.specs.Items.{hs_name, items_of}
+use Rattle.hs_actions.specs.Messages.{hs_name}
+use Rattle.hs_actions.specs.Answers.{items_of}
 use Rattle.hs_actions.specs.Outcomes.{outcomes_in, made_of, max_of}
 use Rattle.hs_monitors.specs.Verdicts.{hs_protocol}
 use Rattle.hs_monitors.specs.Histories.{Input, HsEntry, Setup, packets_in}
@@ -24,7 +25,7 @@ Turn = Wakeup Setup HsEntry Input
 abbrev pub turn_of : Setup → List HsEntry → Input → Turn
 turn_of setup history input = record { setup = setup; history = history; input = input }
 
--- What it answers: no command has a packet of its own.
+-- What Health and Safety answers: no command has a packet of its own.
 abbrev pub hs_answers : Answers Turn Instruction
 hs_answers = record {
   time = λ turn. turn.input.time;
@@ -33,7 +34,7 @@ hs_answers = record {
   replies = λ turn orders instruction. [];
 }
 
--- What it sends in a wakeup: the items of its commands, and then those of what its monitors attempt.
+-- What Health and Safety sends in a wakeup: the items of its commands, and then those of what its monitors attempt.
 unfoldable pub hs_items : Setup → List HsEntry → Input → List Out
 hs_items setup history input =
     command_items hs_answers hs_name (turn_of setup history input) (heard_at input)

@@ -29,7 +29,7 @@ pub(crate) fn places_in(apps: &AppMon) -> u8
     places
 }
 
-/// The same with one place more.
+/// How many places there are up to the last used entry, once one place more was looked at.
 fn places_with(apps: &AppMon, place: u32, places: u8) -> u8
     requires { place < 32 }
     ensures { result ≡ (if is_entry (row_at apps.now place) then place + 1 else places) }

@@ -10,7 +10,7 @@ ghost use Rattle.hs_tables.specs.declared.apps.AppEntry.{AppEntry};
 ghost use Rattle.hs_tables.specs.Apps.{entry_of};
 ghost use Rattle.hs_monitors.specs.Monitors.{row_at, is_watching};
 ghost use Rattle.hs_monitors.specs.Entries.{EntryStands, EntriesStand};
-ghost use Rattle.hs_monitors.specs.Housekeeping.{flag_of, watching_of, count_at, shown_of, shown_bytes, told_bytes, housekeeping_of};
+ghost use Rattle.hs_monitors.specs.Housekeeping.{flag_of, watching_bits, count_at, shown_of, shown_bytes, actions_bytes, housekeeping_of};
 
 use crate::apps::PLACES;
 use crate::watches::{Watched, counter_in};
@@ -53,7 +53,7 @@ pub(crate) fn housekeeping(
         flag_of(shown.monitoring),
         flag_of(shown.listening),
     ]);
-    tell_actions(&mut payload, actions);
+    append_actions(&mut payload, actions);
     payload.append(&shown.watching.to_be_bytes());
     show_counters(&mut payload, names, counters);
     telemetry(HS_HOUSEKEEPING, now, payload.bytes())
@@ -67,9 +67,9 @@ fn flag_of(on: bool) -> u8
 
 /// Puts the resets made, their maximum, the message actions sent and 0 behind the bytes.
 #[tactic(auto, unfolding(packet_forms::specs::Numbers::be16_bytes))]
-fn tell_actions(payload: &mut Payload, actions: &Actions)
+fn append_actions(payload: &mut Payload, actions: &Actions)
     requires { length payload.old ≡ 4 }
-    ensures bytes { payload.new ≡ payload.old ++ told_bytes (resets_made actions.now) (resets_most actions.now) (actions_sent actions.now) }
+    ensures bytes { payload.new ≡ payload.old ++ actions_bytes (resets_made actions.now) (resets_most actions.now) (actions_sent actions.now) }
     ensures size { length payload.new ≡ 12 }
 {
     let (made, max) = actions.resets();
@@ -103,9 +103,9 @@ fn shown_in(names: &ExeCount, place: u32, counters: &[Counter]) -> u32
 }
 
 /// The mask of the application monitors that watch.
-#[tactic(auto, unfolding(crate::specs::Housekeeping::watching_of))]
-pub(crate) fn watching_of(apps: &AppMon, kept: &[Watched; PLACES]) -> u32
-    ensures { (checks : List (List Counter)) → EntriesStand apps.now (λ place. checks) kept.now → result ≡ watching_of apps.now checks }
+#[tactic(auto, unfolding(crate::specs::Housekeeping::watching_bits))]
+pub(crate) fn watching_bits(apps: &AppMon, kept: &[Watched; PLACES]) -> u32
+    ensures { (checks : List (List Counter)) → EntriesStand apps.now (λ place. checks) kept.now → result ≡ watching_bits apps.now checks }
 {
     let mut bits = [false; PLACES];
     for place in 0..apps.len() {

@@ -1,8 +1,9 @@
 //! What a command asks for.
 ghost use Rattle.std.specs.Prelude.{◌≡◌};
 
-use crate::messages::{CODES, name};
+use crate::messages::CODES;
 use commands::{Command, Terms};
+use hs_actions::hs_name;
 use packet_forms::message_ids::{HS_COMMAND, HS_REQUEST};
 use packet_forms::{Name, be16};
 
@@ -27,7 +28,7 @@ impl Command for Instruction {
     ghost language = { hs_language };
 
     fn name() -> Name {
-        name()
+        hs_name()
     }
 
     #[tactic(auto, unfolding(crate::specs::Messages::hs_codes))]

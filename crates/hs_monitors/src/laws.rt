@@ -18,7 +18,7 @@ ghost use Rattle.hs_monitors.specs.Messages.{hs_codes};
 ghost use Rattle.hs_monitors.specs.Verdicts.{hs_protocol};
 ghost use Rattle.hs_monitors.specs.Acting.{acts, countdown_of};
 ghost use Rattle.hs_monitors.specs.Events.{is_event, is_matched};
-ghost use Rattle.hs_monitors.specs.Housekeeping.{watching_of, housekeeping_of};
+ghost use Rattle.hs_monitors.specs.Housekeeping.{watching_bits, housekeeping_of};
 ghost use Rattle.hs_monitors.specs.Step.{hs_items, resets_made, resets_maximum};
 ghost use Rattle.hs_monitors.specs.Cooldowns.{sendings_of, last_leaves};
 ghost use Rattle.hs_monitors.specs.Rows.{cam_bytes, hs_info, load_event, enable, disable, deafen, clear, limit_none, request, load_row, load_rows, seven_rows, setup_with, watching, listening, wakeup, load_at, counted, saw, heard, wrong_request, long_request, reset_counts, longest_bytes, longest_event, ends_watched, last_heard, shown};
@@ -134,9 +134,9 @@ pub fn refusal_rows()
 /// The housekeeping packet, its fields all different; and the mask, the entries in the first and the last place by themselves.
 pub fn housekeeping_rows()
     ensures packet { housekeeping_of 0x01020304 (record { accepted = 0x11; errors = 0x22 }) true false 0x3344 0x5566 0x7788 0x99AABBCC ((record { name = Some load_bytes; sort = 1 }) ∷ (record { name = Some cam_bytes; sort = 4 }) ∷ (record { name = Some load_bytes; sort = 0 }) ∷ []) ((record { name = load_bytes; value = 0x0D0E0F10 }) ∷ (record { name = load_bytes; value = 1 }) ∷ []) ≡ 8 ∷ 0xAD ∷ 0xC0 ∷ 0 ∷ 0 ∷ 0x21 ∷ 1 ∷ 2 ∷ 3 ∷ 4 ∷ 0 ∷ 0 ∷ 0x11 ∷ 0x22 ∷ 1 ∷ 0 ∷ 0x33 ∷ 0x44 ∷ 0x55 ∷ 0x66 ∷ 0x77 ∷ 0x88 ∷ 0 ∷ 0 ∷ 0x99 ∷ 0xAA ∷ 0xBB ∷ 0xCC ∷ 0x0D ∷ 0x0E ∷ 0x0F ∷ 0x10 ∷ 0xFF ∷ 0xFF ∷ 0xFF ∷ 0xFF ∷ 0xFF ∷ 0xFF ∷ 0xFF ∷ 0xFF ∷ [] }
-    ensures first { watching_of (load_row 1 3 ∷ replicate 31 (load_row 0 3)) [] ≡ 1 }
-    ensures last { watching_of (replicate 31 (load_row 1 0) ++ load_row 1 3 ∷ []) [] ≡ 0x80000000 }
-    ensures acted { watching_of (load_row 1 3 ∷ load_row 2 3 ∷ []) ((load_at 0 ∷ []) ∷ []) ≡ 2 }
+    ensures first { watching_bits (load_row 1 3 ∷ replicate 31 (load_row 0 3)) [] ≡ 1 }
+    ensures last { watching_bits (replicate 31 (load_row 1 0) ++ load_row 1 3 ∷ []) [] ≡ 0x80000000 }
+    ensures acted { watching_bits (load_row 1 3 ∷ load_row 2 3 ∷ []) ((load_at 0 ∷ []) ∷ []) ≡ 2 }
 {}
 
 /// An event message has the id of events and 44 bytes; an entry matches it by name and event.

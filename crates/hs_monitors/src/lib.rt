@@ -2,13 +2,13 @@
 #![tactic(auto)]
 
 mod apps;
+mod duty;
 mod events;
 mod housekeeping;
 mod input;
 mod instructions;
 pub mod laws;
 mod messages;
-mod monitors;
 mod state;
 mod step;
 mod verdicts;

@@ -5,18 +5,18 @@ ghost use Rattle.hs_monitors.specs.Histories.{Input, Activation, HsEntry, Setup,
 ghost use Rattle.hs_monitors.specs.Step.{hs_items, resets_made, resets_maximum};
 ghost use Rattle.hs_monitors.specs.State.{Stands, is_idle_on, activation_of};
 
+use crate::duty::Duty;
 use crate::input::HsInput;
-use crate::monitors::Monitors;
 use bus_pipes::Counts;
 use commands::start_counts;
 use hs_tables::HsTables;
 use table_files::TableKind;
 
-/// The state of Health and Safety: both counts, and the monitors.
+/// The state of Health and Safety: both counts, and its duty.
 #[derive(Clone, Copy, Debug, PartialEq, Eq)]
 pub struct Hs {
     pub(crate) counts: Counts,
-    pub(crate) monitors: Monitors,
+    pub(crate) duty: Duty,
 }
 
 impl Hs {
@@ -28,7 +28,7 @@ impl Hs {
     {
         Hs {
             counts: start_counts(),
-            monitors: Monitors::start(tables, made, max),
+            duty: Duty::start(tables, made, max),
         }
     }
 
@@ -39,7 +39,7 @@ impl Hs {
         ensures other { activation_of kind tables.now ≡ None → self.new ≡ self.old }
     {
         match kind {
-            TableKind::AppMon => self.monitors.take_apps(&tables.apps),
+            TableKind::AppMon => self.duty.take_apps(&tables.apps),
             TableKind::EventMon => {}
             TableKind::ExeCount => {}
             TableKind::MsgActs => {}
@@ -58,7 +58,7 @@ impl Hs {
         ensures made { (setup : Setup) (history : List HsEntry) → Stands setup history self.now → result.0 ≡ resets_made setup history }
         ensures max { (setup : Setup) (history : List HsEntry) → Stands setup history self.now → result.1 ≡ resets_maximum setup history }
     {
-        self.monitors.actions.resets()
+        self.duty.actions.resets()
     }
 
     /// Whether a wakeup with this input does nothing: no packet was taken, no cooldown runs, and application monitoring is off or no entry
@@ -74,6 +74,6 @@ impl Hs {
         if !input.is_quiet() {
             return false;
         }
-        self.monitors.are_idle()
+        self.duty.are_idle()
     }
 }

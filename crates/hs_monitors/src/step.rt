@@ -7,10 +7,10 @@ ghost use Rattle.hs_monitors.specs.Histories.{HsEntry, Setup, input_of, tables_a
 ghost use Rattle.hs_monitors.specs.Step.{hs_items};
 ghost use Rattle.hs_monitors.specs.State.{Stands};
 
+use crate::duty::Duty;
 use crate::housekeeping::housekeeping;
 use crate::input::HsInput;
 use crate::instructions::Instruction;
-use crate::monitors::Monitors;
 use crate::state::Hs;
 use crate::verdicts::Refusal;
 use bus_pipes::{Counts, Outbox};
@@ -21,20 +21,20 @@ use packet_forms::{Counter, Packet};
 /// How many items a wakeup gives at most.
 pub const MOST_ITEMS: u32 = 1104;
 
-// What is read beside the packets.
+/// What is read beside the packets.
 #[derive(Clone, Copy)]
 struct Reads<'a> {
     tables: &'a HsTables,
     counters: &'a [Counter],
 }
 
-impl<'a> Commanded<Reads<'a>> for Monitors {
+impl<'a> Commanded<Reads<'a>> for Duty {
     ghost use Rattle.std.specs.Prelude.{◌≡◌};
     ghost use Rattle.hs_monitors.specs.Verdicts.{own_refusal};
     ghost use Rattle.hs_monitors.specs.Histories.{tables_after};
     ghost use Rattle.hs_monitors.specs.Attempts.{past_in};
     ghost use Rattle.hs_monitors.specs.Step.{Turn, hs_answers};
-    ghost use Rattle.hs_monitors.specs.State.{MonitorsStand};
+    ghost use Rattle.hs_monitors.specs.State.{DutyStands};
 
     type Instruction = Instruction;
 
@@ -54,11 +54,11 @@ impl<'a> Commanded<Reads<'a>> for Monitors {
 
     ghost belongs = { λ turn reads now. (reads.tables.now ≡ tables_after turn.setup turn.history) × (reads.counters.now ≡ turn.input.seen.counters) × (turn.input.time ≡ now) };
 
-    ghost stands = { λ turn orders monitors left. MonitorsStand turn.setup turn.history orders (past_in turn.setup turn.history orders) monitors };
+    ghost stands = { λ turn orders duty left. DutyStands turn.setup turn.history orders (past_in turn.setup turn.history orders) duty };
 
     ghost most = { 0 };
 
-    ghost still_safe = { λ reads n monitors left safe. safe };
+    ghost still_safe = { λ reads n duty left safe. safe };
 
     ghost timed = { λ turn reads now belongs. belongs.2 };
 
@@ -86,16 +86,12 @@ impl<'a> Commanded<Reads<'a>> for Monitors {
         left: &mut (),
         out: &mut Outbox,
     ) {
-        Monitors::obey(self, &reads.tables.apps, instruction);
+        Duty::obey(self, &reads.tables.apps, instruction);
     }
 }
 
 impl Hs {
-    /// A wakeup at the time `now`, in seconds. Each cooldown goes down by one. The packets of the command pipe, at most 16, are handled in
-    /// order: a request is answered with housekeeping, a command with its event. Where application monitoring is on, the application
-    /// monitors are checked in table order by the counters. Where event monitoring is on, the packets of the event pipe, at most 32, are
-    /// compared with the event monitors, packet by packet and in table order. What is sent goes to `out`, which is empty and has room for
-    /// 1,104 items, and the state after the wakeup to `next`. The tables are those in force.
+    /// `advance` on a copy: this state stays, and the state after the wakeup goes to `next`.
     pub fn step(
         &self,
         tables: &HsTables,
@@ -118,7 +114,11 @@ impl Hs {
         next.advance(tables, input, now, out);
     }
 
-    /// The same in place.
+    /// A wakeup at the time `now`, in seconds. Each cooldown goes down by one. The packets of the command pipe, at most 16, are handled in
+    /// order: a request is answered with housekeeping, a command with its event. Where application monitoring is on, the application
+    /// monitors are checked in table order by the counters. Where event monitoring is on, the packets of the event pipe, at most 32, are
+    /// compared with the event monitors, packet by packet and in table order. What is sent goes to `out`, which is empty and has room for
+    /// 1,104 items. The tables are those in force.
     pub fn advance(&mut self, tables: &HsTables, input: &HsInput<'_>, now: u32, out: &mut Outbox)
         requires commands { length input.now.commands.now ≤ 16 }
         requires events { length input.now.events.now ≤ 32 }
@@ -130,21 +130,21 @@ impl Hs {
         ensures few { length out.new.items ≤ MOST_ITEMS }
         ensures room { out.new.room ≡ out.old.room }
     {
-        self.monitors.tick();
+        self.duty.tick();
         let reads = Reads {
             tables,
             counters: input.counters,
         };
         handle_all(
             &mut self.counts,
-            &mut self.monitors,
+            &mut self.duty,
             input.commands,
             reads,
             now,
             &mut (),
             out,
         );
-        self.monitors.check_apps(tables, input.counters, now, out);
-        self.monitors.hear_events(tables, input.events, now, out);
+        self.duty.check_apps(tables, input.counters, now, out);
+        self.duty.hear_events(tables, input.events, now, out);
     }
 }

@@ -2,7 +2,8 @@ use Rattle.std.proofs.Common.{refl}
 use Rattle.packet_forms.specs.Numbers.{be16_bytes, be32_bytes}
 use Rattle.packet_forms.specs.Names.{name_of}
 use Rattle.packet_forms.specs.Built.{telemetry_of, primary_header, event_of, event_payload}
-use Rattle.hs_actions.specs.Items.{hs_name, event_out}
+use Rattle.hs_actions.specs.Messages.{hs_name}
+use Rattle.hs_actions.specs.Answers.{event_out}
 use Rattle.hs_actions.proofs.laws.action_rows.Goals as goal
 
 pub returns : goal.returns

@@ -4,7 +4,8 @@ use Rattle.packet_forms.specs.Names.{name_of}
 use Rattle.packet_forms.specs.Built.{telemetry_of, primary_header, event_of, event_payload}
 use Rattle.histories.specs.Words.{along, along_after, joined_along, decided, last_or}
 use Rattle.hs_actions.specs.Outcomes.{made_of, max_of, sendings, message_goes, outcomes}
-use Rattle.hs_actions.specs.Items.{hs_name, event_out, happening_items, items_of}
+use Rattle.hs_actions.specs.Messages.{hs_name}
+use Rattle.hs_actions.specs.Answers.{event_out, happening_items, items_of}
 use Rattle.hs_actions.proofs.laws.reset_rows.Goals as goal
 
 pub returns : goal.returns

@@ -11,7 +11,8 @@ use Rattle.commands.specs.Inputs.{heard_along}
 use Rattle.commands.specs.Counting.{accepted_count, error_count}
 use Rattle.commands.specs.Answering.{packet_items, command_items}
 use Rattle.hs_actions.specs.Outcomes.{made_of, max_of, sendings, sent_of, message_goes, outcomes}
-use Rattle.hs_actions.specs.Items.{hs_name, event_out, happening_items, items_of}
+use Rattle.hs_actions.specs.Messages.{hs_name}
+use Rattle.hs_actions.specs.Answers.{event_out, happening_items, items_of}
 use Rattle.hs_monitors.specs.Messages.{hs_codes}
 use Rattle.hs_monitors.specs.Instructions.{instruction_of}
 use Rattle.hs_monitors.specs.Orders.{orders_of, is_on, is_listening, refreshed_by, by_orders}
@@ -20,12 +21,12 @@ use Rattle.hs_monitors.specs.Acting.{is_same, counter_in, last_counter, changes,
 use Rattle.hs_monitors.specs.Monitors.{app_attempt, is_watching}
 use Rattle.hs_monitors.specs.Events.{is_event, is_matched, event_attempt, event_attempts}
 use Rattle.hs_monitors.specs.Attempts.{by_monitors, happened_of}
-use Rattle.hs_monitors.specs.Housekeeping.{watching_of, housekeeping_of, housekeeping_at}
+use Rattle.hs_monitors.specs.Housekeeping.{watching_bits, housekeeping_of, housekeeping_at}
 use Rattle.hs_monitors.specs.Step.{hs_heard, hs_items}
 use Rattle.hs_monitors.proofs.laws.disabled_rows.Goals as goal
 
 pub returns : goal.returns
-unfolding be16_at be16_bytes be32_bytes message_id function_code is_checksum_right checksum_of payload_of is_command name_of telemetry_of primary_header event_of event_payload along along_after joined_along last_or decided from_last bits_of wakeups activations in_force verdict_at verdicts_on orders_in heard_along accepted_count error_count packet_items command_items made_of max_of sendings sent_of message_goes outcomes hs_name event_out happening_items items_of hs_codes instruction_of orders_of is_on is_listening refreshed_by by_orders watch_of watch_at is_same counter_in last_counter changes is_still was_still acts acts_now has_acted app_attempt is_watching is_event is_matched event_attempt event_attempts by_monitors happened_of watching_of housekeeping_of housekeeping_at hs_heard hs_items
+unfolding be16_at be16_bytes be32_bytes message_id function_code is_checksum_right checksum_of payload_of is_command name_of telemetry_of primary_header event_of event_payload along along_after joined_along last_or decided from_last bits_of wakeups activations in_force verdict_at verdicts_on orders_in heard_along accepted_count error_count packet_items command_items made_of max_of sendings sent_of message_goes outcomes hs_name event_out happening_items items_of hs_codes instruction_of orders_of is_on is_listening refreshed_by by_orders watch_of watch_at is_same counter_in last_counter changes is_still was_still acts acts_now has_acted app_attempt is_watching is_event is_matched event_attempt event_attempts by_monitors happened_of watching_bits housekeeping_of housekeeping_at hs_heard hs_items
 returns c = record {
   acted = refl;
   later = refl;

@@ -3,7 +3,8 @@ use Rattle.std.specs.Prelude.{◌==◌, codes}
 use Rattle.events.specs.Events.{event_row}
 use Rattle.events.specs.Tables.{event_table, hs_events, mm_events, md_events, cs_events, sc_events, lc_events, table_events}
 use Rattle.hs_tables.specs.Actions.{entry_of}
-use Rattle.hs_actions.specs.Items.{event_out, hs_name}
+use Rattle.hs_actions.specs.Messages.{hs_name}
+use Rattle.hs_actions.specs.Answers.{event_out}
 use Rattle.hs_actions.specs.Outcomes.{act_at}
 use Rattle.hs_actions.specs.declared.action.Action.TheVariants.{Reset, Restart, Report, Message}
 use Rattle.hs_actions.specs.declared.action.Source.TheVariants.{AppMonitor, EventMonitor}

@@ -23,7 +23,7 @@ waking c setup history in_force stood =
     let checks = watch_at history (ordered_at input) in
     let before = c.handle_all.new.state in
     let middle = c.check_apps.new.self in
-    let at = c.handle_all.ensures.stands (turn_of setup history input) (in_force, refl, refl) (c.tick.ensures setup history stood.monitors) in
+    let at = c.handle_all.ensures.stands (turn_of setup history input) (in_force, refl, refl) (c.tick.ensures setup history stood.duty) in
     let places = places_on setup history tables before.places in_force at.places in
     let kept = kept_on setup history tables checks before.kept in_force at.kept in
     let same = c.check_apps.ensures.same in
@@ -46,9 +46,9 @@ returns-clause-stands c = λ setup history in_force stood.
     let input : Input = input_of c.args.now c.args.input.now in
     record {
       counts =
-          c.handle_all.ensures.counts (turn_of setup history input) (in_force, refl, refl) (c.tick.ensures setup history stood.monitors) stood.counts
+          c.handle_all.ensures.counts (turn_of setup history input) (in_force, refl, refl) (c.tick.ensures setup history stood.duty) stood.counts
           ∙ ap counts_of (sym (heard_woken history input));
-      monitors = woken_stand setup history input c.handle_all.new.state c.hear_events.new.self c.handle_all.new.out c.hear_events.new.out (waking c setup history in_force stood);
+      duty = woken_stand setup history input c.handle_all.new.state c.hear_events.new.self c.handle_all.new.out c.hear_events.new.out (waking c setup history in_force stood);
     }
 
 pub returns-clause-items : goal.returns-clause-items
@@ -56,7 +56,7 @@ unfolding Stands
 returns-clause-items c = λ setup history in_force stood.
     let input : Input = input_of c.args.now c.args.input.now in
     woken_items setup history input c.handle_all.new.state c.hear_events.new.self c.handle_all.new.out c.hear_events.new.out (waking c setup history in_force stood) c.args.out.now c.requires.empty
-    (c.handle_all.ensures.items (turn_of setup history input) (in_force, refl, refl) (c.tick.ensures setup history stood.monitors) stood.counts)
+    (c.handle_all.ensures.items (turn_of setup history input) (in_force, refl, refl) (c.tick.ensures setup history stood.duty) stood.counts)
 
 pub returns-clause-counted : goal.returns-clause-counted
 returns-clause-counted c = c.hear_events.ensures.counted (c.check_apps.ensures.counted c.handle_all.ensures.counted)

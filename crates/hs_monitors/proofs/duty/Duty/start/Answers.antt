@@ -1,0 +1,6 @@
+use Rattle.std.proofs.Common.{refl}
+use Rattle.hs_monitors.proofs.Obeying.{starts_stand}
+use Rattle.hs_monitors.proofs.duty.Duty.start.Goals as goal
+
+pub returns : goal.returns
+returns c = starts_stand c.args.tables.now c.args.made c.args.max _ refl refl c.places_in.ensures c.begin_all.ensures c.start.ensures

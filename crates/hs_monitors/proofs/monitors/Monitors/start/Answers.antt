@@ -1,6 +1,0 @@
-use Rattle.std.proofs.Common.{refl}
-use Rattle.hs_monitors.proofs.Obeying.{starts_stand}
-use Rattle.hs_monitors.proofs.monitors.Monitors.start.Goals as goal
-
-pub returns : goal.returns
-returns c = starts_stand c.args.tables.now c.args.made c.args.max _ refl refl c.places_in.ensures c.begin_all.ensures c.start.ensures

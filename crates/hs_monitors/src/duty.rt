@@ -1,0 +1,187 @@
+//! What commands of Health and Safety change: what is on, what is kept of the application monitors, and the actions.
+ghost use Rattle.std.specs.Prelude.{◌≡◌, ◌+◌, ◌≤◌, ◌&&◌, if◌then◌else◌, ℕ, nat_lt, not, true, List, [], ◌∷◌, ◌++◌, length};
+ghost use Rattle.std.specs.List.{flat_map, AllPass};
+ghost use Rattle.packet_forms.specs.declared.name.Counter.{Counter};
+ghost use Rattle.bus_pipes.specs.Counted.{is_item_counted};
+ghost use Rattle.hs_tables.specs.declared.apps.AppRow.{AppRow};
+ghost use Rattle.hs_tables.specs.declared.tables.HsTables.{HsTables};
+ghost use Rattle.hs_actions.specs.Outcomes.{Past, in_next_wakeup};
+ghost use Rattle.hs_actions.specs.Performs.{Performs};
+ghost use Rattle.hs_monitors.specs.Histories.{HsEntry, Setup, apps_after, setup_of};
+ghost use Rattle.hs_monitors.specs.Orders.{refreshes};
+ghost use Rattle.hs_monitors.specs.Monitors.{places_of, app_attempt};
+ghost use Rattle.hs_monitors.specs.Events.{event_attempts};
+ghost use Rattle.hs_monitors.specs.Attempts.{past_of, past_in};
+ghost use Rattle.hs_monitors.specs.Housekeeping.{watching_bits};
+ghost use Rattle.hs_monitors.specs.Entries.{EntriesStand};
+ghost use Rattle.hs_monitors.specs.State.{DutyStands, are_idle};
+ghost use Rattle.hs_monitors.specs.declared.instructions.Instruction.{Instruction};
+
+use crate::apps::{PLACES, begin_all, check_all, places_in};
+use crate::events::hear_all;
+use crate::housekeeping::{Shown, watching_bits};
+use crate::instructions::Instruction;
+use crate::watches::Watched;
+use bus_pipes::Outbox;
+use hs_actions::Actions;
+use hs_tables::{AppMon, HsTables};
+use packet_forms::{Counter, Packet};
+
+/// What Health and Safety has to do beside answering: whether application monitoring and event monitoring are on, how many places of the
+/// application monitors there are up to the last used entry and what is kept of each, and the actions.
+#[derive(Clone, Copy, Debug, PartialEq, Eq)]
+pub(crate) struct Duty {
+    monitoring: bool,
+    listening: bool,
+    places: u8,
+    kept: [Watched; PLACES],
+    pub(crate) actions: Actions,
+}
+
+impl Duty {
+    /// Before the first wakeup: both monitorings are on, and so many resets were made of at most `max`.
+    pub(crate) fn start(tables: &HsTables, made: u16, max: u16) -> Duty
+        ensures { DutyStands (setup_of tables.now made max) [] [] (past_of (setup_of tables.now made max) []) result }
+    {
+        Duty {
+            monitoring: true,
+            listening: true,
+            places: places_in(&tables.apps),
+            kept: begin_all(&tables.apps),
+            actions: Actions::start(made, max),
+        }
+    }
+
+    /// Begins a wakeup: each cooldown goes down by one.
+    pub(crate) fn tick(&mut self)
+        ensures { (setup : Setup) (history : List HsEntry) → DutyStands setup history [] (past_of setup history) self.old → DutyStands setup history [] (past_in setup history []) self.new }
+    {
+        self.actions.tick();
+    }
+
+    /// Does what an accepted command asks for.
+    pub(crate) fn obey(&mut self, apps: &AppMon, instruction: &Instruction)
+        ensures { (setup : Setup) (history : List HsEntry) (orders : List Instruction) → apps.now ≡ apps_after setup history
+            → DutyStands setup history orders (past_in setup history orders) self.old
+            → DutyStands setup history (orders ++ instruction.now ∷ []) (past_in setup history (orders ++ instruction.now ∷ [])) self.new }
+    {
+        match instruction {
+            Instruction::Plain => {}
+            Instruction::Monitor { on } => self.monitor(apps, *on),
+            Instruction::Listen { on } => self.listening = *on,
+            Instruction::Clear => self.actions.clear_resets(),
+            Instruction::Limit { max } => self.actions.set_max(*max),
+        }
+    }
+
+    /// Switches application monitoring on, with a refresh, or off.
+    fn monitor(&mut self, apps: &AppMon, on: bool)
+        ensures monitoring { self.new.monitoring ≡ on }
+        ensures listening { self.new.listening ≡ self.old.listening }
+        ensures places { self.new.places ≡ self.old.places }
+        ensures actions { self.new.actions ≡ self.old.actions }
+        ensures kept { (checks : List (List Counter)) → EntriesStand apps.now (λ place. checks) self.old.kept → EntriesStand apps.now (λ place. if on then [] else checks) self.new.kept }
+    {
+        self.monitoring = on;
+        if !on {
+            return;
+        }
+        self.kept = begin_all(apps);
+    }
+
+    /// Takes another table of application monitors: their watch begins anew.
+    pub(crate) fn take_apps(&mut self, apps: &AppMon)
+        ensures monitoring { self.new.monitoring ≡ self.old.monitoring }
+        ensures listening { self.new.listening ≡ self.old.listening }
+        ensures places { self.new.places ≡ places_of apps.now }
+        ensures actions { self.new.actions ≡ self.old.actions }
+        ensures kept { EntriesStand apps.now (λ place. []) self.new.kept }
+    {
+        self.places = places_in(apps);
+        self.kept = begin_all(apps);
+    }
+
+    /// Checks the application monitors, where application monitoring is on.
+    pub(crate) fn check_apps(
+        &mut self,
+        tables: &HsTables,
+        counters: &[Counter],
+        now: u32,
+        out: &mut Outbox,
+    )
+        requires room { length out.old.items + 64 ≤ out.old.room }
+        ensures same { (self.new.monitoring ≡ self.old.monitoring) × (self.new.listening ≡ self.old.listening) × (self.new.places ≡ self.old.places) }
+        ensures kept { (checks : List (List Counter)) → self.old.places ≡ places_of tables.now.apps → EntriesStand tables.now.apps (λ place. checks) self.old.kept
+            → EntriesStand tables.now.apps (λ place. if self.old.monitoring then checks ++ counters.now ∷ [] else checks) self.new.kept }
+        ensures performs { (checks : List (List Counter)) → self.old.places ≡ places_of tables.now.apps → EntriesStand tables.now.apps (λ place. checks) self.old.kept
+            → Performs tables.now.acts now (λ k. if self.old.monitoring then flat_map (app_attempt k (checks ++ counters.now ∷ [])) tables.now.apps else []) self.old.actions self.new.actions out.old out.new }
+        ensures counted { AllPass is_item_counted out.old.items → AllPass is_item_counted out.new.items }
+        ensures few { length out.new.items ≤ length out.old.items + 64 }
+        ensures room { out.new.room ≡ out.old.room }
+    {
+        if !self.monitoring {
+            return;
+        }
+        check_all(
+            tables,
+            self.places,
+            &mut self.kept,
+            counters,
+            now,
+            &mut self.actions,
+            out,
+        );
+    }
+
+    /// Compares the packets of the event pipe, at most 32, with the event monitors, where event monitoring is on.
+    pub(crate) fn hear_events(
+        &mut self,
+        tables: &HsTables,
+        events: &[Packet],
+        now: u32,
+        out: &mut Outbox,
+    )
+        requires events { length events.now ≤ 32 }
+        requires room { length out.old.items + 1024 ≤ out.old.room }
+        ensures same { (self.new.monitoring ≡ self.old.monitoring) × (self.new.listening ≡ self.old.listening) × (self.new.places ≡ self.old.places) × (self.new.kept ≡ self.old.kept) }
+        ensures performs { Performs tables.now.acts now (λ k. if self.old.listening then flat_map (event_attempts k tables.now.events) events.now else []) self.old.actions self.new.actions out.old out.new }
+        ensures counted { AllPass is_item_counted out.old.items → AllPass is_item_counted out.new.items }
+        ensures few { length out.new.items ≤ length out.old.items + 1024 }
+        ensures room { out.new.room ≡ out.old.room }
+    {
+        if !self.listening {
+            return;
+        }
+        hear_all(tables, events, now, &mut self.actions, out);
+    }
+
+    /// What housekeeping shows of them.
+    pub(crate) fn shown(&self, apps: &AppMon) -> Shown
+        ensures monitoring { result.monitoring ≡ self.now.monitoring }
+        ensures listening { result.listening ≡ self.now.listening }
+        ensures watching { (checks : List (List Counter)) → EntriesStand apps.now (λ place. checks) self.now.kept → result.watching ≡ watching_bits apps.now checks }
+    {
+        Shown {
+            monitoring: self.monitoring,
+            listening: self.listening,
+            watching: watching_bits(apps, &self.kept),
+        }
+    }
+
+    /// Whether a wakeup without packets does nothing.
+    #[inline(always)]
+    pub(crate) fn are_idle(&self) -> bool
+        ensures { (setup : Setup) (history : List HsEntry) → DutyStands setup history [] (past_of setup history) self.now → result ≡ are_idle setup history }
+    {
+        !self.may_check() && !self.actions.is_cooling()
+    }
+
+    /// Whether a used entry may be checked: without one, no more is asked.
+    #[tactic(auto, using(crate::proofs::Acting::and_no))]
+    #[inline(always)]
+    fn may_check(&self) -> bool
+        ensures { result ≡ (self.now.monitoring && nat_lt 0 self.now.places) }
+    {
+        self.places > 0 && self.monitoring
+    }
+}
