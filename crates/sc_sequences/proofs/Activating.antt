@@ -14,7 +14,7 @@ use Rattle.sc_sequences.specs.Turns.{Sequences}
 use Rattle.sc_sequences.specs.Histories.{ScEntry, Beginning, Activation, activation_at, with_loaded, basis_in, packets_in, sequences_of, tables_after}
 use Rattle.sc_sequences.specs.Step.{sc_heard}
 use Rattle.sc_sequences.specs.Cursors.{cursor_in}
-use Rattle.sc_sequences.specs.State.{CursorStands, CursorsStand, SequencerStands, Stands, IsReady, place_of, runs_in, activation_of}
+use Rattle.sc_sequences.specs.State.{CursorStands, CursorsStand, DutyStands, Stands, IsReady, place_of, runs_in, activation_of}
 use Rattle.sc_sequences.specs.declared.cursors.Cursor.{Cursor}
 use Rattle.sc_sequences.specs.declared.state.Sc.{Sc}
 use Rattle.sc_sequences.proofs.Waking.{sequences_more}
@@ -71,12 +71,12 @@ activated_stands begin history a sc rests stood =
     let s = sequences_of begin history in
     record {
       counts = stood.counts ∙ ap counts_of (sym (heard_idle sc_protocol (basis_in begin) packets_in history (Activated a) refl));
-      sequencer =
-          subst (λ (m : Sequences). SequencerStands (tables_of m.all) m sc.sequencer) (sym (sequences_more begin history (Activated a)))
-          (record { cursors = all_reloaded s.all sc.sequencer.cursors a.place a.commands rests stood.sequencer.cursors; sent = stood.sequencer.sent; wrong = stood.sequencer.wrong });
+      duty =
+          subst (λ (m : Sequences). DutyStands (tables_of m.all) m sc.duty) (sym (sequences_more begin history (Activated a)))
+          (record { cursors = all_reloaded s.all sc.duty.cursors a.place a.commands rests stood.duty.cursors; sent = stood.duty.sent; wrong = stood.duty.wrong });
     }
 
--- the same by the kind of the sequence
+-- an activation by the kind of the sequence
 pub kind_activated : (begin : Beginning) (history : List ScEntry) (kind : TableKind) (tables : List (List TimedCommand)) (a : Activation) (sc : Sc) → activation_of kind tables ≡ Some a
     → runs_in (sequences_of begin history).all (place_of kind) ≡ false → Stands begin history sc → Stands begin (history ++ Activated a ∷ []) sc
 kind_activated begin history kind tables a sc is rests stood = by_place (place_of kind) is rests
@@ -112,6 +112,6 @@ pub left_in_table : (begin : Beginning) (history : List ScEntry) (sc : Sc) (k : 
 unfolding Stands
 left_in_table begin history sc k below runs stood =
     let s = at_place (sequences_of begin history).all k in
-    let stands = stood.sequencer.cursors.each k below in
+    let stands = stood.duty.cursors.each k below in
     let time = timed s.base s.left runs in
-    ((cursor_in sc.sequencer.cursors k).at, stands.left time.0 (stands.next ∙ time.1))
+    ((cursor_in sc.duty.cursors k).at, stands.left time.0 (stands.next ∙ time.1))

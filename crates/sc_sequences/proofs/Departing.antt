@@ -7,7 +7,9 @@ use Rattle.std.proofs.lemmas.List.Elements.{filter_map-append, All-append, All-n
 use Rattle.packet_forms.specs.Packets.{is_checksum_right}
 use Rattle.sc_tables.specs.Commands.{TimedCommand}
 use Rattle.sc_sequences.specs.Sequences.{Sequence, at_place, is_relative, base_at, going_on, first_time, head_time}
-use Rattle.sc_sequences.specs.Turns.{Sequences, Done, next_place, sc_event, ending_items, head_items, left_behind, leaving, turn, turns}
+use Rattle.sc_sequences.specs.declared.messages.Event.TheVariants.{WrongInAts, WrongInRts}
+use Rattle.sc_sequences.specs.Answers.{sc_event, ending_items, head_items}
+use Rattle.sc_sequences.specs.Turns.{Sequences, Done, next_place, left_behind, leaving, turn, turns}
 use Rattle.sc_sequences.specs.Laws.{Departure, departing, departing_at, departures, right_packet, stored_in, IsBefore, LeavesNoneBefore, RiseFrom, AreTimed, ComesFirst}
 use Rattle.sc_sequences.proofs.Firsts.{next_comes, changed_or_not, no_time}
 use Rattle.sc_sequences.proofs.Takes.{turn_taken, turn_idle}
@@ -221,7 +223,7 @@ unfolding head_items
 head_stored place now true packet left = ap (λ (more : List (List ℕ)). packet ∷ more) (ends_unstored place now left)
 head_stored place now false packet left = by_place (is_relative place)
   where
-    by_place : (b : Bool) → filter_map stored_in (cond b (sc_event 102 3 now ∷ []) (sc_event 101 3 now ∷ ending_items place now left)) ≡ []
+    by_place : (b : Bool) → filter_map stored_in (cond b (sc_event WrongInRts now ∷ []) (sc_event WrongInAts now ∷ ending_items place now left)) ≡ []
     by_place true = refl
     by_place false = ends_unstored place now left
 

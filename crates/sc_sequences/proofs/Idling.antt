@@ -12,9 +12,9 @@ use Rattle.sc_tables.specs.Commands.{TimedCommand}
 use Rattle.sc_sequences.specs.Messages.{sc_name}
 use Rattle.sc_sequences.specs.Verdicts.{sc_protocol}
 use Rattle.sc_sequences.specs.Turns.{Sequences, Done, nothing, next_place, turns}
-use Rattle.sc_sequences.specs.Histories.{Input, ScEntry, Beginning, basis_of, basis_in, packets_in, heard_in, ordered, ordered_in, turned, sequences_of, tables_after}
+use Rattle.sc_sequences.specs.Histories.{Input, ScEntry, Beginning, basis_of, basis_in, packets_in, heard_at, ordered, ordered_at, turned, sequences_of, tables_after}
 use Rattle.sc_sequences.specs.Step.{sc_heard, sc_answers, wakeup_of, sc_items}
-use Rattle.sc_sequences.specs.State.{SequencerStands, Stands, is_idle_on}
+use Rattle.sc_sequences.specs.State.{DutyStands, Stands, is_idle_on}
 use Rattle.sc_sequences.specs.declared.instructions.Instruction.{Instruction}
 use Rattle.sc_sequences.specs.declared.state.Sc.{Sc}
 use Rattle.sc_sequences.proofs.Takes.{turns_none, turns_idle}
@@ -22,10 +22,10 @@ use Rattle.sc_sequences.proofs.Waking.{sequences_more, unordered}
 use Rattle.sc_sequences.proofs.Loaded.{tables_woken}
 
 -- no packets, nothing heard and nothing ordered
-none_heard : (s : Sequences) (input : Input) → input.commands ≡ [] → heard_in s input ≡ []
+none_heard : (s : Sequences) (input : Input) → input.commands ≡ [] → heard_at s input ≡ []
 none_heard s input none = ap (verdicts_on sc_protocol (basis_of s input)) none ∙ verdicts_none sc_protocol (basis_of s input)
 
-none_ordered : (s : Sequences) (input : Input) → input.commands ≡ [] → ordered_in s input ≡ []
+none_ordered : (s : Sequences) (input : Input) → input.commands ≡ [] → ordered_at s input ≡ []
 unfolding orders_in
 none_ordered s input none = ap (λ (heard : List (Verdict Instruction)). orders_in heard) (none_heard s input none)
 
@@ -45,9 +45,9 @@ module _ (begin : Beginning) (history : List ScEntry) (input : Input) (none : in
   unfolding Stands sc_heard
   idle_stands sc stood = record {
     counts = stood.counts ∙ ap counts_of (sym (heard_idle sc_protocol (basis_in begin) packets_in history (Woken input) none));
-    sequencer =
-        subst (λ (s : Sequences). SequencerStands (tables_after begin (history ++ Woken input ∷ [])) s sc.sequencer) (sym same_sequences)
-        (subst (λ (tables : List (List TimedCommand)). SequencerStands tables (sequences_of begin history) sc.sequencer) (sym (tables_woken begin history input)) stood.sequencer);
+    duty =
+        subst (λ (s : Sequences). DutyStands (tables_after begin (history ++ Woken input ∷ [])) s sc.duty) (sym same_sequences)
+        (subst (λ (tables : List (List TimedCommand)). DutyStands tables (sequences_of begin history) sc.duty) (sym (tables_woken begin history input)) stood.duty);
   }
 
   pub idle_items : sc_items begin history input ≡ []

@@ -7,7 +7,7 @@ use Rattle.sc_tables.specs.Commands.{TimedCommand}
 use Rattle.sc_sequences.specs.Sequences.{Sequence, waiting, at_place, with_at, is_loaded, going_on, stopped, from_time, started_with, started_at, running_ats, ats_place, rts_place, other_ats, tables_of}
 use Rattle.sc_sequences.specs.Orders.{where_placed, allowed, switched, jumped, obeyed, after_orders}
 use Rattle.sc_sequences.specs.Turns.{Sequences, Done, next_place, leaving, turn, turns}
-use Rattle.sc_sequences.specs.Histories.{Input, Activation, ScEntry, Beginning, first_started, at_start, sequences_of, tables_after, ordered, ordered_in}
+use Rattle.sc_sequences.specs.Histories.{Input, Activation, ScEntry, Beginning, first_started, at_start, sequences_of, tables_after, ordered, ordered_at}
 use Rattle.sc_sequences.specs.declared.instructions.Instruction.{Instruction}
 use Rattle.sc_sequences.specs.declared.instructions.Instruction.TheVariants.{Plain, StartAts, StopAts, StartRts, StopRts, DisableRts, EnableRts, SwitchAts, JumpAts}
 use Rattle.sc_sequences.proofs.Takes.{turn_taken, turn_idle}
@@ -98,8 +98,8 @@ pub tables_woken : (begin : Beginning) (history : List ScEntry) (input : Input) 
 tables_woken begin history input =
     let s = sequences_of begin history in
     ap (λ (m : Sequences). tables_of m.all) (sequences_more begin history (Woken input))
-    ∙ turns_keep 8 input.time (ordered input.time (ordered_in s input) s)
-    ∙ orders_keep input.time s.all (ordered_in s input)
+    ∙ turns_keep 8 input.time (ordered input.time (ordered_at s input) s)
+    ∙ orders_keep input.time s.all (ordered_at s input)
 
 pub tables_activated : (begin : Beginning) (history : List ScEntry) (a : Activation) → tables_after begin (history ++ Activated a ∷ []) ≡ set (tables_after begin history) a.place a.commands
 tables_activated begin history a = ap (λ (m : Sequences). tables_of m.all) (sequences_more begin history (Activated a)) ∙ set_loaded (sequences_of begin history).all a.place _

@@ -5,7 +5,7 @@ use Rattle.histories.specs.Entries.Entry.{Woken, Activated}
 use Rattle.sc_tables.specs.Commands.{commands_in}
 use Rattle.sc_sequences.specs.Sequences.{Sequence, waiting, at_place}
 use Rattle.sc_sequences.specs.Turns.{Sequences}
-use Rattle.sc_sequences.specs.Histories.{ScEntry, Beginning, first_started, with_loaded, at_start, after_entry, sequences_of, ordered, ordered_in}
+use Rattle.sc_sequences.specs.Histories.{ScEntry, Beginning, first_started, with_loaded, at_start, after_entry, sequences_of, ordered, ordered_at}
 use Rattle.sc_sequences.specs.Laws.{RiseFrom, AreTimed, IsEntryTimed, AreEntriesTimed, AreTablesTimed}
 use Rattle.sc_sequences.proofs.Firsts.{changed_or_not}
 use Rattle.sc_sequences.proofs.Beginning.{waiting_at}
@@ -27,7 +27,7 @@ begun_timed begin timed = record {
     ]
 
 entry_timed : (s : Sequences) (entry : ScEntry) → AreTimed s.all → IsEntryTimed entry → AreTimed (after_entry s entry).all
-entry_timed s (Woken input) timed entered = (leaves 8 input.time (ordered input.time (ordered_in s input) s) (orders_follow input.time s.all (ordered_in s input) timed).timed).timed
+entry_timed s (Woken input) timed entered = (leaves 8 input.time (ordered input.time (ordered_at s input) s) (orders_follow input.time s.all (ordered_at s input) timed).timed).timed
 entry_timed s (Activated a) timed entered = record { loaded = λ k two. by_loaded k two; left = λ k two. by_left k two; base = λ k two. by_base k two }
   where
     by_loaded : (k : ℕ) → k < 2 → RiseFrom 0 (at_place (set s.all a.place (with_loaded a.commands (at_place s.all a.place))) k).loaded

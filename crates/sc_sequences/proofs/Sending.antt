@@ -8,11 +8,12 @@ use Rattle.bus_pipes.specs.Held.{Held, adding}
 use Rattle.bus_pipes.specs.declared.names.Out.{Out}
 use Rattle.sc_tables.specs.Commands.{TimedCommand, commands_in, command_at}
 use Rattle.sc_sequences.specs.Sequences.{Sequence, command_in, has_some, at_place, with_at, going_on, head_time}
-use Rattle.sc_sequences.specs.Turns.{Sequences, soonest, place_due, ending_items, head_items, left_behind, leaving}
+use Rattle.sc_sequences.specs.Answers.{ending_items, head_items}
+use Rattle.sc_sequences.specs.Turns.{Sequences, soonest, place_due, left_behind, leaving}
 use Rattle.sc_sequences.specs.Cursors.{cursor_in, next_times}
-use Rattle.sc_sequences.specs.State.{CursorsStand, SequencerStands}
+use Rattle.sc_sequences.specs.State.{CursorsStand, DutyStands}
 use Rattle.sc_sequences.specs.declared.cursors.Cursor.{Cursor}
-use Rattle.sc_sequences.specs.declared.sequencer.Sequencer.{Sequencer}
+use Rattle.sc_sequences.specs.declared.duty.Duty.{Duty}
 use Rattle.sc_sequences.proofs.Nexts.{has_head, left_is}
 use Rattle.sc_sequences.proofs.Takes.{place_is}
 use Rattle.sc_sequences.proofs.Firsts.{next_comes, inside, head_in}
@@ -69,11 +70,11 @@ module _ (tables : List (List TimedCommand)) (s : Sequences) (now place at next 
       next_is ∙ ap (λ (k : ℕ). left_behind place right (drop (k + 1) (commands_in tables place))) at_is
       ∙ ap (λ (b : Bool). left_behind place b (drop ((cursor_in cursors place).at + 1) (commands_in tables place))) checked
 
-  pub leaves_stand : (new : Sequencer) (middle : List Cursor) → CursorsStand tables (with_at place (going_on place now (drop next (commands_in tables place))) s.all) middle → new.cursors ≡ middle
-      → new.sent ≡ cond right (s.sent + 1) s.sent % 65536 → new.wrong ≡ cond right s.wrong (s.wrong + 1) % 65536 → SequencerStands tables (leaving now s place (at_place s.all place).left).after new
+  pub leaves_stand : (new : Duty) (middle : List Cursor) → CursorsStand tables (with_at place (going_on place now (drop next (commands_in tables place))) s.all) middle → new.cursors ≡ middle
+      → new.sent ≡ cond right (s.sent + 1) s.sent % 65536 → new.wrong ≡ cond right s.wrong (s.wrong + 1) % 65536 → DutyStands tables (leaving now s place (at_place s.all place).left).after new
   leaves_stand new middle went same sent wrong =
       let q = at_place s.all place in
-      subst (λ (commands : List TimedCommand). SequencerStands tables (leaving now s place commands).after new) (sym left)
+      subst (λ (commands : List TimedCommand). DutyStands tables (leaving now s place commands).after new) (sym left)
       (record {
         cursors =
             subst (λ (cs : List Cursor). CursorsStand tables (set s.all place (going_on place now (left_behind place (is_checksum_right one.packet) rest) q)) cs) (sym same)

@@ -8,11 +8,11 @@ use Rattle.sc_sequences.specs.Sequences.{Sequence}
 use Rattle.sc_sequences.specs.Orders.{obeyed, after_orders}
 use Rattle.sc_sequences.specs.Verdicts.{sc_protocol}
 use Rattle.sc_sequences.specs.Turns.{Sequences}
-use Rattle.sc_sequences.specs.Histories.{Input, ScEntry, Beginning, at_start, after_entry, sequences_of, heard_in, ordered, packets_in, basis_in}
+use Rattle.sc_sequences.specs.Histories.{Input, ScEntry, Beginning, at_start, after_entry, sequences_of, heard_at, ordered, packets_in, basis_in}
 use Rattle.sc_sequences.specs.Step.{sc_heard}
-use Rattle.sc_sequences.specs.State.{CursorsStand, SequencerStands}
+use Rattle.sc_sequences.specs.State.{CursorsStand, DutyStands}
 use Rattle.sc_sequences.specs.declared.cursors.Cursor.{Cursor}
-use Rattle.sc_sequences.specs.declared.sequencer.Sequencer.{Sequencer}
+use Rattle.sc_sequences.specs.declared.duty.Duty.{Duty}
 use Rattle.sc_sequences.specs.declared.instructions.Instruction.{Instruction}
 
 -- the sequences behind no entry, and behind one more
@@ -25,7 +25,7 @@ unfolding sequences_of
 sequences_more begin history entry = fold_push after_entry (at_start begin) history entry
 
 -- what was heard
-pub heard_woken : (begin : Beginning) (history : List ScEntry) (input : Input) → sc_heard begin (history ++ Woken input ∷ []) ≡ sc_heard begin history ++ heard_in (sequences_of begin history) input
+pub heard_woken : (begin : Beginning) (history : List ScEntry) (input : Input) → sc_heard begin (history ++ Woken input ∷ []) ≡ sc_heard begin history ++ heard_at (sequences_of begin history) input
 unfolding sc_heard
 heard_woken begin history input = heard_more sc_protocol (basis_in begin) packets_in history (Woken input)
 
@@ -52,6 +52,6 @@ more_stand tables in_force now time all orders o old new same timed stood obeys 
     (subst (λ (t : List (List TimedCommand)). CursorsStand t (obeyed now (after_orders time all orders) o) new) same
     (obeys (after_orders time all orders) (subst (λ (t : List (List TimedCommand)). CursorsStand t (after_orders time all orders) old) (sym same) stood))))
 
--- the sequencer on the same tables
-pub on_tables : (tables in_force : List (List TimedCommand)) (s : Sequences) (sequencer : Sequencer) → tables ≡ in_force → SequencerStands tables s sequencer → SequencerStands in_force s sequencer
-on_tables tables in_force s sequencer same stood = subst (λ (t : List (List TimedCommand)). SequencerStands t s sequencer) same stood
+-- the duty on equal tables
+pub on_tables : (tables in_force : List (List TimedCommand)) (s : Sequences) (duty : Duty) → tables ≡ in_force → DutyStands tables s duty → DutyStands in_force s duty
+on_tables tables in_force s duty same stood = subst (λ (t : List (List TimedCommand)). DutyStands t s duty) same stood

@@ -15,7 +15,7 @@ next_times cursors = map (λ c. c.next) cursors
 abbrev pub time_in : List (Option ℕ) → ℕ → Option ℕ
 time_in times place = slice_index_or times place None
 
--- This one is the soonest of the first n times: no earlier one is among them, nor the same before it.
+-- A time and its place are the soonest of the first n times: no earlier time is among them, and no equal one in an earlier place.
 pub record IsSoonest (times : List (Option ℕ)) (n : ℕ) (due : Due) : Type 0 where
   pub within : due.place < n
   pub here : time_in times due.place ≡ Some due.time

@@ -55,15 +55,15 @@ abbrev pub ordered : ℕ → List Instruction → Sequences → Sequences
 ordered now orders s = record s { all = after_orders now s.all orders }
 
 -- The verdicts on the packets of a wakeup, and what was ordered in it.
-abbrev pub heard_in : Sequences → Input → List (Verdict Instruction)
-heard_in s input = verdicts_on sc_protocol (basis_of s input) input.commands
+abbrev pub heard_at : Sequences → Input → List (Verdict Instruction)
+heard_at s input = verdicts_on sc_protocol (basis_of s input) input.commands
 
-abbrev pub ordered_in : Sequences → Input → List Instruction
-ordered_in s input = orders_in (heard_in s input)
+abbrev pub ordered_at : Sequences → Input → List Instruction
+ordered_at s input = orders_in (heard_at s input)
 
 -- What is done in a wakeup behind its commands: at most eight turns.
 abbrev pub turned : Sequences → Input → Done
-turned s input = turns 8 input.time (ordered input.time (ordered_in s input) s)
+turned s input = turns 8 input.time (ordered input.time (ordered_at s input) s)
 
 -- An activation changes what is loaded in a place, and nothing else.
 abbrev pub with_loaded : List TimedCommand → Sequence → Sequence
@@ -77,7 +77,7 @@ after_entry s (Activated a) = record s { all = with_at a.place (with_loaded a.co
 unfoldable pub sequences_of : Beginning → List ScEntry → Sequences
 sequences_of begin history = fold after_entry (at_start begin) history
 
--- The tables in force there.
+-- The tables in force behind these entries.
 abbrev pub tables_after : Beginning → List ScEntry → List (List TimedCommand)
 tables_after begin history = tables_of (sequences_of begin history).all
 

@@ -40,13 +40,13 @@ unfoldable pub be64_bytes : ℕ → List ℕ
 be64_bytes n = be32_bytes (n / 4294967296) ++ be32_bytes n
 
 -- What is told of the commands: those left, those sent, those with a wrong checksum, 0.
-abbrev pub told_bytes : ℕ → ℕ → ℕ → List ℕ
-told_bytes left sent wrong = be16_bytes left ++ be16_bytes sent ++ be16_bytes wrong ++ be16_bytes 0
+abbrev pub numbers_bytes : ℕ → ℕ → ℕ → List ℕ
+numbers_bytes left sent wrong = be16_bytes left ++ be16_bytes sent ++ be16_bytes wrong ++ be16_bytes 0
 
 -- The housekeeping packet: both counts, the absolute sequence that runs, 0, how many of its commands are left, the commands sent and those with a
 -- wrong checksum, 0, the relative sequences that run, and those that are enabled.
 unfoldable pub housekeeping_of : ℕ → Counts → Report → List ℕ
 housekeeping_of time counts report =
     telemetry_of sc_housekeeping time (
-    (counts.accepted ∷ counts.errors ∷ report.ats ∷ 0 ∷ []) ++ told_bytes report.left report.sent report.wrong
+    (counts.accepted ∷ counts.errors ∷ report.ats ∷ 0 ∷ []) ++ numbers_bytes report.left report.sent report.wrong
     ++ be64_bytes report.masks.running ++ be64_bytes report.masks.enabled)

@@ -57,7 +57,7 @@ pub record AreTimed (all : List Sequence) : Type 0 where
   pub left : (place : ℕ) → place < 2 → RiseFrom 0 (at_place all place).left
   pub base : (place : ℕ) → place < 2 → (at_place all place).base ≡ 0
 
--- The next command of the sequence in a place comes first: it is due, and of all next commands none has an earlier time, nor the same in an
+-- The next command of the sequence in a place comes first: it is due, and of all next commands none has an earlier time, nor an equal one in an
 -- earlier place.
 pub record ComesFirst (now : ℕ) (all : List Sequence) (place time : ℕ) : Type 0 where
   pub here : head_time (at_place all place) ≡ Some time

@@ -3,6 +3,7 @@ pub mod Instructions
 pub mod Sequences
 pub mod Orders
 pub mod Verdicts
+pub mod Answers
 pub mod Turns
 pub mod Histories
 pub mod Housekeeping

@@ -3,6 +3,8 @@ use Rattle.std.specs.Prelude.{ℕ, List, [], ◌∷◌, codes}
 use Rattle.packet_forms.specs.Names.{name_of}
 use Rattle.commands.specs.Rows.{code_row}
 use Rattle.commands.specs.declared.verdicts.CodeRow.{CodeRow}
+use Rattle.sc_sequences.specs.declared.messages.Event.{Event}
+use Rattle.sc_sequences.specs.declared.messages.Event.TheVariants.{WrongInAts, WrongInRts, AtsEnded, RtsEnded}
 
 -- Stored Command's name.
 unfoldable pub sc_name : List ℕ
@@ -27,3 +29,16 @@ ats_ended = 103
 
 abbrev pub rts_ended : ℕ
 rts_ended = 104
+
+-- The number of an event, and its type: 2 information, 3 an error.
+abbrev pub event_number : Event → ℕ
+event_number WrongInAts = wrong_in_ats
+event_number WrongInRts = wrong_in_rts
+event_number AtsEnded = ats_ended
+event_number RtsEnded = rts_ended
+
+abbrev pub event_kind : Event → ℕ
+event_kind WrongInAts = 3
+event_kind WrongInRts = 3
+event_kind AtsEnded = 2
+event_kind RtsEnded = 2

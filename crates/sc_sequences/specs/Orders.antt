@@ -33,6 +33,6 @@ obeyed now all (EnableRts number) = where_placed (rts_place number) (λ place. w
 obeyed now all SwitchAts = where_placed (running_ats all) (λ place. switched now place) all
 obeyed now all (JumpAts time) = where_placed (running_ats all) (λ place. jumped now time place) all
 
--- And after several.
+-- The sequences after several accepted commands.
 unfoldable pub after_orders : ℕ → List Sequence → List Instruction → List Sequence
 after_orders now all orders = fold (obeyed now) all orders

@@ -25,7 +25,7 @@ is_running s = has_some s.left
 abbrev pub is_loaded : Sequence → Bool
 is_loaded s = has_some s.loaded
 
--- One that waits for its start.
+-- A sequence that waits for its start.
 abbrev pub waiting : List TimedCommand → Sequence
 waiting commands = record { loaded = commands; left = []; base = 0; enabled = false }
 

@@ -10,7 +10,7 @@ use Rattle.sc_sequences.specs.Histories.{ScEntry, Beginning, Activation, activat
 use Rattle.sc_sequences.specs.Step.{sc_heard}
 use Rattle.sc_sequences.specs.Cursors.{cursor_in}
 use Rattle.sc_sequences.specs.declared.cursors.Cursor.{Cursor}
-use Rattle.sc_sequences.specs.declared.sequencer.Sequencer.{Sequencer}
+use Rattle.sc_sequences.specs.declared.duty.Duty.{Duty}
 use Rattle.sc_sequences.specs.declared.state.Sc.{Sc}
 
 -- The cursor of a sequence that has these commands stands for it: it has the time of the next command, and where one is left it says from
@@ -21,34 +21,34 @@ pub record CursorStands (commands : List TimedCommand) (s : Sequence) (c : Curso
   pub left : (time : ℕ) → c.next ≡ Some time → drop c.at commands ≡ s.left
   pub enabled : c.enabled ≡ s.enabled
 
--- And those of all sequences, by their places.
+-- The cursors of all sequences stand for them, by their places.
 pub record CursorsStand (tables : List (List TimedCommand)) (all : List Sequence) (cursors : List Cursor) : Type 0 where
   pub whole : length all ≡ 66
   pub places : length cursors ≡ 66
   pub each : (k : ℕ) → k < 66 → CursorStands (commands_in tables k) (at_place all k) (cursor_in cursors k)
 
--- The sequencer stands for the sequences.
-pub record SequencerStands (tables : List (List TimedCommand)) (s : Sequences) (sequencer : Sequencer) : Type 0 where
-  pub cursors : CursorsStand tables s.all sequencer.cursors
-  pub sent : sequencer.sent ≡ s.sent % 65536
-  pub wrong : sequencer.wrong ≡ s.wrong % 65536
+-- The duty stands for the sequences.
+pub record DutyStands (tables : List (List TimedCommand)) (s : Sequences) (duty : Duty) : Type 0 where
+  pub cursors : CursorsStand tables s.all duty.cursors
+  pub sent : duty.sent ≡ s.sent % 65536
+  pub wrong : duty.wrong ≡ s.wrong % 65536
 
 -- The state stands for what its history begins with and for its entries. One whose running sequence got another table stands for none.
 pub record StandsFor (begin : Beginning) (history : List ScEntry) (sc : Sc) : Type 0 where
   pub counts : sc.counts ≡ counts_of (sc_heard begin history)
-  pub sequencer : SequencerStands (tables_after begin history) (sequences_of begin history) sc.sequencer
+  pub duty : DutyStands (tables_after begin history) (sequences_of begin history) sc.duty
 
 unfoldable pub Stands : Beginning → List ScEntry → Sc → Type 0
 Stands begin history sc = StandsFor begin history sc
 
--- It can take a wakeup on tables that are in force behind a history for which it stands.
+-- The state can take a wakeup on tables that are in force behind a history for which it stands.
 pub record IsReady (tables : List (List TimedCommand)) (sc : Sc) : Type 0 where
   pub begin : Beginning
   pub history : List ScEntry
   pub in_force : tables ≡ tables_after begin history
   pub stands : Stands begin history sc
 
--- It has nothing to do where there are no packets and no command is due.
+-- Stored Command has nothing to do where there are no packets and no command is due.
 unfoldable pub is_idle_on : Beginning → List ScEntry → List (List ℕ) → ℕ → Bool
 is_idle_on begin history commands now = (length commands == 0) && not (is_some (next_place now (sequences_of begin history).all))
 

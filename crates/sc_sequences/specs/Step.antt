@@ -6,7 +6,7 @@ use Rattle.commands.specs.Answering.{Answers, command_items}
 use Rattle.commands.specs.declared.verdicts.Verdict.{Verdict}
 use Rattle.sc_sequences.specs.Messages.{sc_name}
 use Rattle.sc_sequences.specs.Verdicts.{sc_protocol}
-use Rattle.sc_sequences.specs.Histories.{Input, ScEntry, Beginning, sequences_of, ordered, heard_in, turned, packets_in, basis_in}
+use Rattle.sc_sequences.specs.Histories.{Input, ScEntry, Beginning, sequences_of, ordered, heard_at, turned, packets_in, basis_in}
 use Rattle.sc_sequences.specs.Housekeeping.{report_of, housekeeping_of}
 use Rattle.sc_sequences.specs.declared.instructions.Instruction.{Instruction}
 
@@ -21,7 +21,7 @@ Turn = Wakeup Beginning ScEntry Input
 abbrev pub wakeup_of : Beginning → List ScEntry → Input → Turn
 wakeup_of begin history input = record { setup = begin; history = history; input = input }
 
--- What it answers: no command has a packet of its own.
+-- What Stored Command answers: no command has a packet of its own.
 abbrev pub sc_answers : Answers Turn Instruction
 sc_answers = record {
   time = λ wakeup. wakeup.input.time;
@@ -30,8 +30,8 @@ sc_answers = record {
   replies = λ wakeup orders instruction. [];
 }
 
--- What it sends in a wakeup: the items of its commands, and then those of its turns.
+-- What Stored Command sends in a wakeup: the items of its commands, and then those of its turns.
 unfoldable pub sc_items : Beginning → List ScEntry → Input → List Out
 sc_items begin history input =
-    command_items sc_answers sc_name (wakeup_of begin history input) (heard_in (sequences_of begin history) input)
+    command_items sc_answers sc_name (wakeup_of begin history input) (heard_at (sequences_of begin history) input)
     ++ (turned (sequences_of begin history) input).items

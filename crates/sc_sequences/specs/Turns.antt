@@ -1,12 +1,10 @@
 -- Turns: in each, of all sequences' next commands that are due, the first by time, then absolute before relative, then lower number leaves.
 use Rattle.std.specs.Prelude.{ℕ, zero, suc, ◌+◌, ◌==◌, min, nat_le, Bool, false, ◌||◌, not, if◌then◌else◌, List, [], ◌∷◌, ◌++◌, map, slice_set, position, option_map, Option, Some, None}
 use Rattle.packet_forms.specs.Packets.{is_checksum_right}
-use Rattle.packet_forms.specs.Built.{event_of}
 use Rattle.bus_pipes.specs.declared.names.Out.{Out}
-use Rattle.bus_pipes.specs.declared.names.Out.TheVariants.{Made, Stored}
 use Rattle.sc_tables.specs.Commands.{TimedCommand}
-use Rattle.sc_sequences.specs.Messages.{sc_name, wrong_in_ats, wrong_in_rts, ats_ended, rts_ended}
 use Rattle.sc_sequences.specs.Sequences.{Sequence, at_place, is_relative, going_on, head_time}
+use Rattle.sc_sequences.specs.Answers.{head_items}
 use Rattle.sc_sequences.specs.declared.cursors.Due.{Due}
 
 -- The earlier of two times that there may be, and the earliest of several.
@@ -48,7 +46,7 @@ pub record Sequences : Type 0 where
   pub sent : ℕ
   pub wrong : ℕ
 
--- What is done: the sequences after it, and what was sent.
+-- What a part of a wakeup does: the sequences after it, and what was sent.
 pub record Done : Type 0 where
   pub after : Sequences
   pub items : List Out
@@ -59,23 +57,7 @@ nothing s = record { after = s; items = [] }
 abbrev pub and_then : Done → (Sequences → Done) → Done
 and_then done next = record { after = (next done.after).after; items = done.items ++ (next done.after).items }
 
-abbrev pub sc_event : ℕ → ℕ → ℕ → Out
-sc_event id kind now = Made (event_of sc_name id kind now)
-
--- The event of a sequence that ends: no command is left.
-abbrev pub ending_items : ℕ → ℕ → List TimedCommand → List Out
-ending_items place now [] = sc_event (if is_relative place then rts_ended else ats_ended) 2 now ∷ []
-ending_items place now (c ∷ left) = []
-
--- What a command gives that leaves: where its checksum is right its packet, else an event; and then the end of its sequence, which isn't told
--- where a wrong checksum stops a relative one.
-unfoldable pub head_items : ℕ → ℕ → Bool → List ℕ → List TimedCommand → List Out
-head_items place now right packet left =
-    if right then Stored packet ∷ ending_items place now left
-    else if is_relative place then sc_event wrong_in_rts 3 now ∷ []
-    else sc_event wrong_in_ats 3 now ∷ ending_items place now left
-
--- What is left behind it: a wrong checksum stops a relative sequence.
+-- What is left behind a command that leaves: a wrong checksum stops a relative sequence.
 abbrev pub left_behind : ℕ → Bool → List TimedCommand → List TimedCommand
 left_behind place right rest = if right || not (is_relative place) then rest else []
 

@@ -36,7 +36,7 @@ start_rts_refusal all (Some place) =
     else if is_running (at_place all place) then Some Running
     else None
 
--- To stop or disable a relative sequence, and to enable one.
+-- The refusals to stop or disable a relative sequence, and to enable one.
 abbrev pub number_refusal : Option ℕ → Option Refusal
 number_refusal None = Some Number
 number_refusal (Some place) = None
@@ -45,7 +45,7 @@ abbrev pub enable_refusal : List Sequence → Option ℕ → Option Refusal
 enable_refusal all None = Some Number
 enable_refusal all (Some place) = if is_loaded (at_place all place) then None else Some NotLoaded
 
--- To switch from the absolute sequence that runs to the other, and to jump in it.
+-- The refusals to switch from the absolute sequence that runs to the other, and to jump in it.
 abbrev pub switch_refusal : ℕ → List Sequence → Option ℕ → Option Refusal
 switch_refusal now all None = Some NoneRuns
 switch_refusal now all (Some place) =
@@ -58,16 +58,16 @@ jump_refusal time all None = Some NoneRuns
 jump_refusal time all (Some place) = if has_some (from_time time (at_place all place).left) then None else Some NoneRemains
 
 -- A command's own refusal at the time `now`.
-abbrev pub refusal_in : ℕ → List Sequence → Instruction → Option Refusal
-refusal_in now all Plain = None
-refusal_in now all (StartAts number) = start_ats_refusal now all (ats_place number)
-refusal_in now all StopAts = None
-refusal_in now all (StartRts number) = start_rts_refusal all (rts_place number)
-refusal_in now all (StopRts number) = number_refusal (rts_place number)
-refusal_in now all (DisableRts number) = number_refusal (rts_place number)
-refusal_in now all (EnableRts number) = enable_refusal all (rts_place number)
-refusal_in now all SwitchAts = switch_refusal now all (running_ats all)
-refusal_in now all (JumpAts time) = jump_refusal time all (running_ats all)
+abbrev pub own_refusal : ℕ → List Sequence → Instruction → Option Refusal
+own_refusal now all Plain = None
+own_refusal now all (StartAts number) = start_ats_refusal now all (ats_place number)
+own_refusal now all StopAts = None
+own_refusal now all (StartRts number) = start_rts_refusal all (rts_place number)
+own_refusal now all (StopRts number) = number_refusal (rts_place number)
+own_refusal now all (DisableRts number) = number_refusal (rts_place number)
+own_refusal now all (EnableRts number) = enable_refusal all (rts_place number)
+own_refusal now all SwitchAts = switch_refusal now all (running_ats all)
+own_refusal now all (JumpAts time) = jump_refusal time all (running_ats all)
 
 -- What refusals are decided by as a wakeup begins: its time, and the sequences.
 pub record Basis : Type 0 where
@@ -76,4 +76,4 @@ pub record Basis : Type 0 where
 
 -- What Stored Command makes of its packets: each by the sequences behind what was ordered before it.
 abbrev pub sc_protocol : Protocol Basis Instruction Refusal
-sc_protocol = protocol_of sc_language number_of (λ basis orders instruction. refusal_in basis.time (after_orders basis.time basis.all orders) instruction)
+sc_protocol = protocol_of sc_language number_of (λ basis orders instruction. own_refusal basis.time (after_orders basis.time basis.all orders) instruction)

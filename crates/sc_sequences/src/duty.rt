@@ -1,7 +1,7 @@
-//! The sequencer: the cursors of all sequences, and what was sent so far.
+//! What commands of Stored Command change: the cursors of all sequences, and what was sent so far.
 ghost use Rattle.std.specs.Prelude.{◌≡◌, ◌+◌, ◌%◌, ℕ, if◌then◌else◌};
 ghost use Rattle.sc_sequences.specs.Histories.{begun_at, at_start};
-ghost use Rattle.sc_sequences.specs.State.{CursorsStand, SequencerStands};
+ghost use Rattle.sc_sequences.specs.State.{CursorsStand, DutyStands};
 
 use crate::cursors::Cursors;
 use crate::heads::cursor_at;
@@ -10,20 +10,21 @@ use sc_tables::ScTables;
 /// The place of the first relative sequence.
 const FIRST_RTS: usize = 2;
 
-/// Where all sequences stand, and how many commands were sent and had a wrong checksum, each modulo 65,536.
+/// What Stored Command has to do beside answering: where all sequences stand, and how many commands were sent and had a wrong checksum, each
+/// modulo 65,536.
 #[derive(Clone, Copy, Debug, PartialEq, Eq)]
-pub(crate) struct Sequencer {
+pub(crate) struct Duty {
     pub(crate) cursors: Cursors,
     pub(crate) sent: u16,
     pub(crate) wrong: u16,
 }
 
-impl Sequencer {
+impl Duty {
     /// At the start, at the time `now`: the first relative sequence is enabled and started, where it is loaded, and all others wait.
-    pub(crate) fn start(tables: &ScTables<'_>, now: u32) -> Sequencer
-        ensures { SequencerStands tables.now (at_start (begun_at now tables.now)) result }
+    pub(crate) fn start(tables: &ScTables<'_>, now: u32) -> Duty
+        ensures { DutyStands tables.now (at_start (begun_at now tables.now)) result }
     {
-        Sequencer {
+        Duty {
             cursors: begin(tables, now),
             sent: 0,
             wrong: 0,

@@ -68,7 +68,7 @@ pub(crate) fn first_from(tables: &ScTables<'_>, place: usize, from: u32, time: u
     count
 }
 
-/// Whether one is.
+/// Whether a command of an absolute sequence from `from` on has a tag of `time` or more.
 pub(crate) fn remains_from(tables: &ScTables<'_>, place: usize, from: u32, time: u32) -> bool
     requires { place < 2 }
     ensures { result ≡ has_some (from_time time (drop from (commands_in tables.now place))) }

@@ -5,12 +5,12 @@ ghost use Rattle.bus_pipes.specs.declared.names.Out.TheVariants as outs;
 ghost use Rattle.sc_tables.specs.Commands.{TimedCommand};
 ghost use Rattle.sc_sequences.specs.Sequences.{Sequence, running_ats};
 ghost use Rattle.sc_sequences.specs.Turns.{Sequences};
-ghost use Rattle.sc_sequences.specs.Housekeeping.{shown_ats, left_in, running_mask, enabled_mask, report_of, told_bytes, be64_bytes, housekeeping_of};
-ghost use Rattle.sc_sequences.specs.State.{CursorsStand, SequencerStands};
+ghost use Rattle.sc_sequences.specs.Housekeeping.{shown_ats, left_in, running_mask, enabled_mask, report_of, numbers_bytes, be64_bytes, housekeeping_of};
+ghost use Rattle.sc_sequences.specs.State.{CursorsStand, DutyStands};
 
 use crate::cursors::Cursors;
+use crate::duty::Duty;
 use crate::places::running_ats;
-use crate::sequencer::Sequencer;
 use bus_pipes::Counts;
 use histories::bits_of;
 use packet_forms::message_ids::SC_HOUSEKEEPING;
@@ -32,7 +32,7 @@ pub(crate) struct Report {
     pub(crate) left: u16,
     /// The commands sent, modulo 65,536.
     pub(crate) sent: u16,
-    /// Those with a wrong checksum, modulo 65,536.
+    /// The commands that had a wrong checksum, modulo 65,536.
     pub(crate) wrong: u16,
     pub(crate) masks: Masks,
 }
@@ -48,15 +48,15 @@ pub(crate) struct Masks {
 
 /// The report on where all sequences stand.
 #[tactic(auto, unfolding(crate::specs::Housekeeping::report_of))]
-pub(crate) fn report_on(sequencer: &Sequencer, tables: &ScTables<'_>) -> Report
-    ensures { (s : Sequences) → SequencerStands tables.now s sequencer.now → result ≡ report_of s }
+pub(crate) fn report_on(duty: &Duty, tables: &ScTables<'_>) -> Report
+    ensures { (s : Sequences) → DutyStands tables.now s duty.now → result ≡ report_of s }
 {
     Report {
-        ats: shown_ats(&sequencer.cursors),
-        left: left_in(&sequencer.cursors, tables),
-        sent: sequencer.sent,
-        wrong: sequencer.wrong,
-        masks: masks_of(&sequencer.cursors),
+        ats: shown_ats(&duty.cursors),
+        left: left_in(&duty.cursors, tables),
+        sent: duty.sent,
+        wrong: duty.wrong,
+        masks: masks_of(&duty.cursors),
     }
 }
 
@@ -106,7 +106,7 @@ pub(crate) fn housekeeping(counts: Counts, report: &Report, now: u32) -> Packet
 {
     let mut payload = Payload::new();
     payload.append(&[counts.accepted, counts.errors, report.ats, 0]);
-    tell_numbers(&mut payload, report);
+    append_numbers(&mut payload, report);
     append_wide(&mut payload, report.masks.running);
     append_wide(&mut payload, report.masks.enabled);
     telemetry(SC_HOUSEKEEPING, now, payload.bytes())
@@ -114,9 +114,9 @@ pub(crate) fn housekeeping(counts: Counts, report: &Report, now: u32) -> Packet
 
 /// Puts the commands that are left, those sent, those with a wrong checksum and 0 behind the bytes.
 #[tactic(auto, unfolding(packet_forms::specs::Numbers::be16_bytes))]
-fn tell_numbers(payload: &mut Payload, report: &Report)
+fn append_numbers(payload: &mut Payload, report: &Report)
     requires { length payload.old ≡ 4 }
-    ensures bytes { payload.new ≡ payload.old ++ told_bytes report.now.left report.now.sent report.now.wrong }
+    ensures bytes { payload.new ≡ payload.old ++ numbers_bytes report.now.left report.now.sent report.now.wrong }
     ensures size { length payload.new ≡ 12 }
 {
     let [a, b] = report.left.to_be_bytes();

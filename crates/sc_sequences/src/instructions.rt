@@ -17,11 +17,11 @@ pub(crate) enum Instruction {
     StopAts,
     /// To start a relative sequence.
     StartRts { number: u16 },
-    /// To stop one.
+    /// To stop a relative sequence.
     StopRts { number: u16 },
-    /// To let no one start it.
+    /// To forbid the start of a relative sequence.
     DisableRts { number: u16 },
-    /// To let it be started.
+    /// To allow the start of a relative sequence.
     EnableRts { number: u16 },
     /// To stop the absolute sequence that runs and start the other.
     SwitchAts,

@@ -1,7 +1,9 @@
 //! Stored Command: absolute and relative sequences, and the commands on both.
 #![tactic(auto)]
 
+mod answers;
 mod cursors;
+mod duty;
 mod heads;
 mod housekeeping;
 mod instructions;
@@ -10,7 +12,6 @@ pub mod laws;
 mod messages;
 mod orders;
 mod places;
-mod sequencer;
 mod state;
 mod step;
 mod turns;

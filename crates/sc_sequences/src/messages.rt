@@ -1,19 +1,53 @@
 //! Stored Command's name, the codes of its commands, and its events that no command gives.
 ghost use Rattle.std.specs.Prelude.{◌≡◌};
 ghost use Rattle.packet_forms.specs.Names.{is_name_text};
-ghost use Rattle.sc_sequences.specs.Messages.{sc_name};
+ghost use Rattle.sc_sequences.specs.Messages.{sc_name, event_number, event_kind};
 
 use commands::{CodeRow, named};
 use packet_forms::Name;
 
-/// The event of a wrong checksum in an absolute sequence.
-pub(crate) const WRONG_IN_ATS: u16 = 101;
-/// The event of a wrong checksum in a relative sequence, which stops.
-pub(crate) const WRONG_IN_RTS: u16 = 102;
-/// The event of an absolute sequence that ends.
-pub(crate) const ATS_ENDED: u16 = 103;
-/// The event of a relative sequence that ends.
-pub(crate) const RTS_ENDED: u16 = 104;
+/// The types of events: information, and an error.
+const INFORMATION: u16 = 2;
+
+const ERROR: u16 = 3;
+
+/// What Stored Command tells of its sequences.
+#[derive(Clone, Copy, Debug, PartialEq, Eq)]
+pub(crate) enum Event {
+    /// A command of an absolute sequence has a wrong checksum.
+    WrongInAts,
+    /// A command of a relative sequence has a wrong checksum, and the sequence stops.
+    WrongInRts,
+    /// An absolute sequence ends.
+    AtsEnded,
+    /// A relative sequence ends.
+    RtsEnded,
+}
+
+impl Event {
+    pub(crate) fn number(self) -> u16
+        ensures { result ≡ event_number self }
+    {
+        match self {
+            Event::WrongInAts => 101,
+            Event::WrongInRts => 102,
+            Event::AtsEnded => 103,
+            Event::RtsEnded => 104,
+        }
+    }
+
+    /// Its type.
+    pub(crate) fn kind(self) -> u16
+        ensures { result ≡ event_kind self }
+    {
+        match self {
+            Event::WrongInAts => ERROR,
+            Event::WrongInRts => ERROR,
+            Event::AtsEnded => INFORMATION,
+            Event::RtsEnded => INFORMATION,
+        }
+    }
+}
 
 /// No-op, reset counters, start and stop an absolute sequence, start, stop, disable and enable a relative one, switch and jump in the
 /// absolute one.

@@ -63,7 +63,7 @@ pub(crate) fn start(cursors: &mut Cursors, tables: &ScTables<'_>, place: usize, 
     ensures { (all : List Sequence) → CursorsStand tables.now all cursors.old → CursorsStand tables.now (started_at place now all) cursors.new }
 {
     let at = first_at(tables, place, now);
-    go_on(cursors, tables, place, at, now);
+    continue_at(cursors, tables, place, at, now);
 }
 
 /// The command with which the sequence in a place begins.
@@ -79,7 +79,13 @@ fn first_at(tables: &ScTables<'_>, place: usize, now: u32) -> u32
 }
 
 /// Lets the sequence in a place go on with command `at` at the time `now`.
-pub(crate) fn go_on(cursors: &mut Cursors, tables: &ScTables<'_>, place: usize, at: u32, now: u32)
+pub(crate) fn continue_at(
+    cursors: &mut Cursors,
+    tables: &ScTables<'_>,
+    place: usize,
+    at: u32,
+    now: u32,
+)
     requires place { place < 66 }
     requires few { at ≤ 1000 }
     ensures { (all : List Sequence) → CursorsStand tables.now all cursors.old
@@ -140,5 +146,5 @@ fn jump_ats(cursors: &mut Cursors, tables: &ScTables<'_>, time: u32, now: u32)
         return;
     };
     let at = first_from(tables, place, cursors.get(place).at, time);
-    go_on(cursors, tables, place, at, now);
+    continue_at(cursors, tables, place, at, now);
 }

@@ -5,19 +5,19 @@ ghost use Rattle.sc_sequences.specs.Histories.{Input, ScEntry, Beginning, begun_
 ghost use Rattle.sc_sequences.specs.Step.{sc_items};
 ghost use Rattle.sc_sequences.specs.State.{Stands, IsReady, is_idle_on, place_of, runs_in};
 
+use crate::duty::Duty;
 use crate::places::{is_running, place_of};
-use crate::sequencer::Sequencer;
 use bus_pipes::Counts;
 use commands::start_counts;
 use packet_forms::Packet;
 use sc_tables::ScTables;
 use table_files::TableKind;
 
-/// The state of Stored Command: both counts, and the sequencer.
+/// The state of Stored Command: both counts, and its duty.
 #[derive(Clone, Copy, Debug, PartialEq, Eq)]
 pub struct Sc {
     pub(crate) counts: Counts,
-    pub(crate) sequencer: Sequencer,
+    pub(crate) duty: Duty,
 }
 
 impl Sc {
@@ -29,7 +29,7 @@ impl Sc {
     {
         Sc {
             counts: start_counts(),
-            sequencer: Sequencer::start(tables, now),
+            duty: Duty::start(tables, now),
         }
     }
 
@@ -40,7 +40,7 @@ impl Sc {
         let Some(place) = place_of(kind) else {
             return false;
         };
-        is_running(&self.sequencer.cursors, place)
+        is_running(&self.duty.cursors, place)
     }
 
     /// Whether a wakeup on these packets at the time `now` does nothing: there are none, and no command is due.
@@ -55,6 +55,6 @@ impl Sc {
         if !commands.is_empty() {
             return false;
         }
-        self.sequencer.cursors.due(now).is_none()
+        self.duty.cursors.due(now).is_none()
     }
 }

@@ -7,12 +7,12 @@ ghost use Rattle.sc_sequences.specs.Histories.{ScEntry, Beginning, input_of, tab
 ghost use Rattle.sc_sequences.specs.Step.{sc_items};
 ghost use Rattle.sc_sequences.specs.State.{Stands, IsReady};
 
+use crate::duty::Duty;
 use crate::housekeeping::{housekeeping, report_on};
 use crate::instructions::Instruction;
 use crate::orders;
-use crate::sequencer::Sequencer;
 use crate::state::Sc;
-use crate::verdicts::{Refusal, refusal_in};
+use crate::verdicts::{Refusal, own_refusal};
 use bus_pipes::{Counts, Outbox};
 use commands::{Commanded, handle_all};
 use packet_forms::Packet;
@@ -21,19 +21,19 @@ use sc_tables::ScTables;
 /// How many items a wakeup gives at most.
 pub const MOST_ITEMS: u32 = 32;
 
-// What is read beside the packets.
+/// What is read beside the packets.
 #[derive(Clone, Copy)]
 struct Reads<'a> {
     tables: &'a ScTables<'a>,
 }
 
-impl<'a> Commanded<Reads<'a>> for Sequencer {
+impl<'a> Commanded<Reads<'a>> for Duty {
     ghost use Rattle.std.specs.Prelude.{◌≡◌};
     ghost use Rattle.sc_sequences.specs.Verdicts.{Basis, sc_protocol};
     ghost use Rattle.sc_sequences.specs.Turns.{Sequences};
     ghost use Rattle.sc_sequences.specs.Histories.{sequences_of, tables_after, basis_of, ordered};
     ghost use Rattle.sc_sequences.specs.Step.{Turn, sc_answers};
-    ghost use Rattle.sc_sequences.specs.State.{SequencerStands};
+    ghost use Rattle.sc_sequences.specs.State.{DutyStands};
 
     type Instruction = Instruction;
 
@@ -53,18 +53,18 @@ impl<'a> Commanded<Reads<'a>> for Sequencer {
 
     ghost belongs = { λ wakeup reads now. (reads.tables.now ≡ tables_after wakeup.setup wakeup.history) × (wakeup.input.time ≡ now) };
 
-    ghost stands = { λ wakeup orders sequencer left. SequencerStands (tables_after wakeup.setup wakeup.history) (ordered wakeup.input.time orders (sequences_of wakeup.setup wakeup.history)) sequencer };
+    ghost stands = { λ wakeup orders duty left. DutyStands (tables_after wakeup.setup wakeup.history) (ordered wakeup.input.time orders (sequences_of wakeup.setup wakeup.history)) duty };
 
-    ghost is_safe = { λ reads n sequencer left. (s : Sequences) × SequencerStands reads.tables.now s sequencer };
+    ghost is_safe = { λ reads n duty left. (s : Sequences) × DutyStands reads.tables.now s duty };
 
     ghost most = { 0 };
 
-    ghost still_safe = { λ reads n sequencer left safe. safe };
+    ghost still_safe = { λ reads n duty left safe. safe };
 
     ghost timed = { λ wakeup reads now belongs. belongs.1 };
 
     fn refusal(&self, instruction: &Instruction, reads: Reads<'a>, now: u32) -> Option<Refusal> {
-        refusal_in(&self.cursors, reads.tables, instruction, now)
+        own_refusal(&self.cursors, reads.tables, instruction, now)
     }
 
     fn housekeeping(&self, counts: Counts, reads: Reads<'a>, now: u32) -> Packet {
@@ -84,12 +84,7 @@ impl<'a> Commanded<Reads<'a>> for Sequencer {
 }
 
 impl Sc {
-    /// A wakeup at the time `now`, in seconds. The packets of the pipe, at most 16, are handled in order: a request is answered with
-    /// housekeeping, a command with its event. Then at most eight turns are taken: in each, of the next commands of all sequences that are
-    /// due, the first by time leaves, then absolute before relative, then the lower number. One with a right checksum is sent as it is
-    /// stored. A wrong checksum gives event 101 in an absolute sequence, and event 102 in a relative one, which stops. A sequence that ends
-    /// gives event 103 or 104. What is sent goes to `out`, which is empty and has room for 32 items, and the state after the wakeup to
-    /// `next`. The tables are those in force, on which `self` was started or which were activated since.
+    /// `advance` on a copy: this state stays, and the state after the wakeup goes to `next`.
     pub fn step(
         &self,
         tables: &ScTables<'_>,
@@ -113,7 +108,12 @@ impl Sc {
         next.advance(tables, commands, now, out);
     }
 
-    /// The same in place.
+    /// A wakeup at the time `now`, in seconds. The packets of the pipe, at most 16, are handled in order: a request is answered with
+    /// housekeeping, a command with its event. Then at most eight turns are taken: in each, of the next commands of all sequences that are
+    /// due, the first by time leaves, then absolute before relative, then the lower number. One with a right checksum is sent as it is
+    /// stored. A wrong checksum gives event 101 in an absolute sequence, and event 102 in a relative one, which stops. A sequence that ends
+    /// gives event 103 or 104. What is sent goes to `out`, which is empty and has room for 32 items. The tables are those in force, on
+    /// which the state was started or which were activated since.
     pub fn advance(
         &mut self,
         tables: &ScTables<'_>,
@@ -135,13 +135,13 @@ impl Sc {
         let reads = Reads { tables };
         handle_all(
             &mut self.counts,
-            &mut self.sequencer,
+            &mut self.duty,
             commands,
             reads,
             now,
             &mut (),
             out,
         );
-        self.sequencer.take_turns(tables, now, out);
+        self.duty.take_turns(tables, now, out);
     }
 }

@@ -3,7 +3,7 @@ ghost use Rattle.std.specs.Prelude.{◌≡◌, List};
 ghost use Rattle.sc_sequences.specs.Sequences.{Sequence, ats_place, rts_place, running_ats};
 ghost use Rattle.sc_sequences.specs.State.{CursorsStand};
 ghost use Rattle.sc_sequences.specs.declared.cursors.Cursor.{Cursor};
-ghost use Rattle.sc_sequences.specs.Verdicts.{start_ats_refusal, start_rts_refusal, number_refusal, enable_refusal, switch_refusal, jump_refusal, refusal_in};
+ghost use Rattle.sc_sequences.specs.Verdicts.{start_ats_refusal, start_rts_refusal, number_refusal, enable_refusal, switch_refusal, jump_refusal, own_refusal};
 
 use crate::cursors::Cursors;
 use crate::heads::remains_from;
@@ -17,15 +17,15 @@ use sc_tables::ScTables;
 pub(crate) enum Refusal {
     /// There is no such sequence.
     Number,
-    /// It isn't loaded.
+    /// The sequence isn't loaded.
     NotLoaded,
-    /// It runs, or an absolute one does.
+    /// The sequence runs, or of absolute ones another does.
     Running,
     /// No command would remain.
     NoneRemains,
     /// No absolute sequence runs.
     NoneRuns,
-    /// It is disabled.
+    /// The sequence is disabled.
     Disabled,
 }
 
@@ -47,13 +47,13 @@ impl Reason for Refusal {
 }
 
 /// A command's own refusal at the time `now`.
-pub(crate) fn refusal_in(
+pub(crate) fn own_refusal(
     cursors: &Cursors,
     tables: &ScTables<'_>,
     instruction: &Instruction,
     now: u32,
 ) -> Option<Refusal>
-    ensures { (all : List Sequence) → CursorsStand tables.now all cursors.now → result ≡ refusal_in now all instruction.now }
+    ensures { (all : List Sequence) → CursorsStand tables.now all cursors.now → result ≡ own_refusal now all instruction.now }
 {
     match instruction {
         Instruction::Plain => None,
@@ -68,7 +68,7 @@ pub(crate) fn refusal_in(
     }
 }
 
-/// To start absolute sequence `number`.
+/// The refusal to start absolute sequence `number`.
 fn start_ats_refusal(
     cursors: &Cursors,
     tables: &ScTables<'_>,
@@ -92,7 +92,7 @@ fn start_ats_refusal(
     None
 }
 
-/// To start relative sequence `number`.
+/// The refusal to start relative sequence `number`.
 fn start_rts_refusal(cursors: &Cursors, tables: &ScTables<'_>, number: u16) -> Option<Refusal>
     ensures { (all : List Sequence) → CursorsStand tables.now all cursors.now → result ≡ start_rts_refusal all (rts_place number) }
 {
@@ -112,7 +112,7 @@ fn start_rts_refusal(cursors: &Cursors, tables: &ScTables<'_>, number: u16) -> O
     None
 }
 
-/// To stop or disable relative sequence `number`.
+/// The refusal to stop or disable relative sequence `number`.
 fn number_refusal(number: u16) -> Option<Refusal>
     ensures { result ≡ number_refusal (rts_place number) }
 {
@@ -122,7 +122,7 @@ fn number_refusal(number: u16) -> Option<Refusal>
     }
 }
 
-/// To enable relative sequence `number`.
+/// The refusal to enable relative sequence `number`.
 fn enable_refusal(tables: &ScTables<'_>, number: u16) -> Option<Refusal>
     ensures { (all : List Sequence) (cursors : List Cursor) → CursorsStand tables.now all cursors → result ≡ enable_refusal all (rts_place number) }
 {
@@ -135,7 +135,7 @@ fn enable_refusal(tables: &ScTables<'_>, number: u16) -> Option<Refusal>
     None
 }
 
-/// To switch to the absolute sequence that doesn't run.
+/// The refusal to switch to the absolute sequence that doesn't run.
 fn switch_refusal(cursors: &Cursors, tables: &ScTables<'_>, now: u32) -> Option<Refusal>
     ensures { (all : List Sequence) → CursorsStand tables.now all cursors.now → result ≡ switch_refusal now all (running_ats all) }
 {
@@ -152,7 +152,7 @@ fn switch_refusal(cursors: &Cursors, tables: &ScTables<'_>, now: u32) -> Option<
     None
 }
 
-/// To jump to a time in the absolute sequence that runs.
+/// The refusal to jump to a time in the absolute sequence that runs.
 fn jump_refusal(cursors: &Cursors, tables: &ScTables<'_>, time: u32) -> Option<Refusal>
     ensures { (all : List Sequence) → CursorsStand tables.now all cursors.now → result ≡ jump_refusal time all (running_ats all) }
 {

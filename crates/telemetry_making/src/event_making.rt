@@ -22,7 +22,7 @@ ghost use Rattle.cs_slices.specs.Step.{slice_items};
 ghost use Rattle.cs_slices.specs.Verdicts.{cs_protocol};
 ghost use Rattle.sc_sequences.specs.Messages.{ats_ended, rts_ended, sc_codes, wrong_in_ats, wrong_in_rts};
 ghost use Rattle.sc_tables.specs.Commands.{TimedCommand};
-ghost use Rattle.sc_sequences.specs.Turns.{head_items};
+ghost use Rattle.sc_sequences.specs.Answers.{head_items};
 ghost use Rattle.sc_sequences.specs.Verdicts.{sc_protocol};
 ghost use Rattle.lc_watch.specs.Messages.{firing_event, lc_codes};
 ghost use Rattle.lc_watch.specs.Step.{firing_items};

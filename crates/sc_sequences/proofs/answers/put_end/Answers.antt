@@ -2,7 +2,7 @@ use Rattle.std.proofs.Common.{◌∙◌, ap, sym}
 use Rattle.bus_pipes.specs.Held.{adding}
 use Rattle.bus_pipes.proofs.Deliveries.{adding_none}
 use Rattle.sc_sequences.proofs.Sending.{none_ends}
-use Rattle.sc_sequences.proofs.turns.send_end.Goals as goal
+use Rattle.sc_sequences.proofs.answers.put_end.Goals as goal
 
 pub returns-then-not-ends-clause-items : goal.returns-then-not-ends-clause-items
 returns-then-not-ends-clause-items c = λ left is.

@@ -5,7 +5,7 @@ use Rattle.sc_sequences.specs.Histories.{begun_at, at_start}
 use Rattle.sc_sequences.specs.State.{CursorsStand}
 use Rattle.sc_sequences.specs.declared.cursors.Cursor.{Cursor}
 use Rattle.sc_sequences.proofs.Beginning.{begins_waiting, begins_started}
-use Rattle.sc_sequences.proofs.sequencer.begin.Goals as goal
+use Rattle.sc_sequences.proofs.duty.begin.Goals as goal
 
 pub returns-then-len-gt0 : goal.returns-then-len-gt0
 returns-then-len-gt0 c =

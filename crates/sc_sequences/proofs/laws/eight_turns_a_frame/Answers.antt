@@ -13,7 +13,8 @@ use Rattle.sc_sequences.specs.Messages.{sc_name, sc_codes}
 use Rattle.sc_sequences.specs.Instructions.{instruction_of}
 use Rattle.sc_sequences.specs.Sequences.{from_time}
 use Rattle.sc_sequences.specs.Orders.{after_orders}
-use Rattle.sc_sequences.specs.Turns.{earliest, soonest, next_place, head_items, turn, turns}
+use Rattle.sc_sequences.specs.Answers.{head_items}
+use Rattle.sc_sequences.specs.Turns.{earliest, soonest, next_place, turn, turns}
 use Rattle.sc_sequences.specs.Histories.{at_start, sequences_of}
 use Rattle.sc_sequences.specs.Housekeeping.{running_mask, enabled_mask, report_of, be64_bytes, housekeeping_of}
 use Rattle.sc_sequences.specs.Step.{sc_heard, sc_items}

@@ -4,7 +4,7 @@ use Rattle.sc_sequences.specs.Sequences.{going_on, at_place}
 use Rattle.sc_sequences.specs.State.{CursorsStand}
 use Rattle.sc_sequences.specs.declared.cursors.Cursor.{Cursor}
 use Rattle.sc_sequences.proofs.Changes.{set_stands}
-use Rattle.sc_sequences.proofs.orders.go_on.Goals as goal
+use Rattle.sc_sequences.proofs.orders.continue_at.Goals as goal
 
 pub returns : goal.returns
 returns c = λ all stood.

@@ -22,5 +22,5 @@ returns c = λ all stood.
     let inside : place < 66 = (let two = c.in-Some.ensures.within in omega arith) in
     let left = left_running (commands_in tables place) s (cursor_in c.args.cursors.now place) (stood.each place inside) (running_runs all place found) in
     let is = c.first_from-at.ensures.left ∙ ap (λ (k : Cursor). from_time c.args.time (drop k.at (commands_in tables place))) c.get.ensures.cursor ∙ ap (from_time c.args.time) left in
-    placed_stands tables all c.go_on.new.cursors (running_ats all) place (λ p. jumped c.args.now c.args.time p) found
-    (subst (λ (commands : List TimedCommand). CursorsStand tables (set all place (going_on place c.args.now commands s)) c.go_on.new.cursors) is (c.go_on.ensures all stood))
+    placed_stands tables all c.continue_at.new.cursors (running_ats all) place (λ p. jumped c.args.now c.args.time p) found
+    (subst (λ (commands : List TimedCommand). CursorsStand tables (set all place (going_on place c.args.now commands s)) c.continue_at.new.cursors) is (c.continue_at.ensures all stood))

@@ -13,7 +13,7 @@ use Rattle.cs_slices.specs.Passes.{differs_behind}
 use Rattle.sc_tables.specs.Commands.{TimedCommand}
 use Rattle.sc_sequences.specs.Messages.{sc_name}
 use Rattle.sc_sequences.specs.Sequences.{is_relative}
-use Rattle.sc_sequences.specs.Turns.{ending_items, head_items}
+use Rattle.sc_sequences.specs.Answers.{ending_items, head_items}
 use Rattle.lc_watch.specs.Messages.{lc_name}
 use Rattle.app_suite.specs.Activations.{tables_name}
 use Rattle.app_suite.specs.declared.activations.Naming.TheVariants.{Accepted, Refused, Running}

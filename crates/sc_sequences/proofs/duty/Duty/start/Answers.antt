@@ -1,6 +1,6 @@
 use Rattle.std.proofs.Common.{refl}
 use Rattle.sc_sequences.specs.Histories.{at_start}
-use Rattle.sc_sequences.proofs.sequencer.Sequencer.start.Goals as goal
+use Rattle.sc_sequences.proofs.duty.Duty.start.Goals as goal
 
 pub returns : goal.returns
 unfolding at_start

@@ -7,9 +7,9 @@ use Rattle.commands.specs.Counting.{counts_of}
 use Rattle.commands.specs.Answering.{command_items}
 use Rattle.sc_sequences.specs.Messages.{sc_name}
 use Rattle.sc_sequences.specs.Turns.{Sequences}
-use Rattle.sc_sequences.specs.Histories.{Input, ScEntry, Beginning, input_of, sequences_of, tables_after, ordered, ordered_in, heard_in, turned}
+use Rattle.sc_sequences.specs.Histories.{Input, ScEntry, Beginning, input_of, sequences_of, tables_after, ordered, ordered_at, heard_at, turned}
 use Rattle.sc_sequences.specs.Step.{wakeup_of, sc_answers, sc_items}
-use Rattle.sc_sequences.specs.State.{SequencerStands, Stands}
+use Rattle.sc_sequences.specs.State.{DutyStands, Stands}
 use Rattle.sc_sequences.proofs.Waking.{sequences_more, heard_woken, unordered, on_tables}
 use Rattle.sc_sequences.proofs.Loaded.{tables_woken}
 use Rattle.sc_sequences.proofs.state.Sc.advance.Goals as goal
@@ -20,24 +20,24 @@ unfolding Stands
 handle_all-requires-clause-safe c =
     let ready = c.requires.ready in
     let s = sequences_of ready.begin ready.history in
-    (s, on_tables (tables_after ready.begin ready.history) c.args.tables.now s c.args.self.now.sequencer (sym ready.in_force) ready.stands.sequencer)
+    (s, on_tables (tables_after ready.begin ready.history) c.args.tables.now s c.args.self.now.duty (sym ready.in_force) ready.stands.duty)
 
 -- before its first command
-begins : (c : After-take_turns) (begin : Beginning) (history : List ScEntry) → Stands begin history c.args.self.now → SequencerStands (tables_after begin history) (ordered c.args.now [] (sequences_of begin history)) c.args.self.now.sequencer
+begins : (c : After-take_turns) (begin : Beginning) (history : List ScEntry) → Stands begin history c.args.self.now → DutyStands (tables_after begin history) (ordered c.args.now [] (sequences_of begin history)) c.args.self.now.duty
 unfolding Stands
-begins c begin history stood = subst (λ (s : Sequences). SequencerStands (tables_after begin history) s c.args.self.now.sequencer) (sym (unordered c.args.now (sequences_of begin history))) stood.sequencer
+begins c begin history stood = subst (λ (s : Sequences). DutyStands (tables_after begin history) s c.args.self.now.duty) (sym (unordered c.args.now (sequences_of begin history))) stood.duty
 
 -- behind its commands
 handled : (c : After-take_turns) (begin : Beginning) (history : List ScEntry) → c.args.tables.now ≡ tables_after begin history → Stands begin history c.args.self.now
-    → SequencerStands c.args.tables.now (ordered c.args.now (ordered_in (sequences_of begin history) (input_of c.args.now c.args.commands.now)) (sequences_of begin history)) c.handle_all.new.state
+    → DutyStands c.args.tables.now (ordered c.args.now (ordered_at (sequences_of begin history) (input_of c.args.now c.args.commands.now)) (sequences_of begin history)) c.handle_all.new.state
 handled c begin history in_force stood =
     let input : Input = input_of c.args.now c.args.commands.now in
     let s = sequences_of begin history in
-    on_tables (tables_after begin history) c.args.tables.now (ordered c.args.now (ordered_in s input) s) c.handle_all.new.state (sym in_force)
+    on_tables (tables_after begin history) c.args.tables.now (ordered c.args.now (ordered_at s input) s) c.handle_all.new.state (sym in_force)
     (c.handle_all.ensures.stands (wakeup_of begin history input) (in_force, refl) (begins c begin history stood))
 
 woken : (c : After-take_turns) (begin : Beginning) (history : List ScEntry) → c.args.tables.now ≡ tables_after begin history → Stands begin history c.args.self.now
-    → Stands begin (history ++ Woken (input_of c.args.now c.args.commands.now) ∷ []) (record { counts = c.handle_all.new.counts; sequencer = c.take_turns.new.self })
+    → Stands begin (history ++ Woken (input_of c.args.now c.args.commands.now) ∷ []) (record { counts = c.handle_all.new.counts; duty = c.take_turns.new.self })
 unfolding Stands
 woken c begin history in_force stood =
     let input : Input = input_of c.args.now c.args.commands.now in
@@ -45,10 +45,10 @@ woken c begin history in_force stood =
     let after = history ++ Woken input ∷ [] in
     record {
       counts = c.handle_all.ensures.counts (wakeup_of begin history input) (in_force, refl) (begins c begin history stood) stood.counts ∙ ap counts_of (sym (heard_woken begin history input));
-      sequencer =
-          subst (λ (m : Sequences). SequencerStands (tables_after begin after) m c.take_turns.new.self) (sym (sequences_more begin history (Woken input)))
+      duty =
+          subst (λ (m : Sequences). DutyStands (tables_after begin after) m c.take_turns.new.self) (sym (sequences_more begin history (Woken input)))
           (on_tables c.args.tables.now (tables_after begin after) (turned s input).after c.take_turns.new.self (in_force ∙ sym (tables_woken begin history input))
-          (c.take_turns.ensures.stands (ordered c.args.now (ordered_in s input) s) (handled c begin history in_force stood)));
+          (c.take_turns.ensures.stands (ordered c.args.now (ordered_at s input) s) (handled c begin history in_force stood)));
     }
 
 pub returns-clause-stands : goal.returns-clause-stands
@@ -59,8 +59,8 @@ unfolding Stands sc_items
 returns-clause-items c = λ begin history in_force stood.
     let input : Input = input_of c.args.now c.args.commands.now in
     let s = sequences_of begin history in
-    let answers = command_items sc_answers sc_name (wakeup_of begin history input) (heard_in s input) in
-    ap (λ (held : Held Out). held.items) (c.take_turns.ensures.items (ordered c.args.now (ordered_in s input) s) (handled c begin history in_force stood))
+    let answers = command_items sc_answers sc_name (wakeup_of begin history input) (heard_at s input) in
+    ap (λ (held : Held Out). held.items) (c.take_turns.ensures.items (ordered c.args.now (ordered_at s input) s) (handled c begin history in_force stood))
     ∙ items-adding c.handle_all.new.out (turned s input).items
     ∙ ap (λ (items : List Out). items ++ (turned s input).items)
     (ap (λ (held : Held Out). held.items) (c.handle_all.ensures.items (wakeup_of begin history input) (in_force, refl) (begins c begin history stood) stood.counts)

@@ -14,7 +14,7 @@ returns-then-not-is_empty-clause-exact c = λ begin history stood. not_idle begi
 -- the place that is due
 due_is : (c : After-is_none) (begin : Beginning) (history : List ScEntry) → Stands begin history c.args.self.now → c.due.result ≡ next_place c.args.now (sequences_of begin history).all
 unfolding Stands
-due_is c begin history stood = c.due.ensures.place ∙ place_is (tables_after begin history) (sequences_of begin history).all c.args.self.now.sequencer.cursors c.args.now stood.sequencer.cursors
+due_is c begin history stood = c.due.ensures.place ∙ place_is (tables_after begin history) (sequences_of begin history).all c.args.self.now.duty.cursors c.args.now stood.duty.cursors
 
 pub returns-clause-exact : goal.returns-clause-exact
 returns-clause-exact c = λ begin history stood.

@@ -3,7 +3,7 @@ use Rattle.bus_pipes.proofs.Deliveries.{adding_none}
 use Rattle.sc_sequences.specs.Orders.{obeyed}
 use Rattle.sc_sequences.specs.Histories.{sequences_of, tables_after}
 use Rattle.sc_sequences.proofs.Waking.{more_stand}
-use Rattle.sc_sequences.proofs.step.SequencerCommandedReads.obey.Goals as goal
+use Rattle.sc_sequences.proofs.step.DutyCommandedReads.obey.Goals as goal
 
 pub returns-clause-stands : goal.returns-clause-stands
 returns-clause-stands c = λ wakeup orders belongs stood. record {
