@@ -37,7 +37,7 @@ dump_part time at bytes k = Made (dump_packet time (at + k * part_size) (take pa
 unfoldable pub dump_items : ℕ → ℕ → List ℕ → List Out
 dump_items time at bytes = map (dump_part time at bytes) (range_with_len 0 ((length bytes + (part_size - 1)) / part_size))
 
--- Those of a range, where it met no fault.
+-- The packets of a dump of a range, where its reading met no fault.
 abbrev pub range_items : ℕ → ℕ → Result (List ℕ) AccessFault → List Out
 range_items time at (Ok bytes) = dump_items time at bytes
 range_items time at (Err fault) = []

@@ -30,7 +30,7 @@ heard_at input = verdicts_on mm_protocol input.seen input.commands
 unfoldable pub mm_heard : List Input → List (Verdict Instruction)
 mm_heard history = heard_of mm_protocol (λ earlier input. input.seen) history
 
--- A wakeup: nothing is set up.
+-- A wakeup of MM, whose history begins with nothing.
 abbrev pub Turn : Type 0
 Turn = Wakeup (Unit {0}) Input Input
 

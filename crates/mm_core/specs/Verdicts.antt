@@ -37,7 +37,7 @@ abbrev pub access_refusal : {A : Type 0} → Result A AccessFault → Option Ref
 access_refusal (Ok a) = None
 access_refusal (Err fault) = Some (Access fault)
 
--- The refusal of a load of the file of a number, which is this one.
+-- The refusal to load the file of a number: there is none, or its access meets a fault.
 abbrev pub file_refusal : Memory → ℕ → Option (ℕ × List ℕ) → Option Refusal
 file_refusal image n None = Some File
 file_refusal image n (Some load) = access_refusal (admission_of image (ops.FromFile n load.0 (length load.1)))
@@ -57,7 +57,7 @@ own_refusal seen (Dump at len) = if is_dump_len len then access_refusal (range_a
 abbrev pub mm_protocol : Protocol Seen Instruction Refusal
 mm_protocol = protocol_of mm_language number_of (λ seen orders instruction. own_refusal seen instruction)
 
--- The bytes of a load are some.
+-- A load has bytes.
 abbrev pub HasBytes : List (ℕ × List ℕ) → Instruction → Type 0
 HasBytes loads Plain = Unit {0}
 HasBytes loads (Peek size at) = Unit {0}
@@ -68,7 +68,7 @@ HasBytes loads (Fill at len byte) = Unit {0}
 HasBytes loads (Protect region on) = Unit {0}
 HasBytes loads (Dump at len) = Unit {0}
 
--- A command that can be obeyed: its own refusals let it pass, and the bytes of a load are some.
+-- A command that can be obeyed: its own refusals let it pass, and a load has bytes.
 pub record CanObey (seen : Seen) (instruction : Instruction) : Type 0 where
   pub passes : own_refusal seen instruction ≡ None
   pub has_bytes : HasBytes seen.loads instruction

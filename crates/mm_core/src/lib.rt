@@ -2,6 +2,7 @@
 #![tactic(auto)]
 
 mod answers;
+mod duty;
 mod housekeeping;
 mod instructions;
 pub mod laws;

@@ -10,6 +10,7 @@ ghost use Rattle.mm_core.specs.Step.{Input, input_of, mm_items, mm_operations};
 ghost use Rattle.mm_core.specs.State.{Stands};
 
 use crate::answers::reply;
+use crate::duty::Duty;
 use crate::housekeeping::housekeeping;
 use crate::instructions::{Instruction, leave_operation};
 use crate::reading::Reads;
@@ -24,11 +25,7 @@ use table_files::Files;
 /// How many items a wakeup gives at most.
 pub const MOST_ITEMS: u32 = 272;
 
-// Commands change nothing of MM but its counts: all else is left to the end of the frame.
-#[derive(Clone, Copy, Debug, PartialEq, Eq)]
-struct Hands {}
-
-impl<'a> Commanded<Reads<'a>> for Hands {
+impl<'a> Commanded<Reads<'a>> for Duty {
     ghost use Rattle.std.specs.Prelude.{◌≡◌};
     ghost use Rattle.std.proofs.Common.{arith};
     ghost use Rattle.mm_core.specs.Reading.{Seen, seen_in};
@@ -54,15 +51,15 @@ impl<'a> Commanded<Reads<'a>> for Hands {
 
     ghost belongs = { λ turn reads now. (turn.input.seen ≡ seen_in reads.window reads.files.now) × (turn.input.time ≡ now) };
 
-    ghost stands = { λ turn orders hands ops. ops ≡ operations_of turn.input.seen.loads orders };
+    ghost stands = { λ turn orders duty ops. ops ≡ operations_of turn.input.seen.loads orders };
 
-    ghost is_safe = { λ reads n hands ops. CanLand (seen_in reads.window reads.files.now) n ops };
+    ghost is_safe = { λ reads n duty ops. CanLand (seen_in reads.window reads.files.now) n ops };
 
-    ghost can_obey = { λ reads hands instruction. CanObey (seen_in reads.window reads.files.now) instruction };
+    ghost can_obey = { λ reads duty instruction. CanObey (seen_in reads.window reads.files.now) instruction };
 
     ghost most = { 16 };
 
-    ghost still_safe = { λ reads n hands ops safe. record { few = Prim.omega arith; admitted = safe.admitted; backed = safe.backed } };
+    ghost still_safe = { λ reads n duty ops safe. record { few = Prim.omega arith; admitted = safe.admitted; backed = safe.backed } };
 
     ghost timed = { λ turn reads now belongs. belongs.1 };
 
@@ -88,9 +85,7 @@ impl<'a> Commanded<Reads<'a>> for Hands {
 }
 
 impl Mm {
-    /// Handles the packets of the pipe, at most 16. What is sent goes to `out`, which is empty, the operations to `ops`,
-    /// which is empty too, and the state after the wakeup to `next`. All reading and all admission is by the window; load
-    /// files are those among the files.
+    /// `advance` on a copy: this state stays, and the state after the wakeup goes to `next`.
     pub fn step(
         &self,
         files: &Files,
@@ -118,7 +113,9 @@ impl Mm {
         next.advance(files, commands, window, now, out, ops);
     }
 
-    /// The same in place.
+    /// Handles the packets of the pipe, at most 16, at the time `now`, in seconds: a request is answered with housekeeping, a command with
+    /// its packets and its event. What is sent goes to `out`, which is empty and has room for 272 items, and the operations to `ops`, which
+    /// is empty too. All reading and all admission is by the window; load files are those among the files.
     pub fn advance(
         &mut self,
         files: &Files,
@@ -143,7 +140,7 @@ impl Mm {
     {
         handle_all(
             &mut self.counts,
-            &mut Hands {},
+            &mut Duty {},
             commands,
             Reads { window, files },
             now,

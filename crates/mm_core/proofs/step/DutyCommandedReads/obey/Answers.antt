@@ -6,7 +6,7 @@ use Rattle.mm_core.specs.Reading.{Seen, seen_in}
 use Rattle.mm_core.specs.Instructions.{operation_of}
 use Rattle.mm_core.specs.Step.{operations_of}
 use Rattle.mm_core.proofs.Landing.{passes_sized, operations_more, left_lands}
-use Rattle.mm_core.proofs.step.HandsCommandedReads.obey.Goals as goal
+use Rattle.mm_core.proofs.step.DutyCommandedReads.obey.Goals as goal
 
 pub reply-requires-clause-sized : goal.reply-requires-clause-sized
 reply-requires-clause-sized c = passes_sized (seen_in c.args.reads.window c.args.reads.files.now) c.args.instruction.now c.requires.can
