@@ -58,10 +58,10 @@ table_begins tables history n s stood = λ now dwelling.
 pub all_begin : (tables : List DwellTable) (history : List MdEntry) (md : Md) → Stands tables history md → AllBegin tables history md
 unfolding Stands
 all_begin tables history md stood = record {
-  first = table_begins tables history 1 md.streams.first stood.streams.first;
-  second = table_begins tables history 2 md.streams.second stood.streams.second;
-  third = table_begins tables history 3 md.streams.third stood.streams.third;
-  fourth = table_begins tables history 4 md.streams.fourth stood.streams.fourth;
+  first = table_begins tables history 1 md.duty.first stood.duty.first;
+  second = table_begins tables history 2 md.duty.second stood.duty.second;
+  third = table_begins tables history 3 md.duty.third stood.duty.third;
+  fourth = table_begins tables history 4 md.duty.fourth stood.duty.fourth;
 }
 
 -- before all wakeups a stream starts in the next one

@@ -6,7 +6,7 @@ use Rattle.bus_pipes.specs.Counted.{is_counted, is_item_counted}
 use Rattle.bus_pipes.specs.declared.names.Out.{Out}
 use Rattle.bus_pipes.specs.declared.names.Out.TheVariants.{Made}
 use Rattle.commands.proofs.Answering.{one_passes, telemetry_counted}
-use Rattle.md_dwell.specs.Step.{dwell_packet}
+use Rattle.md_dwell.specs.Answers.{dwell_packet}
 
 -- the id of a dwell packet
 dwell_id : (n : ℕ) → 1 ≤ n → n ≤ 4 → is_counted (0x0890 + n) ≡ true

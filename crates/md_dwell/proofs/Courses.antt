@@ -119,7 +119,7 @@ ended list since past image r n wait bytes some_delay over all last read =
       ];
     }
 
--- the same of a stream that was read on to the end of its list
+-- a stream that was read on to the end of its list
 pub round_over : (since r : ℕ) (past : List Memory) (image : Memory) (old new : Stream) (shown : List DwellEntry) → 0 < delays (list_of old.plan)
     → IsInRound (list_of old.plan) since past (past ++ image ∷ []) r old.next 0 old.bytes → shown ≡ list_of new.plan → new.plan ≡ old.plan → length shown ≤ new.next
     → IsReadTo (list_of old.plan) (since + r * delays (list_of old.plan)) (past ++ image ∷ []) new.next new.wait new.bytes

@@ -15,11 +15,12 @@ use Rattle.md_dwell.specs.Verdicts.{md_protocol}
 use Rattle.md_dwell.specs.Orders.{Input, heard_at, ordered_at}
 use Rattle.md_dwell.specs.Histories.{MdEntry, images_of}
 use Rattle.md_dwell.specs.Housekeeping.{entries_now, is_on, dwells}
-use Rattle.md_dwell.specs.Step.{md_heard, md_answers, turn_of, dwell_items, table_items, md_items}
-use Rattle.md_dwell.specs.State.{TableStands, StandsAt, Stands, is_idle_on}
+use Rattle.md_dwell.specs.Answers.{dwell_items}
+use Rattle.md_dwell.specs.Step.{md_heard, md_answers, turn_of, table_items, md_items}
+use Rattle.md_dwell.specs.State.{TableStands, DutyStands, Stands, is_idle_on}
 use Rattle.md_dwell.specs.declared.instructions.Instruction.{Instruction}
 use Rattle.md_dwell.specs.declared.streams.Stream.{Stream}
-use Rattle.md_dwell.specs.declared.state.Streams.{Streams}
+use Rattle.md_dwell.specs.declared.duty.Duty.{Duty}
 use Rattle.md_dwell.specs.declared.state.Md.{Md}
 use Rattle.md_dwell.proofs.Courses.{idle}
 use Rattle.md_dwell.proofs.Following.{heard_woken}
@@ -33,7 +34,7 @@ pub dwells_is : (tables : List DwellTable) (history : List MdEntry) (n : ℕ) (s
 dwells_is tables history n s stood = rw (stood.enabled, stood.plan) refl
 
 -- by all four
-pub idle_is : (tables : List DwellTable) (history : List MdEntry) (commands : List (List ℕ)) (empty any : Bool) (s : Streams) → StandsAt tables history [] s → empty ≡ (length commands == 0)
+pub idle_is : (tables : List DwellTable) (history : List MdEntry) (commands : List (List ℕ)) (empty any : Bool) (s : Duty) → DutyStands tables history [] s → empty ≡ (length commands == 0)
     → any ≡ (kept s.first || kept s.second || kept s.third || kept s.fourth) → (empty && not any) ≡ is_idle_on tables history commands
 unfolding is_idle_on
 idle_is tables history commands empty any s stood none is =
@@ -91,34 +92,34 @@ of_both true true both = cc
 of_both false b both = cc
 
 pub stands_asleep : (tables : List DwellTable) (history : List MdEntry) (input : Input) (commands : List (List ℕ)) (empty any : Bool) (md : Md) → (empty && not any) ≡ true → empty ≡ (length commands == 0)
-    → any ≡ (kept md.streams.first || kept md.streams.second || kept md.streams.third || kept md.streams.fourth) → input.commands ≡ commands → Stands tables history md → Stands tables (history ++ Woken input ∷ []) md
+    → any ≡ (kept md.duty.first || kept md.duty.second || kept md.duty.third || kept md.duty.fourth) → input.commands ≡ commands → Stands tables history md → Stands tables (history ++ Woken input ∷ []) md
 unfolding Stands
 stands_asleep tables history input commands empty any md both is_empty is_any these stood =
     let parts = of_both empty any both in
     let none : input.commands ≡ [] = these ∙ no_packets commands (sym is_empty ∙ parts.0) in
-    let off = of_four (kept md.streams.first) (kept md.streams.second) (kept md.streams.third) (kept md.streams.fourth) (sym is_any ∙ parts.1) in
+    let off = of_four (kept md.duty.first) (kept md.duty.second) (kept md.duty.third) (kept md.duty.fourth) (sym is_any ∙ parts.1) in
     record {
       counts = stood.counts ∙ ap counts_of (sym (heard_woken history input ∙ ap (λ (heard : List (Verdict Instruction)). md_heard history ++ heard) (none_heard input none) ∙ append-nil (md_heard history)));
-      streams = record {
-        first = table_asleep tables history input 1 md.streams.first none off.0 stood.streams.first;
-        second = table_asleep tables history input 2 md.streams.second none off.1 stood.streams.second;
-        third = table_asleep tables history input 3 md.streams.third none off.2 stood.streams.third;
-        fourth = table_asleep tables history input 4 md.streams.fourth none off.3 stood.streams.fourth;
+      duty = record {
+        first = table_asleep tables history input 1 md.duty.first none off.0 stood.duty.first;
+        second = table_asleep tables history input 2 md.duty.second none off.1 stood.duty.second;
+        third = table_asleep tables history input 3 md.duty.third none off.2 stood.duty.third;
+        fourth = table_asleep tables history input 4 md.duty.fourth none off.3 stood.duty.fourth;
       };
     }
 
 pub items_asleep : (tables : List DwellTable) (history : List MdEntry) (input : Input) (commands : List (List ℕ)) (empty any : Bool) (md : Md) → (empty && not any) ≡ true → empty ≡ (length commands == 0)
-    → any ≡ (kept md.streams.first || kept md.streams.second || kept md.streams.third || kept md.streams.fourth) → input.commands ≡ commands → Stands tables history md → md_items tables history input ≡ []
+    → any ≡ (kept md.duty.first || kept md.duty.second || kept md.duty.third || kept md.duty.fourth) → input.commands ≡ commands → Stands tables history md → md_items tables history input ≡ []
 unfolding Stands md_items
 items_asleep tables history input commands empty any md both is_empty is_any these stood =
     let parts = of_both empty any both in
     let none : input.commands ≡ [] = these ∙ no_packets commands (sym is_empty ∙ parts.0) in
-    let off = of_four (kept md.streams.first) (kept md.streams.second) (kept md.streams.third) (kept md.streams.fourth) (sym is_any ∙ parts.1) in
+    let off = of_four (kept md.duty.first) (kept md.duty.second) (kept md.duty.third) (kept md.duty.fourth) (sym is_any ∙ parts.1) in
     rw (
       none_heard input none,
       no_answers md_answers md_name (turn_of tables history input),
-      gives_nothing tables history input input.time 1 md.streams.first none off.0 stood.streams.first,
-      gives_nothing tables history input input.time 2 md.streams.second none off.1 stood.streams.second,
-      gives_nothing tables history input input.time 3 md.streams.third none off.2 stood.streams.third,
-      gives_nothing tables history input input.time 4 md.streams.fourth none off.3 stood.streams.fourth,
+      gives_nothing tables history input input.time 1 md.duty.first none off.0 stood.duty.first,
+      gives_nothing tables history input input.time 2 md.duty.second none off.1 stood.duty.second,
+      gives_nothing tables history input input.time 3 md.duty.third none off.2 stood.duty.third,
+      gives_nothing tables history input input.time 4 md.duty.fourth none off.3 stood.duty.fourth,
     ) refl

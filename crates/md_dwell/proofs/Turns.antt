@@ -20,12 +20,13 @@ use Rattle.md_dwell.specs.Rounds.{dwell_at}
 use Rattle.md_dwell.specs.Orders.{Input, ordered_at, jammed, switch_of, switched_by, switched, starts, entries_after, is_on_after, starts_in}
 use Rattle.md_dwell.specs.Histories.{MdEntry, table_of, table_after, orders_since, started_at, started_by, images_of}
 use Rattle.md_dwell.specs.Housekeeping.{entries_now, is_on, enabled_bits, housekeeping_of}
-use Rattle.md_dwell.specs.Step.{dwell_items, table_items}
+use Rattle.md_dwell.specs.Answers.{dwell_items}
+use Rattle.md_dwell.specs.Step.{table_items}
 use Rattle.md_dwell.specs.Streams.{StreamStands}
-use Rattle.md_dwell.specs.State.{TableStands, StandsAt}
+use Rattle.md_dwell.specs.State.{TableStands, DutyStands}
 use Rattle.md_dwell.specs.declared.tables.DwellEntry.{DwellEntry}
 use Rattle.md_dwell.specs.declared.streams.Stream.{Stream}
-use Rattle.md_dwell.specs.declared.state.Streams.{Streams}
+use Rattle.md_dwell.specs.declared.duty.Duty.{Duty}
 use Rattle.md_dwell.proofs.Following.{table_begun, table_woken, orders_begun, orders_woken, started_begun, started_woken, started_unordered, images_begun, images_woken}
 
 -- at one more packet
@@ -131,7 +132,7 @@ items_whole start after first second third fourth items one two three four empty
     (simp append_assoc)
 
 -- the housekeeping packet by the flags that are kept
-pub housekeeping_shown : (tables : List DwellTable) (history : List MdEntry) (orders : List Instruction) (time now : ℕ) (counts : Counts) (s : Streams) (bits : ℕ) (p : List ℕ) → StandsAt tables history orders s → time ≡ now
+pub housekeeping_shown : (tables : List DwellTable) (history : List MdEntry) (orders : List Instruction) (time now : ℕ) (counts : Counts) (s : Duty) (bits : ℕ) (p : List ℕ) → DutyStands tables history orders s → time ≡ now
     → bits ≡ bits_of (s.first.enabled ∷ s.second.enabled ∷ s.third.enabled ∷ s.fourth.enabled ∷ []) → p ≡ housekeeping_of now counts bits → p ≡ housekeeping_of time counts (enabled_bits tables history orders)
 unfolding enabled_bits
 housekeeping_shown tables history orders time now counts s bits p stood timed are is =

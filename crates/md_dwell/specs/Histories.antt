@@ -33,7 +33,7 @@ table_in n a = if a.number == n then Some a.table else None
 abbrev pub table_after : List DwellTable → List MdEntry → ℕ → DwellTable
 table_after tables entries n = in_force (table_in n) (table_of tables n) entries
 
--- All four.
+-- The four tables in force behind these entries.
 abbrev pub tables_after : List DwellTable → List MdEntry → List DwellTable
 tables_after tables entries = map (table_after tables entries) (range_with_len 1 4)
 
@@ -60,7 +60,8 @@ restarts n (Activated a) = a.number == n
 unfoldable pub started_at : ℕ → List MdEntry → ℕ
 started_at n entries = wakeups_before (restarts n) entries
 
--- The same at a place in the next wakeup: that one where an order in it so far starts the stream.
+-- The number of the wakeup in which the stream of table n last started, at a place in the next wakeup: that wakeup where an order in it so far
+-- starts the stream.
 abbrev pub started_by : ℕ → List MdEntry → List Instruction → ℕ
 started_by n entries orders = if starts_in n orders then length (wakeups entries) else started_at n entries
 

@@ -16,7 +16,7 @@ use Rattle.md_dwell.specs.declared.instructions.Instruction.{Instruction}
 abbrev pub entries_now : List DwellTable → List MdEntry → List Instruction → ℕ → List DwellEntry
 entries_now tables history orders n = entries_after n (table_after tables history n).entries (orders_since n history ++ orders)
 
--- Whether table n is enabled there.
+-- Whether table n is enabled behind these entries, and what was ordered in the next wakeup so far.
 abbrev pub is_on : List DwellTable → List MdEntry → List Instruction → ℕ → Bool
 is_on tables history orders n = is_on_after n (table_after tables history n).enabled (orders_since n history ++ orders)
 

@@ -10,6 +10,7 @@ pub mod Verdicts
 pub mod Orders
 pub mod Histories
 pub mod Housekeeping
+pub mod Answers
 pub mod Step
 pub mod Streams
 pub mod State

@@ -27,11 +27,11 @@ three_entries enabled delay = record {
   entries = (record { len = 1; delay = 0; at = 0x1000 }) ∷ (record { len = 1; delay = delay; at = 0x1001 }) ∷ (record { len = 1; delay = 0; at = 0x1002 }) ∷ replicate 22 blank_entry;
 }
 
--- That table, enabled, and three without entries.
+-- The table of three entries, enabled, and three tables without entries.
 abbrev pub three_bytes : ℕ → List DwellTable
 three_bytes delay = three_entries true delay ∷ blank_table ∷ blank_table ∷ blank_table ∷ []
 
--- The same where the round begins anew a wakeup after its last entry was read.
+-- Three entries of one byte of which the last one alone delays, so that a round begins a wakeup after the last reading of the one before.
 abbrev pub three_bytes_once : List DwellTable
 three_bytes_once =
     (record {

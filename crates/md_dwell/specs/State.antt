@@ -12,24 +12,24 @@ use Rattle.md_dwell.specs.Step.{md_heard}
 use Rattle.md_dwell.specs.Streams.{StreamStands, IsAtBeginning}
 use Rattle.md_dwell.specs.declared.instructions.Instruction.{Instruction}
 use Rattle.md_dwell.specs.declared.streams.Stream.{Stream}
-use Rattle.md_dwell.specs.declared.state.Streams.{Streams}
+use Rattle.md_dwell.specs.declared.duty.Duty.{Duty}
 use Rattle.md_dwell.specs.declared.state.Md.{Md}
 
 -- The stream of table n stands for the tables, a history and what was ordered in the next wakeup so far.
 abbrev pub TableStands : List DwellTable → List MdEntry → List Instruction → ℕ → Stream → Type 0
 TableStands tables history orders n stream = StreamStands (entries_now tables history orders n) (is_on tables history orders n) (started_by n history orders) (images_of history) stream
 
--- The four streams stand for them.
-pub record StandsAt (tables : List DwellTable) (history : List MdEntry) (orders : List Instruction) (streams : Streams) : Type 0 where
-  pub first : TableStands tables history orders 1 streams.first
-  pub second : TableStands tables history orders 2 streams.second
-  pub third : TableStands tables history orders 3 streams.third
-  pub fourth : TableStands tables history orders 4 streams.fourth
+-- The streams of the four tables stand for them.
+pub record DutyStands (tables : List DwellTable) (history : List MdEntry) (orders : List Instruction) (duty : Duty) : Type 0 where
+  pub first : TableStands tables history orders 1 duty.first
+  pub second : TableStands tables history orders 2 duty.second
+  pub third : TableStands tables history orders 3 duty.third
+  pub fourth : TableStands tables history orders 4 duty.fourth
 
 -- The state stands for the tables with which a history began, and for the history.
 pub record StandsFor (tables : List DwellTable) (history : List MdEntry) (md : Md) : Type 0 where
   pub counts : md.counts ≡ counts_of (md_heard history)
-  pub streams : StandsAt tables history [] md.streams
+  pub duty : DutyStands tables history [] md.duty
 
 unfoldable pub Stands : List DwellTable → List MdEntry → Md → Type 0
 Stands tables history md = StandsFor tables history md
@@ -38,23 +38,23 @@ Stands tables history md = StandsFor tables history md
 abbrev pub Begins : List DwellTable → List MdEntry → ℕ → Stream → Type 0
 Begins tables history n stream = started_at n history ≡ length (wakeups history) → dwells tables history n ≡ true → IsAtBeginning stream
 
--- The same of all four.
+-- The streams of all four tables are at their beginnings in this way.
 pub record AllBegin (tables : List DwellTable) (history : List MdEntry) (md : Md) : Type 0 where
-  pub first : Begins tables history 1 md.streams.first
-  pub second : Begins tables history 2 md.streams.second
-  pub third : Begins tables history 3 md.streams.third
-  pub fourth : Begins tables history 4 md.streams.fourth
+  pub first : Begins tables history 1 md.duty.first
+  pub second : Begins tables history 2 md.duty.second
+  pub third : Begins tables history 3 md.duty.third
+  pub fourth : Begins tables history 4 md.duty.fourth
 
 -- All entries of the streams are given.
-pub record StreamsGiven (regions : List Region) (streams : Streams) : Type 0 where
-  pub first : AllPass (is_given regions) streams.first.plan
-  pub second : AllPass (is_given regions) streams.second.plan
-  pub third : AllPass (is_given regions) streams.third.plan
-  pub fourth : AllPass (is_given regions) streams.fourth.plan
+pub record StreamsGiven (regions : List Region) (duty : Duty) : Type 0 where
+  pub first : AllPass (is_given regions) duty.first.plan
+  pub second : AllPass (is_given regions) duty.second.plan
+  pub third : AllPass (is_given regions) duty.third.plan
+  pub fourth : AllPass (is_given regions) duty.fourth.plan
 
 -- All entries of the state are given.
 abbrev pub AllGiven : List Region → Md → Type 0
-AllGiven regions md = StreamsGiven regions md.streams
+AllGiven regions md = StreamsGiven regions md.duty
 
 -- Without packets MD has nothing to do where no table dwells.
 unfoldable pub is_idle_on : List DwellTable → List MdEntry → List (List ℕ) → Bool

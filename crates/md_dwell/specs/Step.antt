@@ -1,12 +1,8 @@
 -- What MD sends in a wakeup.
-use Rattle.std.specs.Prelude.{ℕ, List, [], ◌∷◌, ◌++◌, length, Option, Some, None}
-use Rattle.packet_forms.specs.MessageIds.{md_dwell}
+use Rattle.std.specs.Prelude.{ℕ, List, [], ◌∷◌, ◌++◌}
 use Rattle.histories.specs.Entries.{wakeups}
 use Rattle.histories.specs.Entries.Entry.{Woken}
-use Rattle.packet_forms.specs.Numbers.{be16_bytes}
-use Rattle.packet_forms.specs.Built.{telemetry_of}
 use Rattle.bus_pipes.specs.declared.names.Out.{Out}
-use Rattle.bus_pipes.specs.declared.names.Out.TheVariants.{Made}
 use Rattle.commands.specs.Inputs.{Wakeup, heard_of}
 use Rattle.commands.specs.Answering.{Answers, command_items}
 use Rattle.commands.specs.declared.verdicts.Verdict.{Verdict}
@@ -16,6 +12,7 @@ use Rattle.md_dwell.specs.Rounds.{dwell_at}
 use Rattle.md_dwell.specs.Verdicts.{md_protocol}
 use Rattle.md_dwell.specs.Orders.{Input, heard_at}
 use Rattle.md_dwell.specs.Histories.{MdEntry, started_at, images_of}
+use Rattle.md_dwell.specs.Answers.{dwell_items}
 use Rattle.md_dwell.specs.Housekeeping.{entries_now, is_on, enabled_bits, housekeeping_of}
 use Rattle.md_dwell.specs.declared.instructions.Instruction.{Instruction}
 
@@ -38,15 +35,6 @@ md_answers = record {
   housekeeping = λ turn counts orders. housekeeping_of turn.input.time counts (enabled_bits turn.setup turn.history orders);
   replies = λ turn orders instruction. [];
 }
-
--- The packet with the bytes of a round of table n: n, the number of bytes, the bytes.
-unfoldable pub dwell_packet : ℕ → ℕ → List ℕ → List ℕ
-dwell_packet time n bytes = telemetry_of (md_dwell n) time (be16_bytes n ++ be16_bytes (length bytes) ++ bytes)
-
--- That packet, where a round ended.
-abbrev pub dwell_items : ℕ → ℕ → Option (List ℕ) → List Out
-dwell_items time n None = []
-dwell_items time n (Some bytes) = Made (dwell_packet time n bytes) ∷ []
 
 -- What table n gives in the wakeup with which a history ends.
 unfoldable pub table_items : List DwellTable → List MdEntry → ℕ → ℕ → List Out

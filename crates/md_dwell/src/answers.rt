@@ -1,13 +1,13 @@
 //! The dwell packets.
 ghost use Rattle.std.specs.Prelude.{◌≡◌, ◌≤◌, length, true};
-ghost use Rattle.md_dwell.specs.Step.{dwell_packet};
+ghost use Rattle.md_dwell.specs.Answers.{dwell_packet};
 
 use crate::payload::Payload;
 use packet_forms::message_ids::MD_DWELL;
 use packet_forms::{Packet, telemetry};
 
 /// The packet with the bytes of a round of a table, 1 to 4.
-#[tactic(auto, unfolding(crate::specs::Step::dwell_packet, packet_forms::specs::Numbers::be16_bytes))]
+#[tactic(auto, unfolding(crate::specs::Answers::dwell_packet, packet_forms::specs::Numbers::be16_bytes))]
 pub(crate) fn dwell_packet(table: u16, bytes: &[u8], now: u32) -> Packet
     requires table { table ≤ 4 }
     requires few { length bytes.now ≤ 100 }

@@ -11,9 +11,10 @@ ghost use Rattle.md_dwell.specs.Histories.{MdEntry};
 ghost use Rattle.md_dwell.specs.Step.{md_items};
 ghost use Rattle.md_dwell.specs.State.{Stands, AllGiven};
 
+use crate::duty::Duty;
 use crate::housekeeping::housekeeping;
 use crate::instructions::Instruction;
-use crate::state::{Md, Streams};
+use crate::state::Md;
 use crate::verdicts::{Refusal, own_refusal};
 use bus_pipes::{Counts, Outbox};
 use commands::{Commanded, handle_all};
@@ -24,13 +25,19 @@ use packet_forms::Packet;
 /// How many items a wakeup gives at most.
 pub const MOST_ITEMS: u32 = 20;
 
-impl<'a> Commanded<Window<'a>> for Streams {
+/// What is read beside the packets.
+#[derive(Clone, Copy)]
+struct Reads<'a> {
+    window: Window<'a>,
+}
+
+impl<'a> Commanded<Reads<'a>> for Duty {
     ghost use Rattle.std.specs.Prelude.{◌≡◌, None};
     ghost use Rattle.memory_window.specs.Memory.{Memory, regions_of};
     ghost use Rattle.memory_window.specs.Window.{seen};
     ghost use Rattle.md_dwell.specs.Verdicts.{own_refusal};
     ghost use Rattle.md_dwell.specs.Step.{Turn, md_answers};
-    ghost use Rattle.md_dwell.specs.State.{StandsAt, StreamsGiven};
+    ghost use Rattle.md_dwell.specs.State.{DutyStands, StreamsGiven};
 
     type Instruction = Instruction;
 
@@ -48,25 +55,25 @@ impl<'a> Commanded<Window<'a>> for Streams {
 
     ghost basis = { λ turn. turn.input.seen };
 
-    ghost belongs = { λ turn window now. (turn.input.seen ≡ seen window) × (turn.input.time ≡ now) };
+    ghost belongs = { λ turn reads now. (turn.input.seen ≡ seen reads.window) × (turn.input.time ≡ now) };
 
-    ghost stands = { λ turn orders streams left. StandsAt turn.setup turn.history orders streams };
+    ghost stands = { λ turn orders duty left. DutyStands turn.setup turn.history orders duty };
 
-    ghost is_safe = { λ window n streams left. StreamsGiven (regions_of (seen window).areas) streams };
+    ghost is_safe = { λ reads n duty left. StreamsGiven (regions_of (seen reads.window).areas) duty };
 
-    ghost can_obey = { λ window streams instruction. own_refusal (seen window) instruction ≡ None };
+    ghost can_obey = { λ reads duty instruction. own_refusal (seen reads.window) instruction ≡ None };
 
     ghost most = { 0 };
 
-    ghost still_safe = { λ window n streams left safe. safe };
+    ghost still_safe = { λ reads n duty left safe. safe };
 
-    ghost timed = { λ turn window now belongs. belongs.1 };
+    ghost timed = { λ turn reads now belongs. belongs.1 };
 
-    fn refusal(&self, instruction: &Instruction, reads: Window<'a>, now: u32) -> Option<Refusal> {
-        own_refusal(reads, instruction)
+    fn refusal(&self, instruction: &Instruction, reads: Reads<'a>, now: u32) -> Option<Refusal> {
+        own_refusal(reads.window, instruction)
     }
 
-    fn housekeeping(&self, counts: Counts, reads: Window<'a>, now: u32) -> Packet {
+    fn housekeeping(&self, counts: Counts, reads: Reads<'a>, now: u32) -> Packet {
         let enabled = bits_of(&[
             self.first.enabled(),
             self.second.enabled(),
@@ -79,7 +86,7 @@ impl<'a> Commanded<Window<'a>> for Streams {
     fn obey(
         &mut self,
         instruction: &Instruction,
-        reads: Window<'a>,
+        reads: Reads<'a>,
         now: u32,
         left: &mut (),
         out: &mut Outbox,
@@ -92,12 +99,7 @@ impl<'a> Commanded<Window<'a>> for Streams {
 }
 
 impl Md {
-    /// A wakeup at the time `now`, in seconds. The packets of the pipe, at most 16, are handled in order: a request is answered with
-    /// housekeeping (accepted, errors, enabled tables), a command with its event. Then the four streams are served, table 1 first: the
-    /// entries that are due are read, and where the last one of a round was read the packet of table n (id 0x0890 + n) is sent, with n,
-    /// the number of its bytes, and the values of the round, each in its length with the most significant byte first. What is sent goes
-    /// to `out`, which is empty and has room for 20 items, and the state after the wakeup to `next`. All reading is by the window,
-    /// which gives the entries of the state.
+    /// `advance` on a copy: this state stays, and the state after the wakeup goes to `next`.
     pub fn step(
         &self,
         commands: &[Packet],
@@ -121,7 +123,11 @@ impl Md {
         next.advance(commands, window, now, out);
     }
 
-    /// The same in place.
+    /// A wakeup at the time `now`, in seconds. The packets of the pipe, at most 16, are handled in order: a request is answered with
+    /// housekeeping (accepted, errors, enabled tables), a command with its event. Then the four streams are served, table 1 first: the
+    /// entries that are due are read, and where the last one of a round was read the packet of table n (id 0x0890 + n) is sent, with n,
+    /// the number of its bytes, and the values of the round, each in its length with the most significant byte first. What is sent goes
+    /// to `out`, which is empty and has room for 20 items. All reading is by the window, which gives the entries of the state.
     pub fn advance(&mut self, commands: &[Packet], window: Window<'_>, now: u32, out: &mut Outbox)
         requires commands { length commands.now ≤ 16 }
         requires empty { out.old.items ≡ [] }
@@ -136,16 +142,16 @@ impl Md {
     {
         handle_all(
             &mut self.counts,
-            &mut self.streams,
+            &mut self.duty,
             commands,
-            window,
+            Reads { window },
             now,
             &mut (),
             out,
         );
-        self.streams.first.serve(1, &window, now, out);
-        self.streams.second.serve(2, &window, now, out);
-        self.streams.third.serve(3, &window, now, out);
-        self.streams.fourth.serve(4, &window, now, out);
+        self.duty.first.serve(1, &window, now, out);
+        self.duty.second.serve(2, &window, now, out);
+        self.duty.third.serve(3, &window, now, out);
+        self.duty.fourth.serve(4, &window, now, out);
     }
 }

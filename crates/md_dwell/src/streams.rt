@@ -11,7 +11,7 @@ ghost use Rattle.md_dwell.specs.Given.{is_given, OrderGiven};
 ghost use Rattle.md_dwell.specs.Instructions.{NamesEntry};
 ghost use Rattle.md_dwell.specs.Orders.{names, jammed, switched, starts};
 ghost use Rattle.md_dwell.specs.Rounds.{round_at, dwell_at};
-ghost use Rattle.md_dwell.specs.Step.{dwell_items};
+ghost use Rattle.md_dwell.specs.Answers.{dwell_items};
 ghost use Rattle.md_dwell.specs.Readings.{IsReadTo, IsInRound};
 
 use crate::answers::dwell_packet;

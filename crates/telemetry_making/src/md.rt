@@ -4,7 +4,7 @@ ghost use Rattle.std.specs.List.{AllByRecursion};
 ghost use Rattle.packet_forms.specs.Hex.{hex};
 ghost use Rattle.bus_pipes.specs.declared.names.Counts.{Counts};
 ghost use Rattle.md_dwell.specs.Housekeeping.{enabled_bits, housekeeping_of};
-ghost use Rattle.md_dwell.specs.Step.{dwell_packet};
+ghost use Rattle.md_dwell.specs.Answers.{dwell_packet};
 ghost use Rattle.telemetry_making.specs.Making.{AreCounts, EndsIn, Shows};
 
 /// Each packet that Memory Dwell makes is shown by the words of its row, and they say what it was made of: its housekeeping both counts

@@ -19,7 +19,8 @@ use Rattle.md_dwell.specs.Instructions.{instruction_of}
 use Rattle.md_dwell.specs.Orders.{entries_after, is_on_after, starts_in}
 use Rattle.md_dwell.specs.Histories.{orders_since, started_at, images_of}
 use Rattle.md_dwell.specs.Housekeeping.{enabled_bits, housekeeping_of}
-use Rattle.md_dwell.specs.Step.{md_heard, dwell_packet, table_items, md_items}
+use Rattle.md_dwell.specs.Answers.{dwell_packet}
+use Rattle.md_dwell.specs.Step.{md_heard, table_items, md_items}
 use Rattle.md_dwell.proofs.laws.wakeup_rows.Goals as goal
 
 pub returns : goal.returns

@@ -15,7 +15,7 @@ use Rattle.row_forms.specs.declared.field.Kind.TheVariants.{Block}
 use Rattle.row_forms.specs.declared.field.Spelling.TheVariants.{Decimal}
 use Rattle.row_forms.specs.Worked.{field, text_at}
 use Rattle.md_dwell.specs.Housekeeping.{housekeeping_of}
-use Rattle.md_dwell.specs.Step.{dwell_packet}
+use Rattle.md_dwell.specs.Answers.{dwell_packet}
 use Rattle.telemetry_making.proofs.md.md_telemetry_is_shown.Goals as goal
 
 pub returns-clause-housekeeping : goal.returns-clause-housekeeping

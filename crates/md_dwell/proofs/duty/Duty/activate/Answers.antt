@@ -1,6 +1,6 @@
 use Rattle.std.proofs.Common.{◌≡◌, refl, arith}
 use Rattle.md_dwell.proofs.Activating.{taken, kept_apart}
-use Rattle.md_dwell.proofs.state.Streams.activate.Goals as goal
+use Rattle.md_dwell.proofs.duty.Duty.activate.Goals as goal
 
 pub returns-in-1-clause-stands : goal.returns-in-1-clause-stands
 returns-in-1-clause-stands c = λ tables history stood.

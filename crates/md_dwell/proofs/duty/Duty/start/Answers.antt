@@ -3,7 +3,7 @@ use Rattle.std.proofs.lemmas.List.{get_or_default}
 use Rattle.md_dwell.specs.Tables.{blank_table}
 use Rattle.md_dwell.specs.Given.{TablesGiven}
 use Rattle.md_dwell.proofs.Turns.{table_start}
-use Rattle.md_dwell.proofs.state.Streams.start.Goals as goal
+use Rattle.md_dwell.proofs.duty.Duty.start.Goals as goal
 
 pub returns-clause-stands : goal.returns-clause-stands
 returns-clause-stands c =

@@ -10,5 +10,5 @@ unfolding Stands
 returns-clause-stands c = λ tables history stood.
     record {
       counts = stood.counts ∙ ap counts_of (sym (heard_activated history (activation_of c.args.n c.args.table.now)));
-      streams = c.activate.ensures.stands tables history stood.streams;
+      duty = c.activate.ensures.stands tables history stood.duty;
     }

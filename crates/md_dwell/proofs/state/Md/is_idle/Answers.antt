@@ -5,7 +5,7 @@ use Rattle.md_dwell.proofs.state.Md.is_idle.Goals as goal
 
 pub returns-then-is_empty-clause-exact : goal.returns-then-is_empty-clause-exact
 unfolding Stands
-returns-then-is_empty-clause-exact c = λ tables history stood. idle_is tables history c.args.commands.now true c.dwell.result c.args.self.now.streams stood.streams (sym c.if-is_empty.true ∙ c.is_empty.ensures) c.dwell.ensures
+returns-then-is_empty-clause-exact c = λ tables history stood. idle_is tables history c.args.commands.now true c.dwell.result c.args.self.now.duty stood.duty (sym c.if-is_empty.true ∙ c.is_empty.ensures) c.dwell.ensures
 
 pub returns-then-is_empty-clause-stands : goal.returns-then-is_empty-clause-stands
 returns-then-is_empty-clause-stands c = λ tables history input idle is stood.
@@ -18,4 +18,4 @@ returns-then-is_empty-clause-items c = λ tables history input idle is stood.
 pub returns-else-is_empty-clause-exact : goal.returns-else-is_empty-clause-exact
 unfolding Stands
 returns-else-is_empty-clause-exact c = λ tables history stood.
-    c.if-is_empty.false ∙ idle_is tables history c.args.commands.now false _ c.args.self.now.streams stood.streams (sym c.if-is_empty.false ∙ c.is_empty.ensures) refl
+    c.if-is_empty.false ∙ idle_is tables history c.args.commands.now false _ c.args.self.now.duty stood.duty (sym c.if-is_empty.false ∙ c.is_empty.ensures) refl

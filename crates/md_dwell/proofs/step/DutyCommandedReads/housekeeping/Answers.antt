@@ -1,6 +1,6 @@
 use Rattle.std.proofs.Common.{refl, ◌∙◌}
 use Rattle.md_dwell.proofs.Turns.{housekeeping_shown}
-use Rattle.md_dwell.proofs.step.StreamsCommandedWindow.housekeeping.Goals as goal
+use Rattle.md_dwell.proofs.step.DutyCommandedReads.housekeeping.Goals as goal
 
 pub returns-clause-packet : goal.returns-clause-packet
 returns-clause-packet c = λ turn orders left belongs stood.

@@ -3,7 +3,7 @@ use Rattle.bus_pipes.proofs.Deliveries.{adding_none}
 use Rattle.memory_window.specs.Window.{seen}
 use Rattle.md_dwell.proofs.Turns.{table_turn}
 use Rattle.md_dwell.proofs.Gifts.{order_given}
-use Rattle.md_dwell.proofs.step.StreamsCommandedWindow.obey.Goals as goal
+use Rattle.md_dwell.proofs.step.DutyCommandedReads.obey.Goals as goal
 
 pub returns-clause-stands : goal.returns-clause-stands
 returns-clause-stands c = λ turn orders belongs stood.
@@ -16,7 +16,7 @@ returns-clause-stands c = λ turn orders belongs stood.
 
 pub returns-clause-safe : goal.returns-clause-safe
 returns-clause-safe c = λ n few given.
-    let order = order_given (seen c.args.reads) c.args.instruction.now c.requires.can in
+    let order = order_given (seen c.args.reads.window) c.args.instruction.now c.requires.can in
     record {
       first = c.obey.ensures.given _ given.first order;
       second = c.obey-2.ensures.given _ given.second order;

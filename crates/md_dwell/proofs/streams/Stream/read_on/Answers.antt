@@ -4,7 +4,7 @@ use Rattle.bus_pipes.proofs.Deliveries.{adding_none}
 use Rattle.md_dwell.specs.Lists.{list_of, delays}
 use Rattle.memory_window.specs.Window.{seen}
 use Rattle.bus_pipes.specs.declared.names.Out.TheVariants.{Made}
-use Rattle.md_dwell.specs.Step.{dwell_items, dwell_packet}
+use Rattle.md_dwell.specs.Answers.{dwell_items, dwell_packet}
 use Rattle.md_dwell.specs.Rounds.{round_at}
 use Rattle.md_dwell.specs.Readings.{IsReadTo}
 use Rattle.md_dwell.proofs.Counts.{dwell_counted}

@@ -3,7 +3,7 @@ use Rattle.bus_pipes.specs.Held.{adding}
 use Rattle.bus_pipes.proofs.Deliveries.{adding_none}
 use Rattle.md_dwell.specs.Lists.{list_of, delays}
 use Rattle.memory_window.specs.Window.{seen}
-use Rattle.md_dwell.specs.Step.{dwell_items}
+use Rattle.md_dwell.specs.Answers.{dwell_items}
 use Rattle.md_dwell.specs.Rounds.{dwell_at, round_at}
 use Rattle.md_dwell.specs.declared.tables.DwellEntry.{DwellEntry}
 use Rattle.md_dwell.proofs.Courses.{runs_on, wakes_on, paused, dwell_off, dwell_still, dwell_active}
