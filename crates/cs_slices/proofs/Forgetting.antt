@@ -10,7 +10,7 @@ use Rattle.cs_slices.specs.Happenings.Happening.{Ordered, Renewed}
 use Rattle.cs_slices.specs.Orders.{table_of, is_entry_on}
 use Rattle.cs_slices.specs.Slices.{offset_at}
 use Rattle.cs_slices.specs.Passes.{baseline, baseline_at, miscompare_count, pass_count}
-use Rattle.cs_slices.specs.Wakeups.{Input, orders_at}
+use Rattle.cs_slices.specs.Wakeups.{Input, ordered_at}
 use Rattle.cs_slices.specs.Histories.{Activation, CsEntry, tables_after, happened_of, slice_at}
 use Rattle.cs_slices.specs.Step.{cs_items}
 use Rattle.cs_slices.specs.Telling.{tells_miscompare}
@@ -78,4 +78,4 @@ module _ (tables : TablePair) (history : List CsEntry) (a : Activation) where
   untold input s is own =
       let behind = history ++ Activated a ∷ [] in
       told_first tables behind input s is
-      (ap (baseline s.place) (slices_since_orders (table_of s.place) (happened_of tables behind) (orders_at (tables_after tables behind) input)) ∙ baseline_forgotten s.place own)
+      (ap (baseline s.place) (slices_since_orders (table_of s.place) (happened_of tables behind) (ordered_at (tables_after tables behind) input)) ∙ baseline_forgotten s.place own)

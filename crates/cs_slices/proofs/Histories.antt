@@ -18,11 +18,11 @@ use Rattle.cs_slices.specs.Verdicts.{cs_protocol}
 use Rattle.cs_slices.specs.Happenings.{Happening, reading}
 use Rattle.cs_slices.specs.Happenings.Happening.{Ordered, Renewed}
 use Rattle.cs_slices.specs.Slices.{next_slice}
-use Rattle.cs_slices.specs.Wakeups.{Input, heard_at, orders_at}
+use Rattle.cs_slices.specs.Wakeups.{Input, heard_at, ordered_at}
 use Rattle.cs_slices.specs.Histories.{Activation, CsEntry, table_in, tables_after, packets_in, before_slice, happens_at, happens_behind, happened_of}
 use Rattle.cs_slices.specs.Step.{cs_heard}
-use Rattle.cs_slices.specs.State.{StandsAt, StandsFor}
-use Rattle.cs_slices.specs.declared.state.Course.{Course}
+use Rattle.cs_slices.specs.State.{DutyStands, StandsFor}
+use Rattle.cs_slices.specs.declared.duty.Duty.{Duty}
 use Rattle.cs_slices.specs.declared.state.Cs.{Cs}
 use Rattle.cs_slices.specs.declared.segments.Segment.{Segment}
 use Rattle.cs_slices.specs.declared.instructions.Instruction.{Instruction}
@@ -87,22 +87,22 @@ heard_activated tables history a = heard_idle cs_protocol (λ (earlier : List Cs
 -- the state after a wakeup
 pub stands_more : (tables : TablePair) (history : List CsEntry) (input : Input) (cs : Cs)
     → cs.counts ≡ counts_of (cs_heard tables history ++ heard_at (tables_after tables history) input)
-    → StandsAt (tables_after tables history) (before_slice (tables_after tables history) (happened_of tables history) input ++ reading (next_slice (tables_after tables history) (before_slice (tables_after tables history) (happened_of tables history) input) input.seen)) cs.course
+    → DutyStands (tables_after tables history) (before_slice (tables_after tables history) (happened_of tables history) input ++ reading (next_slice (tables_after tables history) (before_slice (tables_after tables history) (happened_of tables history) input) input.seen)) cs.duty
     → StandsFor tables (history ++ Woken input ∷ []) cs
 stands_more tables history input cs counted stood =
     let now = tables_after tables history in
-    let orders = orders_at now input in
+    let orders = ordered_at now input in
     record {
       counts = counted ∙ ap counts_of (sym (heard_woken tables history input));
-      course = rw (tables_woken tables history input, happened_more tables history (Woken input), ← append_assoc (happened_of tables history) (map Ordered (orders_at (tables_after tables history) input)) (reading (next_slice (tables_after tables history) (before_slice (tables_after tables history) (happened_of tables history) input) input.seen))) stood;
+      duty = rw (tables_woken tables history input, happened_more tables history (Woken input), ← append_assoc (happened_of tables history) (map Ordered (ordered_at (tables_after tables history) input)) (reading (next_slice (tables_after tables history) (before_slice (tables_after tables history) (happened_of tables history) input) input.seen))) stood;
     }
 
 -- and after an activation
 pub stands_activated : (tables : TablePair) (history : List CsEntry) (a : Activation) (old new : Cs) → StandsFor tables history old → new.counts ≡ old.counts
-    → StandsAt (with_table a.number a.table (tables_after tables history)) (happened_of tables history ++ Renewed a.number ∷ []) new.course → StandsFor tables (history ++ Activated a ∷ []) new
-stands_activated tables history a old new stood counts course = record {
+    → DutyStands (with_table a.number a.table (tables_after tables history)) (happened_of tables history ++ Renewed a.number ∷ []) new.duty → StandsFor tables (history ++ Activated a ∷ []) new
+stands_activated tables history a old new stood counts duty = record {
   counts = counts ∙ stood.counts ∙ ap counts_of (sym (heard_activated tables history a));
-  course = rw (tables_activated tables history a, happened_more tables history (Activated a)) course;
+  duty = rw (tables_activated tables history a, happened_more tables history (Activated a)) duty;
 }
 
 -- the items of a wakeup
@@ -112,9 +112,9 @@ items_all start middle end xs ys empty first second =
     ∙ ap (λ (items : List Out). items ++ ys) (ap (λ (held : Held Out). held.items) first ∙ items-adding start xs ∙ ap (λ (items : List Out). items ++ xs) empty)
 
 -- the course of the passes before the first order of a wakeup, and after one more
-pub stands_unordered : (tables : TablePair) (happened : List Happening) (course : Course) → StandsAt tables happened course → StandsAt tables (happened ++ map Ordered []) course
-stands_unordered tables happened course stood = rw (append-nil happened) stood
+pub stands_unordered : (tables : TablePair) (happened : List Happening) (duty : Duty) → DutyStands tables happened duty → DutyStands tables (happened ++ map Ordered []) duty
+stands_unordered tables happened duty stood = rw (append-nil happened) stood
 
-pub stands_ordered : (tables : TablePair) (happened : List Happening) (orders : List Instruction) (order : Instruction) (course : Course)
-    → StandsAt tables ((happened ++ map Ordered orders) ++ Ordered order ∷ []) course → StandsAt tables (happened ++ map Ordered (orders ++ order ∷ [])) course
-stands_ordered tables happened orders order course stood = rw (map_push Ordered orders order, ← append_assoc happened (map Ordered orders) (Ordered order ∷ [])) stood
+pub stands_ordered : (tables : TablePair) (happened : List Happening) (orders : List Instruction) (order : Instruction) (duty : Duty)
+    → DutyStands tables ((happened ++ map Ordered orders) ++ Ordered order ∷ []) duty → DutyStands tables (happened ++ map Ordered (orders ++ order ∷ [])) duty
+stands_ordered tables happened orders order duty stood = rw (map_push Ordered orders order, ← append_assoc happened (map Ordered orders) (Ordered order ∷ [])) stood

@@ -14,11 +14,11 @@ use Rattle.cs_slices.specs.Happenings.Happening.{Read}
 use Rattle.cs_slices.specs.Orders.{table_of, takes_part}
 use Rattle.cs_slices.specs.Slices.{current_place, offset_at, entry_bytes, slice_from, ring_from, next_slice}
 use Rattle.cs_slices.specs.Passes.{pass_bytes, differs, miscompares, baseline_at, differs_behind}
-use Rattle.cs_slices.specs.Step.{slice_items}
+use Rattle.cs_slices.specs.Answers.{slice_items}
 use Rattle.cs_slices.specs.Messages.{cs_name}
-use Rattle.cs_slices.specs.State.{StandsAt}
+use Rattle.cs_slices.specs.State.{DutyStands}
 use Rattle.cs_slices.specs.declared.segments.Segment.{Segment}
-use Rattle.cs_slices.specs.declared.state.Course.{Course}
+use Rattle.cs_slices.specs.declared.duty.Duty.{Duty}
 
 -- a slice is what was read
 pub record IsRead (s : Slice) (at begin size len : ℕ) (those : List ℕ) : Type 0 where
@@ -70,8 +70,8 @@ module _ (tables : TablePair) (happened : List Happening) (image : Memory) where
   next_some place found = rw (← found) refl
 
 -- the state after the next slice
-pub stands_unread : (tables : TablePair) (happened : List Happening) (next : Option Slice) (course : Course) → StandsAt tables happened course → next ≡ None → StandsAt tables (happened ++ reading next) course
-stands_unread tables happened next course stood none = rw (none, append-nil happened) stood
+pub stands_unread : (tables : TablePair) (happened : List Happening) (next : Option Slice) (duty : Duty) → DutyStands tables happened duty → next ≡ None → DutyStands tables (happened ++ reading next) duty
+stands_unread tables happened next duty stood none = rw (none, append-nil happened) stood
 
-pub stands_read : (tables : TablePair) (happened : List Happening) (next : Option Slice) (s : Slice) (course : Course) → StandsAt tables (happened ++ Read s ∷ []) course → next ≡ Some s → StandsAt tables (happened ++ reading next) course
-stands_read tables happened next s course stood found = rw found stood
+pub stands_read : (tables : TablePair) (happened : List Happening) (next : Option Slice) (s : Slice) (duty : Duty) → DutyStands tables (happened ++ Read s ∷ []) duty → next ≡ Some s → DutyStands tables (happened ++ reading next) duty
+stands_read tables happened next s duty stood found = rw found stood

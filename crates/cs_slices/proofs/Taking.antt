@@ -16,7 +16,7 @@ use Rattle.cs_slices.specs.Happenings.{Happening, slices_among}
 use Rattle.cs_slices.specs.Happenings.Happening.{Ordered}
 use Rattle.cs_slices.specs.Orders.{takes_part, some_take_part}
 use Rattle.cs_slices.specs.Slices.{current_place, ring_from, next_slice}
-use Rattle.cs_slices.specs.Wakeups.{Input, heard_at, orders_at}
+use Rattle.cs_slices.specs.Wakeups.{Input, heard_at, ordered_at}
 use Rattle.cs_slices.specs.Histories.{CsEntry, tables_after, before_slice, happened_of, slice_at}
 use Rattle.cs_slices.specs.Step.{cs_heard, cs_answers, turn_of, cs_items}
 use Rattle.cs_slices.specs.State.{Stands, is_idle_on}
@@ -93,7 +93,7 @@ no_slice tables happened image none =
 none_heard : (tables : TablePair) (input : Input) → input.commands ≡ [] → heard_at tables input ≡ []
 none_heard tables input none = ap (verdicts_on cs_protocol tables) none ∙ verdicts_none cs_protocol tables
 
-none_ordered : (tables : TablePair) (input : Input) → input.commands ≡ [] → orders_at tables input ≡ []
+none_ordered : (tables : TablePair) (input : Input) → input.commands ≡ [] → ordered_at tables input ≡ []
 unfolding orders_in
 none_ordered tables input none = ap (λ (heard : List (Verdict Instruction)). orders_in heard) (none_heard tables input none)
 
@@ -122,7 +122,7 @@ module _ (tables : TablePair) (history : List CsEntry) (input : Input) (commands
       let now = tables_after tables history in
       stands_more tables history input cs
       (rw (none_heard (tables_after tables history) input silent, append-nil (cs_heard tables history)) stood.counts)
-      (rw (unread, append-nil (before_slice (tables_after tables history) (happened_of tables history) input), nothing_before (tables_after tables history) (happened_of tables history) input silent) stood.course)
+      (rw (unread, append-nil (before_slice (tables_after tables history) (happened_of tables history) input), nothing_before (tables_after tables history) (happened_of tables history) input silent) stood.duty)
 
   pub items_asleep : cs_items tables history input ≡ []
   unfolding cs_items slice_at

@@ -30,7 +30,8 @@ use Rattle.cs_slices.specs.Wakeups.{Input, heard_at}
 use Rattle.cs_slices.specs.Histories.{CsEntry, tables_after, before_slice, happened_of, slice_at}
 use Rattle.cs_slices.specs.Housekeeping.{housekeeping_of, housekeeping_at}
 use Rattle.cs_slices.specs.Answers.{baseline_packet, replies_to}
-use Rattle.cs_slices.specs.Step.{Turn, turn_of, happened_in, cs_answers, slice_items, cs_items}
+use Rattle.cs_slices.specs.Answers.{slice_items}
+use Rattle.cs_slices.specs.Step.{Turn, turn_of, happened_in, cs_answers, cs_items}
 use Rattle.cs_slices.specs.Telling.{tells_miscompare}
 use Rattle.cs_slices.specs.declared.verdicts.Refusal.{Refusal}
 use Rattle.cs_slices.specs.declared.verdicts.Refusal.TheVariants as refusals

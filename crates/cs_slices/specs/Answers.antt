@@ -1,13 +1,16 @@
--- The packets with which CS answers its commands before their events.
-use Rattle.std.specs.Prelude.{ℕ, List, [], ◌∷◌, ◌++◌, Option, Some, None}
+-- The packets with which CS answers its commands before their events, and what it tells of a slice.
+use Rattle.std.specs.Prelude.{ℕ, if◌then◌else◌, List, [], ◌∷◌, ◌++◌, Option, Some, None}
 use Rattle.packet_forms.specs.MessageIds.{cs_baseline}
 use Rattle.packet_forms.specs.Numbers.{be16_bytes}
-use Rattle.packet_forms.specs.Built.{telemetry_of}
+use Rattle.packet_forms.specs.Built.{telemetry_of, event_of}
 use Rattle.bus_pipes.specs.declared.names.Out.{Out}
 use Rattle.bus_pipes.specs.declared.names.Out.TheVariants.{Made}
-use Rattle.cs_slices.specs.Instructions.{place_of}
-use Rattle.cs_slices.specs.Happenings.{Happening}
-use Rattle.cs_slices.specs.Passes.{baseline_at}
+use Rattle.cs_slices.specs.Messages.{cs_name, event_number, event_kind}
+use Rattle.cs_slices.specs.Instructions.{entry_place}
+use Rattle.cs_slices.specs.Happenings.{Slice, Happening}
+use Rattle.cs_slices.specs.Passes.{baseline_at, differs_behind}
+use Rattle.cs_slices.specs.declared.messages.Event.{Event}
+use Rattle.cs_slices.specs.declared.messages.Event.TheVariants.{Miscompare}
 use Rattle.cs_slices.specs.declared.instructions.Instruction.{Instruction}
 use Rattle.cs_slices.specs.declared.instructions.Instruction.TheVariants.{Plain, Whole, Table, Entry, Report}
 
@@ -26,4 +29,13 @@ replies_to time happened Plain = []
 replies_to time happened (Whole on) = []
 replies_to time happened (Table table on) = []
 replies_to time happened (Entry table number on) = []
-replies_to time happened (Report table number) = Made (baseline_packet time table number (baseline_at (place_of table number) happened)) ∷ []
+replies_to time happened (Report table number) = Made (baseline_packet time table number (baseline_at (entry_place table number) happened)) ∷ []
+
+-- An event at the time `now`.
+abbrev pub cs_event : Event → ℕ → Out
+cs_event event now = Made (event_of cs_name (event_number event) (event_kind event) now)
+
+-- The event of a miscompare, where the wakeup's slice shows one.
+abbrev pub slice_items : ℕ → List Happening → Option Slice → List Out
+slice_items time happened None = []
+slice_items time happened (Some s) = if differs_behind happened s then cs_event Miscompare time ∷ [] else []

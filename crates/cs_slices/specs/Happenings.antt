@@ -41,7 +41,7 @@ renews n (Ordered order) = false
 renews n (Read s) = false
 renews n (Renewed m) = m == n
 
--- All that was ordered, and all slices.
+-- All that was ordered among these happenings, and all slices that were read.
 unfoldable pub orders_among : List Happening → List Instruction
 orders_among happened = filter_map order_in happened
 

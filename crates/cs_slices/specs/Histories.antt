@@ -8,7 +8,7 @@ use Rattle.cs_slices.specs.Tables.{TablePair, pair_of}
 use Rattle.cs_slices.specs.Happenings.{Slice, Happening, reading}
 use Rattle.cs_slices.specs.Happenings.Happening.{Ordered, Renewed}
 use Rattle.cs_slices.specs.Slices.{next_slice}
-use Rattle.cs_slices.specs.Wakeups.{Input, orders_at}
+use Rattle.cs_slices.specs.Wakeups.{Input, ordered_at}
 use Rattle.cs_slices.specs.declared.segments.Segment.{Segment}
 
 -- A table that becomes active: 1 EEPROM's or 2 memory's, with all its entries.
@@ -38,14 +38,14 @@ packets_in (Activated a) = []
 
 -- What happened before the slice of a wakeup: behind what happened earlier, what is ordered in it.
 abbrev pub before_slice : TablePair → List Happening → Input → List Happening
-before_slice tables happened input = happened ++ map Ordered (orders_at tables input)
+before_slice tables happened input = happened ++ map Ordered (ordered_at tables input)
 
 -- What happens in an entry, by the tables in force and what happened before: in a wakeup what is ordered, and then the next slice is read.
 abbrev pub happens_at : TablePair → List Happening → CsEntry → List Happening
-happens_at tables happened (Woken input) = map Ordered (orders_at tables input) ++ reading (next_slice tables (before_slice tables happened input) input.seen)
+happens_at tables happened (Woken input) = map Ordered (ordered_at tables input) ++ reading (next_slice tables (before_slice tables happened input) input.seen)
 happens_at tables happened (Activated a) = Renewed a.number ∷ []
 
--- The same by the earlier entries, each with what happened in it.
+-- What happens in an entry, by the earlier entries, each with what happened in it.
 abbrev pub happens_behind : TablePair → List (CsEntry × List Happening) → CsEntry → List Happening
 happens_behind tables earlier entry = happens_at (tables_after tables (map (λ e. e.0) earlier)) (flat_map (λ e. e.1) earlier) entry
 

@@ -24,8 +24,8 @@ abbrev pub cs_language : Language Instruction
 cs_language = record { name = cs_name; command_id = cs_command; request_id = cs_request; codes = cs_codes; decode = instruction_of }
 
 -- The place, from 0, of an entry from 1 to 16 of table 1, EEPROM, or 2, memory.
-abbrev pub place_of : ℕ → ℕ → ℕ
-place_of table number = 16 * (table - 1) + (number - 1)
+abbrev pub entry_place : ℕ → ℕ → ℕ
+entry_place table number = 16 * (table - 1) + (number - 1)
 
 -- A table that there is.
 abbrev pub IsTable : ℕ → Type 0

@@ -5,7 +5,7 @@ use Rattle.histories.specs.Words.{last_or}
 use Rattle.cs_slices.specs.Tables.{TablePair, entry_in}
 use Rattle.cs_slices.specs.Happenings.{Happening, orders_among, orders_since}
 use Rattle.cs_slices.specs.Happenings.Happening.{Ordered, Read, Renewed}
-use Rattle.cs_slices.specs.Instructions.{place_of}
+use Rattle.cs_slices.specs.Instructions.{entry_place}
 use Rattle.cs_slices.specs.declared.instructions.Instruction.{Instruction}
 use Rattle.cs_slices.specs.declared.instructions.Instruction.TheVariants.{Plain, Whole, Table, Entry, Report}
 
@@ -34,7 +34,7 @@ abbrev pub entry_switch : ℕ → Instruction → Option Bool
 entry_switch place Plain = None
 entry_switch place (Whole on) = None
 entry_switch place (Table table on) = None
-entry_switch place (Entry table number on) = if place_of table number == place then Some on else None
+entry_switch place (Entry table number on) = if entry_place table number == place then Some on else None
 entry_switch place (Report table number) = None
 
 -- CS is on by the last order on it, or by the start.
@@ -64,7 +64,7 @@ abbrev pub turns_off : ℕ → Instruction → Bool
 turns_off place Plain = false
 turns_off place (Whole on) = not on
 turns_off place (Table table on) = not on && (table == table_of place)
-turns_off place (Entry table number on) = not on && (place_of table number == place)
+turns_off place (Entry table number on) = not on && (entry_place table number == place)
 turns_off place (Report table number) = false
 
 -- Whether a pass at a place doesn't go on once this happened: its place was switched off, or its table became active.

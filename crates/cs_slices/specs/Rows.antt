@@ -16,7 +16,7 @@ use Rattle.cs_slices.specs.declared.segments.Segment.{Segment}
 abbrev pub three_bytes : List Segment
 three_bytes = (record { state = 1; start = 0x1000; len = 3 }) ∷ replicate 15 blank_segment
 
--- Two tables, of which the second is that one.
+-- Two tables, of which the second is the one with those three bytes.
 abbrev pub second_table : TablePair
 second_table = pair_of (replicate 16 blank_segment) three_bytes
 

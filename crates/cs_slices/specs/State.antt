@@ -12,7 +12,7 @@ use Rattle.cs_slices.specs.Step.{cs_heard}
 use Rattle.cs_slices.specs.declared.switches.Switches.{Switches}
 use Rattle.cs_slices.specs.declared.passing.Passing.{Passing}
 use Rattle.cs_slices.specs.declared.tally.Tally.{Tally}
-use Rattle.cs_slices.specs.declared.state.Course.{Course}
+use Rattle.cs_slices.specs.declared.duty.Duty.{Duty}
 use Rattle.cs_slices.specs.declared.state.Cs.{Cs}
 
 -- What is on stands for the tables in force and what happened.
@@ -37,16 +37,16 @@ pub record TallyStands (happened : List Happening) (t : Tally) : Type 0 where
   pub memory : t.memory ≡ miscompare_count 2 happened
   pub passes : t.passes ≡ pass_count (slices_among happened)
 
--- The course of the passes stands for the tables in force and what happened.
-pub record StandsAt (tables : TablePair) (happened : List Happening) (course : Course) : Type 0 where
-  pub switches : SwitchesStand tables happened course.switches
-  pub passing : PassingStands happened course.passing
-  pub tally : TallyStands happened course.tally
+-- The duty stands for the tables in force and what happened.
+pub record DutyStands (tables : TablePair) (happened : List Happening) (duty : Duty) : Type 0 where
+  pub switches : SwitchesStand tables happened duty.switches
+  pub passing : PassingStands happened duty.passing
+  pub tally : TallyStands happened duty.tally
 
 -- The state stands for the tables with which a history began, and for the history.
 pub record StandsFor (tables : TablePair) (history : List CsEntry) (cs : Cs) : Type 0 where
   pub counts : cs.counts ≡ counts_of (cs_heard tables history)
-  pub course : StandsAt (tables_after tables history) (happened_of tables history) cs.course
+  pub duty : DutyStands (tables_after tables history) (happened_of tables history) cs.duty
 
 unfoldable pub Stands : TablePair → List CsEntry → Cs → Type 0
 Stands tables history cs = StandsFor tables history cs

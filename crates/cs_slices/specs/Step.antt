@@ -1,21 +1,18 @@
 -- What CS sends in a wakeup.
-use Rattle.std.specs.Prelude.{ℕ, if◌then◌else◌, List, [], ◌∷◌, ◌++◌, map, Option, Some, None}
-use Rattle.packet_forms.specs.Built.{event_of}
+use Rattle.std.specs.Prelude.{List, ◌++◌, map}
 use Rattle.bus_pipes.specs.declared.names.Out.{Out}
-use Rattle.bus_pipes.specs.declared.names.Out.TheVariants.{Made}
 use Rattle.commands.specs.Inputs.{Wakeup, heard_along}
 use Rattle.commands.specs.Answering.{Answers, command_items}
 use Rattle.commands.specs.declared.verdicts.Verdict.{Verdict}
-use Rattle.cs_slices.specs.Messages.{cs_name, miscompare_event}
+use Rattle.cs_slices.specs.Messages.{cs_name}
 use Rattle.cs_slices.specs.Tables.{TablePair}
 use Rattle.cs_slices.specs.Verdicts.{cs_protocol}
-use Rattle.cs_slices.specs.Happenings.{Slice, Happening}
+use Rattle.cs_slices.specs.Happenings.{Happening}
 use Rattle.cs_slices.specs.Happenings.Happening.{Ordered}
-use Rattle.cs_slices.specs.Passes.{differs_behind}
 use Rattle.cs_slices.specs.Wakeups.{Input, heard_at}
 use Rattle.cs_slices.specs.Histories.{CsEntry, tables_after, packets_in, before_slice, happened_of, slice_at}
 use Rattle.cs_slices.specs.Housekeeping.{housekeeping_at}
-use Rattle.cs_slices.specs.Answers.{replies_to}
+use Rattle.cs_slices.specs.Answers.{replies_to, slice_items}
 use Rattle.cs_slices.specs.declared.instructions.Instruction.{Instruction}
 
 -- The verdicts on all packets of a history that began with these tables, each by those in force.
@@ -41,11 +38,6 @@ cs_answers = record {
   housekeeping = λ turn counts orders. housekeeping_at turn.input.time counts (happened_in turn orders);
   replies = λ turn orders instruction. replies_to turn.input.time (happened_in turn orders) instruction;
 }
-
--- The event of a miscompare, where the wakeup's slice shows one.
-abbrev pub slice_items : ℕ → List Happening → Option Slice → List Out
-slice_items time happened None = []
-slice_items time happened (Some s) = if differs_behind happened s then Made (event_of cs_name miscompare_event 3 time) ∷ [] else []
 
 -- What CS sends in a wakeup, by the tables with which its history began, the history and its input: the items of its commands, and then those
 -- of its slice.

@@ -2,7 +2,7 @@
 use Rattle.std.specs.Prelude.{ℕ, ◌==◌, not, ◌||◌, nat_lt, Bool, if◌then◌else◌, Option, Some, None}
 use Rattle.commands.specs.Verdicts.{Protocol, protocol_of}
 use Rattle.cs_slices.specs.Tables.{TablePair, entry_in}
-use Rattle.cs_slices.specs.Instructions.{cs_language, place_of}
+use Rattle.cs_slices.specs.Instructions.{cs_language, entry_place}
 use Rattle.cs_slices.specs.declared.verdicts.Refusal.{Refusal}
 use Rattle.cs_slices.specs.declared.verdicts.Refusal.TheVariants as refusals
 use Rattle.cs_slices.specs.declared.instructions.Instruction.{Instruction}
@@ -27,7 +27,7 @@ abbrev pub entry_refusal : TablePair → ℕ → ℕ → Option Refusal
 entry_refusal tables table number =
     if not (is_table table) then Some refusals.Table
     else if (number == 0) || nat_lt 16 number then Some refusals.Entry
-    else if (entry_in tables (place_of table number)).state == 0 then Some refusals.Empty
+    else if (entry_in tables (entry_place table number)).state == 0 then Some refusals.Empty
     else None
 
 -- A command's own refusal.

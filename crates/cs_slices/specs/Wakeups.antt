@@ -22,5 +22,5 @@ input_of now commands window = record { time = now; commands = commands; seen = 
 abbrev pub heard_at : TablePair → Input → List (Verdict Instruction)
 heard_at tables input = verdicts_on cs_protocol tables input.commands
 
-abbrev pub orders_at : TablePair → Input → List Instruction
-orders_at tables input = orders_in (heard_at tables input)
+abbrev pub ordered_at : TablePair → Input → List Instruction
+ordered_at tables input = orders_in (heard_at tables input)

@@ -1,6 +1,6 @@
 //! What a command asks for.
 ghost use Rattle.std.specs.Prelude.{◌≡◌, ◌<◌};
-ghost use Rattle.cs_slices.specs.Instructions.{place_of, IsEntry};
+ghost use Rattle.cs_slices.specs.Instructions.{entry_place, IsEntry};
 
 use crate::messages::{CODES, name};
 use commands::{Command, Terms};
@@ -73,9 +73,9 @@ impl Command for Instruction {
 }
 
 /// The place, from 0 to 31, of an entry.
-pub(crate) fn place_of(table: u16, number: u16) -> u8
+pub(crate) fn entry_place(table: u16, number: u16) -> u8
     requires { IsEntry table number }
-    ensures place { result ≡ place_of table number }
+    ensures place { result ≡ entry_place table number }
     ensures within { result < 32 }
 {
     (16 * (table - 1) + (number - 1)) as u8

@@ -2,6 +2,7 @@
 #![tactic(auto)]
 
 mod answers;
+mod duty;
 mod giving;
 mod housekeeping;
 mod instructions;

@@ -1,13 +1,39 @@
-//! CS's name, and the codes of its commands.
+//! CS's name, the codes of its commands, and its event that no command gives.
 ghost use Rattle.std.specs.Prelude.{◌≡◌};
 ghost use Rattle.packet_forms.specs.Names.{is_name_text};
-ghost use Rattle.cs_slices.specs.Messages.{cs_name};
+ghost use Rattle.cs_slices.specs.Messages.{cs_name, event_number, event_kind};
 
 use commands::{CodeRow, named};
 use packet_forms::Name;
 
-/// The event of a miscompare.
-pub(crate) const MISCOMPARE: u16 = 101;
+/// The type of an event that tells an error.
+const ERROR: u16 = 3;
+
+/// What CS tells of a slice.
+#[derive(Clone, Copy, Debug, PartialEq, Eq)]
+pub(crate) enum Event {
+    /// A whole pass has another check than the baseline.
+    Miscompare,
+}
+
+impl Event {
+    pub(crate) fn number(self) -> u16
+        ensures { result ≡ event_number self }
+    {
+        match self {
+            Event::Miscompare => 101,
+        }
+    }
+
+    /// Its type.
+    pub(crate) fn kind(self) -> u16
+        ensures { result ≡ event_kind self }
+    {
+        match self {
+            Event::Miscompare => ERROR,
+        }
+    }
+}
 
 /// No-op, reset counters, CS on and off, table on and off, entry on and off, report the baseline.
 pub(crate) const CODES: [CodeRow; 9] = [

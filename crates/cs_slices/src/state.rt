@@ -1,58 +1,24 @@
 //! CS's state.
 ghost use Rattle.std.specs.Prelude.{◌≡◌, ◌++◌, true, List, [], ◌∷◌};
 ghost use Rattle.histories.specs.Entries.Entry.{Woken, Activated};
-ghost use Rattle.cs_slices.specs.Tables.{TablePair, pair_of, table_named, with_table};
+ghost use Rattle.cs_slices.specs.Tables.{TablePair, pair_of, table_named};
 ghost use Rattle.cs_slices.specs.Instructions.{IsTable};
-ghost use Rattle.cs_slices.specs.Happenings.{Happening};
-ghost use Rattle.cs_slices.specs.Happenings.Happening.{Renewed};
 ghost use Rattle.cs_slices.specs.Wakeups.{Input};
 ghost use Rattle.cs_slices.specs.Histories.{CsEntry, activation_of};
 ghost use Rattle.cs_slices.specs.Step.{cs_items};
-ghost use Rattle.cs_slices.specs.State.{StandsAt, Stands, is_idle_on};
+ghost use Rattle.cs_slices.specs.State.{Stands, is_idle_on};
 
-use crate::passing::Passing;
+use crate::duty::Duty;
 use crate::segments::Segments;
-use crate::switches::Switches;
-use crate::tally::Tally;
 use bus_pipes::Counts;
 use commands::start_counts;
 use packet_forms::Packet;
 
-/// What is on, the pass that has begun, and what is kept of whole passes.
-#[derive(Clone, Copy, Debug, PartialEq, Eq)]
-pub(crate) struct Course {
-    pub(crate) switches: Switches,
-    pub(crate) passing: Passing,
-    pub(crate) tally: Tally,
-}
-
-/// The state of CS.
+/// The state of CS: both counts, and its duty.
 #[derive(Clone, Copy, Debug, PartialEq, Eq)]
 pub struct Cs {
     pub(crate) counts: Counts,
-    pub(crate) course: Course,
-}
-
-impl Course {
-    /// Before the first wakeup.
-    fn start(eeprom: &Segments, memory: &Segments) -> Course
-        ensures { StandsAt (pair_of eeprom.now memory.now) [] result }
-    {
-        Course {
-            switches: Switches::start(eeprom, memory),
-            passing: Passing::start(),
-            tally: Tally::start(),
-        }
-    }
-
-    /// Takes another table of this number.
-    fn renew(&mut self, table: u16, segments: &Segments)
-        ensures { (tables : TablePair) (happened : List Happening) → StandsAt tables happened self.old → StandsAt (with_table table segments.now tables) (happened ++ Renewed table ∷ []) self.new }
-    {
-        self.switches.renew(table, segments);
-        self.passing.renew(table);
-        self.tally.renew(table);
-    }
+    pub(crate) duty: Duty,
 }
 
 impl Cs {
@@ -62,7 +28,7 @@ impl Cs {
     {
         Cs {
             counts: start_counts(),
-            course: Course::start(eeprom, memory),
+            duty: Duty::start(eeprom, memory),
         }
     }
 
@@ -73,7 +39,7 @@ impl Cs {
         ensures stands { (tables : TablePair) (history : List CsEntry) → Stands tables history self.old
             → Stands tables (history ++ Activated (activation_of table (table_named table (pair_of eeprom.now memory.now))) ∷ []) self.new }
     {
-        self.course.renew(table, table_named(eeprom, memory, table));
+        self.duty.renew(table, table_named(eeprom, memory, table));
     }
 
     /// Whether a wakeup with these packets does nothing.
@@ -83,7 +49,7 @@ impl Cs {
         ensures stands { (tables : TablePair) (history : List CsEntry) (input : Input) → result ≡ true → input.commands ≡ commands.now → Stands tables history self.now → Stands tables (history ++ Woken input ∷ []) self.now }
         ensures items { (tables : TablePair) (history : List CsEntry) (input : Input) → result ≡ true → input.commands ≡ commands.now → Stands tables history self.now → cs_items tables history input ≡ [] }
     {
-        commands.is_empty() && !self.course.switches.any_takes_part()
+        commands.is_empty() && !self.duty.switches.any_takes_part()
     }
 }
 

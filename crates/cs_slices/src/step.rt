@@ -14,21 +14,21 @@ ghost use Rattle.cs_slices.specs.Happenings.Happening.{Read};
 ghost use Rattle.cs_slices.specs.Slices.{offset_at, slice_from, next_slice};
 ghost use Rattle.cs_slices.specs.Wakeups.{input_of};
 ghost use Rattle.cs_slices.specs.Histories.{CsEntry, tables_after};
-ghost use Rattle.cs_slices.specs.Answers.{replies_to};
-ghost use Rattle.cs_slices.specs.Step.{slice_items, cs_items};
-ghost use Rattle.cs_slices.specs.State.{TallyStands, StandsAt, Stands};
+ghost use Rattle.cs_slices.specs.Answers.{slice_items};
+ghost use Rattle.cs_slices.specs.Step.{cs_items};
+ghost use Rattle.cs_slices.specs.State.{DutyStands, Stands};
 
-use crate::answers::baseline_packet;
+use crate::answers::{put_event, reply};
+use crate::duty::Duty;
 use crate::housekeeping::housekeeping;
-use crate::instructions::{Instruction, place_of};
-use crate::messages::{MISCOMPARE, name};
+use crate::instructions::Instruction;
+use crate::messages::Event;
 use crate::passing::Passing;
 use crate::reading::{entry_bytes, part, slice_size};
 use crate::segments::{Segments, entry_in};
-use crate::state::{Course, Cs};
-use crate::tally::Tally;
+use crate::state::Cs;
 use crate::verdicts::{Refusal, own_refusal};
-use bus_pipes::{Counts, Out, Outbox, push_event};
+use bus_pipes::{Counts, Outbox};
 use commands::{Commanded, handle_all};
 use memory_window::Window;
 use packet_forms::Packet;
@@ -36,21 +36,21 @@ use packet_forms::Packet;
 /// How many items a wakeup gives at most.
 pub const MOST_ITEMS: u32 = 33;
 
-// The tables that CS reads.
+/// What is read beside the packets: the tables in force.
 #[derive(Clone, Copy)]
-struct Tables<'a> {
+struct Reads<'a> {
     eeprom: &'a Segments,
     memory: &'a Segments,
 }
 
-impl<'a> Commanded<Tables<'a>> for Course {
+impl<'a> Commanded<Reads<'a>> for Duty {
     ghost use Rattle.std.specs.Prelude.{◌≡◌};
     ghost use Rattle.cs_slices.specs.Tables.{TablePair, pair_of};
     ghost use Rattle.cs_slices.specs.Instructions.{IsNamed};
     ghost use Rattle.cs_slices.specs.Verdicts.{own_refusal};
     ghost use Rattle.cs_slices.specs.Histories.{tables_after};
     ghost use Rattle.cs_slices.specs.Step.{Turn, happened_in, cs_answers};
-    ghost use Rattle.cs_slices.specs.State.{StandsAt};
+    ghost use Rattle.cs_slices.specs.State.{DutyStands};
 
     type Instruction = Instruction;
 
@@ -68,30 +68,30 @@ impl<'a> Commanded<Tables<'a>> for Course {
 
     ghost basis = { λ turn. tables_after turn.setup turn.history };
 
-    ghost belongs = { λ turn tables now. (pair_of tables.eeprom.now tables.memory.now ≡ tables_after turn.setup turn.history) × (turn.input.time ≡ now) };
+    ghost belongs = { λ turn reads now. (pair_of reads.eeprom.now reads.memory.now ≡ tables_after turn.setup turn.history) × (turn.input.time ≡ now) };
 
-    ghost stands = { λ turn orders course left. StandsAt (tables_after turn.setup turn.history) (happened_in turn orders) course };
+    ghost stands = { λ turn orders duty left. DutyStands (tables_after turn.setup turn.history) (happened_in turn orders) duty };
 
-    ghost can_obey = { λ tables course instruction. IsNamed instruction };
+    ghost can_obey = { λ reads duty instruction. IsNamed instruction };
 
     ghost most = { 1 };
 
-    ghost still_safe = { λ tables n course left safe. safe };
+    ghost still_safe = { λ reads n duty left safe. safe };
 
-    ghost timed = { λ turn tables now belongs. belongs.1 };
+    ghost timed = { λ turn reads now belongs. belongs.1 };
 
-    fn refusal(&self, instruction: &Instruction, reads: Tables<'a>, now: u32) -> Option<Refusal> {
+    fn refusal(&self, instruction: &Instruction, reads: Reads<'a>, now: u32) -> Option<Refusal> {
         own_refusal(reads.eeprom, reads.memory, instruction)
     }
 
-    fn housekeeping(&self, counts: Counts, reads: Tables<'a>, now: u32) -> Packet {
+    fn housekeeping(&self, counts: Counts, reads: Reads<'a>, now: u32) -> Packet {
         housekeeping(counts, &self.switches, &self.tally, now)
     }
 
     fn obey(
         &mut self,
         instruction: &Instruction,
-        reads: Tables<'a>,
+        reads: Reads<'a>,
         now: u32,
         left: &mut (),
         out: &mut Outbox,
@@ -103,9 +103,7 @@ impl<'a> Commanded<Tables<'a>> for Course {
 }
 
 impl Cs {
-    /// Handles the packets of the pipe, at most 16, and then reads one slice, at most 1,024 bytes, of the next entry that takes part.
-    /// What is sent goes to `out`, which is empty, and the state after the wakeup to `next`. The tables are those in force, and the window
-    /// gives the bytes of every entry that isn't empty.
+    /// `advance` on a copy: this state stays, and the state after the wakeup goes to `next`.
     pub fn step(
         &self,
         eeprom: &Segments,
@@ -132,7 +130,9 @@ impl Cs {
         next.advance(eeprom, memory, commands, window, now, out);
     }
 
-    /// The same in place.
+    /// Handles the packets of the pipe, at most 16, at the time `now`, in seconds, and then reads one slice, at most 1,024 bytes, of the next
+    /// entry that takes part. What is sent goes to `out`, which is empty and has room for 33 items. The tables are those in force, and the
+    /// window gives the bytes of every entry that isn't empty.
     pub fn advance(
         &mut self,
         eeprom: &Segments,
@@ -154,41 +154,24 @@ impl Cs {
         ensures few { length out.new.items ≤ MOST_ITEMS }
         ensures room { out.new.room ≡ out.old.room }
     {
-        let tables = Tables { eeprom, memory };
+        let reads = Reads { eeprom, memory };
         handle_all(
             &mut self.counts,
-            &mut self.course,
+            &mut self.duty,
             commands,
-            tables,
+            reads,
             now,
             &mut (),
             out,
         );
-        read_next(&mut self.course, eeprom, memory, window, now, out);
+        read_next(&mut self.duty, eeprom, memory, window, now, out);
     }
-}
-
-/// Puts the packet of a report behind the items.
-#[tactic(auto, using(bus_pipes::proofs::Deliveries::adding_none, commands::proofs::Heard::one_more_counted), unfolding(bus_pipes::specs::Held::adding))]
-fn reply(tally: &Tally, order: &Instruction, now: u32, out: &mut Outbox)
-    requires named { IsNamed order.now }
-    requires room { length out.old.items < out.old.room }
-    ensures items { (happened : List Happening) → TallyStands happened tally.now → out.new ≡ adding out.old (replies_to now happened order.now) }
-    ensures counted { AllPass is_item_counted out.old.items → AllPass is_item_counted out.new.items }
-    ensures few { length out.new.items ≤ length out.old.items + 1 }
-    ensures room { out.new.room ≡ out.old.room }
-{
-    let Instruction::Report { table, number } = order else {
-        return;
-    };
-    let base = tally.baseline(place_of(*table, *number));
-    out.push(Out::Made(baseline_packet(*table, *number, base, now)));
 }
 
 /// Reads the next slice, where a place takes part.
 #[tactic(auto, using(bus_pipes::proofs::Deliveries::adding_none))]
 fn read_next(
-    course: &mut Course,
+    duty: &mut Duty,
     eeprom: &Segments,
     memory: &Segments,
     window: Window<'_>,
@@ -196,24 +179,24 @@ fn read_next(
     out: &mut Outbox,
 )
     requires room { length out.old.items < out.old.room }
-    ensures stands { (happened : List Happening) → StandsAt (pair_of eeprom.now memory.now) happened course.old
-        → StandsAt (pair_of eeprom.now memory.now) (happened ++ reading (next_slice (pair_of eeprom.now memory.now) happened (seen window.entry))) course.new }
-    ensures items { (happened : List Happening) → StandsAt (pair_of eeprom.now memory.now) happened course.old
+    ensures stands { (happened : List Happening) → DutyStands (pair_of eeprom.now memory.now) happened duty.old
+        → DutyStands (pair_of eeprom.now memory.now) (happened ++ reading (next_slice (pair_of eeprom.now memory.now) happened (seen window.entry))) duty.new }
+    ensures items { (happened : List Happening) → DutyStands (pair_of eeprom.now memory.now) happened duty.old
         → out.new ≡ adding out.old (slice_items now happened (next_slice (pair_of eeprom.now memory.now) happened (seen window.entry))) }
     ensures counted { AllPass is_item_counted out.old.items → AllPass is_item_counted out.new.items }
     ensures few { length out.new.items ≤ length out.old.items + 1 }
     ensures room { out.new.room ≡ out.old.room }
 {
-    match course.passing.next_place(&course.switches) {
+    match duty.passing.next_place(&duty.switches) {
         None => {}
-        Some(place) => read_slice(course, eeprom, memory, place, window, now, out),
+        Some(place) => read_slice(duty, eeprom, memory, place, window, now, out),
     }
 }
 
 /// Reads the next slice of a place.
-#[tactic(auto, using(bus_pipes::proofs::Deliveries::adding_none, commands::proofs::Heard::event_behind))]
+#[tactic(auto, using(bus_pipes::proofs::Deliveries::adding_none))]
 fn read_slice(
-    course: &mut Course,
+    duty: &mut Duty,
     eeprom: &Segments,
     memory: &Segments,
     place: u8,
@@ -223,26 +206,26 @@ fn read_slice(
 )
     requires within { place < 32 }
     requires room { length out.old.items < out.old.room }
-    ensures stands { (happened : List Happening) → StandsAt (pair_of eeprom.now memory.now) happened course.old
-        → StandsAt (pair_of eeprom.now memory.now) (happened ++ Read (slice_from (seen window.entry) (entry_in (pair_of eeprom.now memory.now) place) place (offset_at place (slices_among happened) (since_slice happened))) ∷ []) course.new }
-    ensures items { (happened : List Happening) → StandsAt (pair_of eeprom.now memory.now) happened course.old
+    ensures stands { (happened : List Happening) → DutyStands (pair_of eeprom.now memory.now) happened duty.old
+        → DutyStands (pair_of eeprom.now memory.now) (happened ++ Read (slice_from (seen window.entry) (entry_in (pair_of eeprom.now memory.now) place) place (offset_at place (slices_among happened) (since_slice happened))) ∷ []) duty.new }
+    ensures items { (happened : List Happening) → DutyStands (pair_of eeprom.now memory.now) happened duty.old
         → out.new ≡ adding out.old (slice_items now happened (Some (slice_from (seen window.entry) (entry_in (pair_of eeprom.now memory.now) place) place (offset_at place (slices_among happened) (since_slice happened))))) }
     ensures counted { AllPass is_item_counted out.old.items → AllPass is_item_counted out.new.items }
     ensures few { length out.new.items ≤ length out.old.items + 1 }
     ensures room { out.new.room ≡ out.old.room }
 {
     let segment = entry_in(eeprom, memory, place);
-    let from = course.passing.offset_at(place);
+    let from = duty.passing.offset_at(place);
     let size = slice_size(segment, from);
     let bytes = part(entry_bytes(window, segment), from, size);
-    let check = course.passing.check_after(place, from, bytes);
+    let check = duty.passing.check_after(place, from, bytes);
     if from + size != segment.len {
-        course.passing = Passing::begun(place, from + size, check);
+        duty.passing = Passing::begun(place, from + size, check);
         return;
     }
-    course.passing = Passing::behind(place);
-    if !course.tally.judge(place, check) {
+    duty.passing = Passing::behind(place);
+    if !duty.tally.judge(place, check) {
         return;
     }
-    push_event(out, name(), MISCOMPARE, 3, now);
+    put_event(Event::Miscompare, now, out);
 }

@@ -8,7 +8,7 @@ ghost use Rattle.cs_slices.specs.Orders.{table_of, is_table_on, takes_part, some
 ghost use Rattle.cs_slices.specs.Housekeeping.{flags_of};
 ghost use Rattle.cs_slices.specs.State.{SwitchesStand};
 
-use crate::instructions::{Instruction, place_of};
+use crate::instructions::{Instruction, entry_place};
 use crate::segments::{Segments, entry_in};
 use histories::bits_of;
 
@@ -57,7 +57,7 @@ impl Switches {
                 }
             }
             Instruction::Entry { table, number, on } => {
-                self.entries[place_of(*table, *number) as usize] = *on;
+                self.entries[entry_place(*table, *number) as usize] = *on;
             }
             Instruction::Report { .. } => {}
         }
@@ -137,7 +137,7 @@ pub(crate) fn turns_off(place: u8, order: &Instruction) -> bool
         Instruction::Plain => false,
         Instruction::Whole { on } => !*on,
         Instruction::Table { table, on } => !*on && *table == u16::from(place / 16 + 1),
-        Instruction::Entry { table, number, on } => !*on && place_of(*table, *number) == place,
+        Instruction::Entry { table, number, on } => !*on && entry_place(*table, *number) == place,
         Instruction::Report { .. } => false,
     }
 }

@@ -3,7 +3,7 @@ ghost use Rattle.std.specs.Prelude.{◌≡◌};
 ghost use Rattle.cs_slices.specs.Tables.{pair_of};
 ghost use Rattle.cs_slices.specs.Verdicts.{table_refusal, entry_refusal, own_refusal};
 
-use crate::instructions::{Instruction, place_of};
+use crate::instructions::{Instruction, entry_place};
 use crate::segments::{Segments, entry_in};
 use commands::Reason;
 
@@ -70,7 +70,7 @@ fn entry_refusal(eeprom: &Segments, memory: &Segments, table: u16, number: u16) 
     if number == 0 || number > 16 {
         return Some(Refusal::Entry);
     }
-    if entry_in(eeprom, memory, place_of(table, number)).state == 0 {
+    if entry_in(eeprom, memory, entry_place(table, number)).state == 0 {
         return Some(Refusal::Empty);
     }
     None

@@ -18,7 +18,7 @@ ghost use Rattle.md_dwell.specs.Messages.{md_codes};
 ghost use Rattle.md_dwell.specs.Verdicts.{md_protocol};
 ghost use Rattle.cs_slices.specs.Messages.{cs_codes, miscompare_event};
 ghost use Rattle.cs_slices.specs.Happenings.{Happening, Slice};
-ghost use Rattle.cs_slices.specs.Step.{slice_items};
+ghost use Rattle.cs_slices.specs.Answers.{slice_items};
 ghost use Rattle.cs_slices.specs.Verdicts.{cs_protocol};
 ghost use Rattle.sc_sequences.specs.Messages.{ats_ended, rts_ended, sc_codes, wrong_in_ats, wrong_in_rts};
 ghost use Rattle.sc_tables.specs.Commands.{TimedCommand};

@@ -5,7 +5,7 @@ use Rattle.bus_pipes.specs.Held.{adding}
 use Rattle.bus_pipes.proofs.Deliveries.{adding_none}
 use Rattle.cs_slices.specs.Tables.{pair_of}
 use Rattle.cs_slices.specs.Happenings.{Slice}
-use Rattle.cs_slices.specs.Step.{slice_items}
+use Rattle.cs_slices.specs.Answers.{slice_items}
 use Rattle.cs_slices.proofs.Slicing.{next_none, next_some, stands_unread, stands_read}
 use Rattle.cs_slices.proofs.step.read_next.Goals as goal
 

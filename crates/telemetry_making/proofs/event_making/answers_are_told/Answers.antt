@@ -22,7 +22,7 @@ use Rattle.md_dwell.specs.Tables.{is_length}
 use Rattle.md_dwell.specs.Messages.{md_codes}
 use Rattle.md_dwell.specs.Verdicts.{mask_refusal, jam_refusal, is_readable, md_protocol, number_of as md_number}
 use Rattle.md_dwell.specs.declared.tables.DwellEntry.{DwellEntry}
-use Rattle.cs_slices.specs.Instructions.{instruction_of as cs_instruction, place_of}
+use Rattle.cs_slices.specs.Instructions.{instruction_of as cs_instruction, entry_place}
 use Rattle.cs_slices.specs.Messages.{cs_codes}
 use Rattle.cs_slices.specs.Tables.{TablePair, entry_in}
 use Rattle.cs_slices.specs.Verdicts.{table_refusal, entry_refusal, cs_protocol, number_of as cs_number}
@@ -99,7 +99,7 @@ unfolding event_row event_table hs_events mm_events md_events cs_events sc_event
 cs_entry code tables table number h missing entry empty =
     either ((table == 1) || (table == 2))
     (λ a. either ((number == 0) || nat_lt 16 number) (λ b. rw (a, b) entry)
-    (λ b. either ((entry_in tables (place_of table number)).state == 0) (λ d. rw (a, b, d) empty) (λ d. rw (a, b, d) h)))
+    (λ b. either ((entry_in tables (entry_place table number)).state == 0) (λ d. rw (a, b, d) empty) (λ d. rw (a, b, d) h)))
     (λ a. rw a missing)
 
 -- ---- Stored Command

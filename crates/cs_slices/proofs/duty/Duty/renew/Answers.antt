@@ -1,4 +1,4 @@
-use Rattle.cs_slices.proofs.state.Course.renew.Goals as goal
+use Rattle.cs_slices.proofs.duty.Duty.renew.Goals as goal
 
 pub returns : goal.returns
 returns c = λ tables happened stood. record {

@@ -7,17 +7,17 @@ use Rattle.cs_slices.proofs.state.Cs.is_idle.Goals as goal
 pub returns-then-is_empty-clause-exact : goal.returns-then-is_empty-clause-exact
 unfolding Stands
 returns-then-is_empty-clause-exact c = λ tables history stood.
-    idle_is tables history c.args.commands.now true _ (sym c.if-is_empty.true ∙ c.is_empty.ensures) (c.any_takes_part.ensures (tables_after tables history) _ stood.course.switches)
+    idle_is tables history c.args.commands.now true _ (sym c.if-is_empty.true ∙ c.is_empty.ensures) (c.any_takes_part.ensures (tables_after tables history) _ stood.duty.switches)
 
 pub returns-then-is_empty-clause-stands : goal.returns-then-is_empty-clause-stands
 unfolding Stands
 returns-then-is_empty-clause-stands c = λ tables history input idle is stood.
-    stands_asleep tables history input c.args.commands.now true c.any_takes_part.result idle (sym c.if-is_empty.true ∙ c.is_empty.ensures) (c.any_takes_part.ensures (tables_after tables history) _ stood.course.switches) is c.args.self.now stood
+    stands_asleep tables history input c.args.commands.now true c.any_takes_part.result idle (sym c.if-is_empty.true ∙ c.is_empty.ensures) (c.any_takes_part.ensures (tables_after tables history) _ stood.duty.switches) is c.args.self.now stood
 
 pub returns-then-is_empty-clause-items : goal.returns-then-is_empty-clause-items
 unfolding Stands
 returns-then-is_empty-clause-items c = λ tables history input idle is stood.
-    items_asleep tables history input c.args.commands.now true c.any_takes_part.result idle (sym c.if-is_empty.true ∙ c.is_empty.ensures) (c.any_takes_part.ensures (tables_after tables history) _ stood.course.switches) is
+    items_asleep tables history input c.args.commands.now true c.any_takes_part.result idle (sym c.if-is_empty.true ∙ c.is_empty.ensures) (c.any_takes_part.ensures (tables_after tables history) _ stood.duty.switches) is
 
 pub returns-else-is_empty-clause-exact : goal.returns-else-is_empty-clause-exact
 returns-else-is_empty-clause-exact c = λ tables history stood.

@@ -12,5 +12,5 @@ returns c =
     let tables = pair_of c.args.eeprom.now c.args.memory.now in
     record {
       counts = c.start_counts.ensures ∙ sym (counts_none _) ∙ ap counts_of (sym (heard_before_all tables));
-      course = rw (tables_begun tables, happened_none tables) c.start.ensures;
+      duty = rw (tables_begun tables, happened_none tables) c.start.ensures;
     }

@@ -1,7 +1,7 @@
 use Rattle.cs_slices.specs.Histories.{tables_after, happened_of}
 use Rattle.cs_slices.proofs.Histories.{stands_ordered}
 use Rattle.cs_slices.proofs.Tallying.{tally_ordered}
-use Rattle.cs_slices.proofs.step.CourseCommandedTables.obey.Goals as goal
+use Rattle.cs_slices.proofs.step.DutyCommandedReads.obey.Goals as goal
 
 pub returns-clause-stands : goal.returns-clause-stands
 returns-clause-stands c = λ turn orders belongs stood.

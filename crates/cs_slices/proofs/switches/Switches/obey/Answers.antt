@@ -28,7 +28,7 @@ returns-else-table-eq1 c = λ tables happened stood.
 pub returns-in-Entry : goal.returns-in-Entry
 returns-in-Entry c = λ tables happened stood.
     let whole : length c.args.self.now.entries ≡ 32 = stood.whole in
-    let within : c.place_of.result < length c.args.self.now.entries = omega (arith, c.place_of.ensures.within) in
-    rw c.in-Entry.is (switches_after tables happened _ c.args.self.now _ stood refl refl refl (length-set c.args.self.now.entries c.place_of.result c.in-Entry.on)
-    (λ k below. set_switch c.args.self.now.entries c.place_of.result k c.in-Entry.on within
-    ∙ ap (λ (i : ℕ). switched (cond (i == k) (Some c.in-Entry.on) None) (get_or c.args.self.now.entries k false)) c.place_of.ensures.place))
+    let within : c.entry_place.result < length c.args.self.now.entries = omega (arith, c.entry_place.ensures.within) in
+    rw c.in-Entry.is (switches_after tables happened _ c.args.self.now _ stood refl refl refl (length-set c.args.self.now.entries c.entry_place.result c.in-Entry.on)
+    (λ k below. set_switch c.args.self.now.entries c.entry_place.result k c.in-Entry.on within
+    ∙ ap (λ (i : ℕ). switched (cond (i == k) (Some c.in-Entry.on) None) (get_or c.args.self.now.entries k false)) c.entry_place.ensures.place))
