@@ -6,3 +6,4 @@ pub mod Stepping
 pub mod Behind
 pub mod Obeying
 pub mod Naming
+pub mod Arriving

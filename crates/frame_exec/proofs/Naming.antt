@@ -26,8 +26,7 @@ use Rattle.md_dwell.specs.Given.{TablesGiven}
 use Rattle.hs_monitors.specs.State.{Stands as HsStands}
 use Rattle.lc_watch.specs.Histories.{Setup as LcSetup}
 use Rattle.lc_watch.specs.declared.state.Lc.{Lc}
-use Rattle.frame_exec.specs.declared.bench.TheConstants.{DROPS}
-use Rattle.app_suite.specs.declared.slot.TheConstants.{LIST_ROOM}
+use Rattle.frame_exec.specs.declared.bench.TheConstants.{DROPS, EVENTS_ROOM}
 use Rattle.frame_exec.specs.declared.bench.Bench.{Bench}
 use Rattle.app_suite.specs.declared.activations.Naming.{Naming}
 use Rattle.app_suite.specs.declared.activations.Naming.TheVariants.{Accepted, Refused, Running}
@@ -176,7 +175,7 @@ named_active old new n kind is known can rests tables takes keeps goes told = re
 }
 
 -- what was told of activations is no part of what a run has come to
-pub has_told : (b : Bench) (events : Held Out) (drops : b.drops.room ≡ DROPS) (jobs : b.crew.jobs ≡ jobs_of b.bus.watched) (there : b.lc.there ≡ b.bus.watched) (room : events.room ≡ LIST_ROOM) (s : State) → Has b s → Has (record b { activations = events; drops_room = drops; manned = jobs; there = there; activations_room = room }) s
+pub has_told : (b : Bench) (events : Held Out) (drops : b.drops.room ≡ DROPS) (jobs : b.crew.jobs ≡ jobs_of b.bus.watched) (there : b.lc.there ≡ b.bus.watched) (room : events.room ≡ EVENTS_ROOM) (s : State) → Has b s → Has (record b { activations = events; drops_room = drops; manned = jobs; there = there; activations_room = room }) s
 has_told b events drops jobs there room s has = record {
   number = has.number;
   tables = has.tables;
@@ -186,7 +185,7 @@ has_told b events drops jobs there room s has = record {
   memory = has.memory;
 }
 
-pub ready_told : (b : Bench) (events : Held Out) (drops : b.drops.room ≡ DROPS) (jobs : b.crew.jobs ≡ jobs_of b.bus.watched) (there : b.lc.there ≡ b.bus.watched) (room : events.room ≡ LIST_ROOM) → IsReady b → IsReady (record b { activations = events; drops_room = drops; manned = jobs; there = there; activations_room = room })
+pub ready_told : (b : Bench) (events : Held Out) (drops : b.drops.room ≡ DROPS) (jobs : b.crew.jobs ≡ jobs_of b.bus.watched) (there : b.lc.there ≡ b.bus.watched) (room : events.room ≡ EVENTS_ROOM) → IsReady b → IsReady (record b { activations = events; drops_room = drops; manned = jobs; there = there; activations_room = room })
 ready_told b events drops jobs there room ready = record { sc = ready.sc; md = ready.md; given = ready.given }
 
 -- which sequences run is the same behind lines that name files, and so is what becomes of further ones
@@ -206,16 +205,28 @@ events_stay setup s numbers (n ∷ more) =
     ∙ ap (λ (m : Naming). table_event (time_at setup s) m ∷ table_events setup (fold (after_activation setup) s numbers) more) (naming_stays setup s numbers (kind_at setup.files n))
     ∙ ap (λ (items : List Out). table_event (time_at setup s) (naming_at s (kind_at setup.files n)) ∷ items) (events_stay setup s numbers more)
 
--- no file more is named
-pub activates_none : (b : Bench) (events : Held Out) (drops : b.drops.room ≡ DROPS) (jobs : b.crew.jobs ≡ jobs_of b.bus.watched) (there : b.lc.there ≡ b.bus.watched) (room : events.room ≡ LIST_ROOM) → events.items ≡ [] → Activates [] [] b (record b { activations = events; drops_room = drops; manned = jobs; there = there; activations_room = room })
+-- no file is named, and what was told before is forgotten
+pub forgets : (b : Bench) (events : Held Out) (drops : b.drops.room ≡ DROPS) (jobs : b.crew.jobs ≡ jobs_of b.bus.watched) (there : b.lc.there ≡ b.bus.watched) (room : events.room ≡ EVENTS_ROOM) → events.items ≡ [] → Activates [] [] b (record b { activations = events; drops_room = drops; manned = jobs; there = there; activations_room = room })
 unfolding table_events
-activates_none b events drops jobs there room none = record {
+forgets b events drops jobs there room none = record {
   goes = record { waits = refl; epoch = refl; number = refl; failed = refl; files = refl };
   memory = refl;
   many = ap (λ (items : List Out). length items) none;
   counted = λ counted. subst (AllPass is_item_counted) (sym none) counted;
   events = λ setup s epoch files has. none;
   has = λ setup s files has. has_told b events drops jobs there room s has;
+}
+
+-- no file is named yet
+pub activates_none : (b : Bench) → b.activations.items ≡ [] → Activates [] [] b b
+unfolding table_events
+activates_none b none = record {
+  goes = record { waits = refl; epoch = refl; number = refl; failed = refl; files = refl };
+  memory = refl;
+  many = ap (λ (items : List Out). length items) none;
+  counted = λ counted. subst (AllPass is_item_counted) (sym none) counted;
+  events = λ setup s epoch files has. none;
+  has = λ setup s files has. has;
 }
 
 -- one file more is named
@@ -246,7 +257,7 @@ activates_more old middle new numbers more told between same first second =
     }
 
 -- what was told of one file
-pub activates_one : (old middle : Bench) (n : ℕ) (naming : Naming) (time : ℕ) (events : Held Out) (drops : middle.drops.room ≡ DROPS) (jobs : middle.crew.jobs ≡ jobs_of middle.bus.watched) (there : middle.lc.there ≡ middle.bus.watched) (room : events.room ≡ LIST_ROOM)
+pub activates_one : (old middle : Bench) (n : ℕ) (naming : Naming) (time : ℕ) (events : Held Out) (drops : middle.drops.room ≡ DROPS) (jobs : middle.crew.jobs ≡ jobs_of middle.bus.watched) (there : middle.lc.there ≡ middle.bus.watched) (room : events.room ≡ EVENTS_ROOM)
     → ((setup : Setup) (s : State) → old.tables.files ≡ setup.files → Has old s → naming ≡ naming_at s (kind_at setup.files n)) → time ≡ time_of old → NamesFile n old middle
     → events.items ≡ middle.activations.items ++ table_event time naming ∷ [] → Activates (n ∷ []) old.activations.items old (record middle { activations = events; drops_room = drops; manned = jobs; there = there; activations_room = room })
 unfolding table_events

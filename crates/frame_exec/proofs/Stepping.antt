@@ -1,5 +1,5 @@
 -- The applications of the bench, woken in a frame.
-use Rattle.std.proofs.Common.{◌≡◌, Bool, not, ℕ, ◌+◌, List, [], ◌∷◌, ◌++◌, ◌∙◌, ap, subst, sym, refl}
+use Rattle.std.proofs.Common.{◌≡◌, Bool, not, ℕ, ◌+◌, List, ◌∷◌, ◌++◌, ◌∙◌, ap, subst, sym, refl}
 use Rattle.std.specs.List.{flat_map, list_any}
 use Rattle.bus_pipes.specs.Delivery.{after_offers, drops_from}
 use Rattle.bus_pipes.specs.declared.names.Out.{Out}
@@ -11,7 +11,9 @@ use Rattle.bus_pipes.specs.Pipes.{Pipes}
 use Rattle.table_files.specs.Files.{loads_of}
 use Rattle.memory_window.specs.Memory.{Memory}
 use Rattle.mm_core.specs.Step.{mm_operations}
+use Rattle.scenario.specs.declared.frame.App.{App}
 use Rattle.scenario.specs.declared.frame.App.TheVariants as names
+use Rattle.scenario.specs.declared.frame.Upset.{Upset}
 use Rattle.scenario.specs.FrameLists.{Frame}
 use Rattle.frame_exec.specs.declared.bench.Bench.{Bench}
 use Rattle.active_tables.specs.Tables.{TableSet, Loaded}
@@ -19,7 +21,7 @@ use Rattle.app_suite.specs.Applications.{cs_tables, lc_setup, hs_stands, cs_stan
 use Rattle.app_suite.specs.Wakes.{HasTaken, IsWoken, unless, joined}
 use Rattle.frame_runs.specs.Runs.{Setup, State, table_events, is_held, is_away, active_in, time_at, image_at, hs_input_at, cs_input_at, sc_input_at, mm_input_at, md_input_at, lc_input_at, items_at, operations_at, left_by, sent_at, resets_at, offers_at, after_wakeups}
 use Rattle.frame_exec.specs.Standing.{AppsStand}
-use Rattle.frame_exec.specs.Stages.{Takes, Arrives, Steps, TellsFirst, Sends, RunsIn, loads_in, time_of, items_in}
+use Rattle.frame_exec.specs.Stages.{Takes, Enters, Steps, Sends, RunsIn, loads_in, time_of, items_in, given_in}
 use Rattle.frame_exec.proofs.Frames.{apps_kept}
 use Rattle.frame_exec.proofs.Waking.{woken_state, woken_items, woken_beside, seen_by, moved, of_both}
 
@@ -111,7 +113,7 @@ module _ (setup : Setup) (s : State) (frame : Frame) (start took stepped : Bench
         took.lc.slot.state.value stepped.lc.slot.state.value s.lc lc_took lc_woken stand.lc;
   }
 
-  pub items_after : table_events setup s frame.activations ∷ items_in stepped ≡ items_at setup s frame
+  pub items_after : table_events setup s frame.activations ∷ given_in stepped ≡ items_at setup s frame
   unfolding items_at hs_input_at cs_input_at sc_input_at mm_input_at md_input_at lc_input_at
   items_after =
       let hs = woken_items (hs_stands (active_in s)) (hs_gives (active_in s)) (λ commands. hs_reads (time_at setup s) commands s.pipes.hs_ev frame.counters) _ took.hs.held s.pipes.hs took.hs.commands took.hs.out.items stepped.hs.out.items
@@ -141,45 +143,28 @@ module _ (setup : Setup) (s : State) (frame : Frame) (start took stepped : Bench
   left = steps.pipes ∙ takes.pipes ∙ ap (left_by frame.held) pipes
 
   -- and once the items were sent, behind what was told of the frame's activations, what of the frame remains to be written and to land
-  pub ran : (told : List Out) (first end : Bench) → told ≡ table_events setup s frame.activations → TellsFirst told stepped first → LogStands s.made start.log → Sends frame.sends first end → RunsIn setup s frame end
+  pub ran : (end : Bench) → stepped.activations.items ≡ table_events setup s frame.activations → LogStands s.made start.log → Sends frame.sends stepped end → RunsIn setup s frame end
   unfolding sent_at resets_at offers_at
-  ran told first end events tells stood sends =
-      let items : joined (items_in first) ≡ joined (items_at setup s frame) =
-      tells.items ∙ ap (λ (items : List Out). items ++ joined (items_in stepped)) events ∙ ap (λ (lists : List (List Out)). joined lists) items_after in
-      let log : LogStands s.made first.log = subst (LogStands s.made) (sym (tells.log ∙ steps.log ∙ takes.log)) stood in
+  ran end events stood sends =
+      let items : joined (items_in stepped) ≡ joined (items_at setup s frame) =
+      ap (λ (told : List Out). joined (told ∷ given_in stepped)) events ∙ ap (λ (lists : List (List Out)). joined lists) items_after in
+      let log : LogStands s.made stepped.log = subst (LogStands s.made) (sym (steps.log ∙ takes.log)) stood in
       let sent : joined (items_in end) ≡ sent_of s.made (joined (items_at setup s frame)) = sends.sent s.made log ∙ ap (sent_of s.made) items in
       let resets : end.resets ≡ resets_at setup s frame = sends.resets ∙ ap (list_any is_reset) items in
-      let here : first.bus ≡ left_by frame.held s.pipes = tells.pipes ∙ left in
       let offers : offered end.resets frame.sends (joined (items_in end)) ≡ offers_at setup s frame =
       ap (λ (b : Bool). offered b frame.sends (joined (items_in end))) resets ∙ ap (offered (resets_at setup s frame) frame.sends) sent in
       record {
-        tables = ap (λ (t : Loaded). t.set) (sends.run.tables ∙ tells.run.tables ∙ steps.run.tables) ∙ same_tables;
-        apps = apps_kept first end (after_wakeups setup s frame) sends.apps (apps_kept stepped first (after_wakeups setup s frame) tells.apps apps_after);
+        tables = ap (λ (t : Loaded). t.set) (sends.run.tables ∙ steps.run.tables) ∙ same_tables;
+        apps = apps_kept stepped end (after_wakeups setup s frame) sends.apps apps_after;
         sent = sent;
         resets = resets;
-        drops = sends.drops ∙ ap (λ (p : Pipes). drops_from p (offered end.resets frame.sends (joined (items_in end)))) here ∙ ap (drops_from (left_by frame.held s.pipes)) offers;
-        pipes = sends.pipes ∙ ap (λ (p : Pipes). after_offers p (offered end.resets frame.sends (joined (items_in end)))) here ∙ ap (after_offers (left_by frame.held s.pipes)) offers;
+        drops = sends.drops ∙ ap (λ (p : Pipes). drops_from p (offered end.resets frame.sends (joined (items_in end)))) left ∙ ap (drops_from (left_by frame.held s.pipes)) offers;
+        pipes = sends.pipes ∙ ap (λ (p : Pipes). after_offers p (offered end.resets frame.sends (joined (items_in end)))) left ∙ ap (after_offers (left_by frame.held s.pipes)) offers;
         made = subst (λ (items : List Out). LogStands (s.made ++ flat_map makes items) end.log) items (sends.made s.made log);
-        operations = sends.operations ∙ tells.operations ∙ operations_after;
-        memory = sends.memory ∙ tells.memory ∙ steps.memory ∙ same_image;
+        operations = sends.operations ∙ operations_after;
+        memory = sends.memory ∙ steps.memory ∙ same_image;
       }
 
 -- what was told of activations stays until the applications were woken
-pub told_still : (frame : Frame) (counters : List Counter) (named took stepped : Bench) → Arrives frame named took → Steps counters took stepped → stepped.activations ≡ named.activations
-told_still frame counters named took stepped arrives steps = steps.told ∙ arrives.takes.told ∙ arrives.writes.told
-
--- nothing is told where no file is named
-pub nothing_told : (setup : Setup) (s : State) (numbers : List ℕ) → numbers ≡ [] → [] ≡ table_events setup s numbers
-unfolding table_events
-nothing_told setup s numbers none = sym (ap (table_events setup s) none)
-
-pub tells_nothing : (b : Bench) → TellsFirst [] b b
-tells_nothing b = record {
-  run = record { waits = refl; epoch = refl; number = refl; failed = refl; tables = refl };
-  apps = record { hs = refl; cs = refl; sc = refl; mm = refl; md = refl; lc = refl };
-  items = refl;
-  operations = refl;
-  pipes = refl;
-  log = refl;
-  memory = refl;
-}
+pub told_still : (upsets : List Upset) (held : List App) (counters : List Counter) (named took stepped : Bench) → Enters upsets held named took → Steps counters took stepped → stepped.activations ≡ named.activations
+told_still upsets held counters named took stepped enters steps = steps.told ∙ enters.takes.told ∙ enters.writes.told

@@ -1,5 +1,5 @@
 -- The applications behind a frame's wakeups: what the jobs left, and what of it the bench took over.
-use Rattle.std.proofs.Common.{◌≡◌, ◌≤◌, Bool, true, false, ◌&&◌, List, [], ◌∷◌, length, ◌∙◌, ap, refl, subst, sym}
+use Rattle.std.proofs.Common.{◌≡◌, Bool, true, false, ◌&&◌, List, [], ◌∷◌, ◌∙◌, ap, refl, subst, sym}
 use Rattle.std.proofs.lemmas.Bool.{and_parts}
 use Rattle.bus_pipes.specs.declared.names.Out.{Out}
 use Rattle.bus_pipes.specs.declared.names.TheConstants.{TELEMETRY_PIPE_DEPTH}
@@ -13,8 +13,7 @@ use Rattle.md_dwell.specs.State.{AllGiven}
 use Rattle.md_dwell.specs.declared.state.Md.{Md}
 use Rattle.hs_monitors.specs.declared.step.TheConstants.{MOST_ITEMS as hs_most}
 use Rattle.lc_watch.specs.declared.step.TheConstants.{MOST_ITEMS as lc_most}
-use Rattle.frame_exec.specs.declared.bench.TheConstants.{DROPS}
-use Rattle.app_suite.specs.declared.slot.TheConstants.{LIST_ROOM}
+use Rattle.frame_exec.specs.declared.bench.TheConstants.{DROPS, EVENTS_ROOM}
 use Rattle.frame_exec.specs.declared.bench.Bench.{Bench}
 use Rattle.crew_board.specs.Seen.{Seen as Crew}
 use Rattle.app_suite.specs.declared.left.Left.{Left}
@@ -51,7 +50,7 @@ pub rested : {Input State : Type 0} (stands : List Input → State → Type 0) (
 rested stands gives held input old items none woken = record { state = woken.state; given = λ history stood. none ∙ woken.given history stood }
 
 -- what the jobs left but LC's was taken over, and then LC's: the rest stays as it was
-pub over_beside : (old new : Bench) (lc : LcSlot) (crew : Crew Left) (room : new.drops.room ≡ DROPS) (manned : crew.jobs ≡ jobs_of new.bus.watched) (there : lc.there ≡ new.bus.watched) (told : new.activations.room ≡ LIST_ROOM)
+pub over_beside : (old new : Bench) (lc : LcSlot) (crew : Crew Left) (room : new.drops.room ≡ DROPS) (manned : crew.jobs ≡ jobs_of new.bus.watched) (there : lc.there ≡ new.bus.watched) (told : new.activations.room ≡ EVENTS_ROOM)
     → TakesOver old new → TakesOver old (record new { lc = lc; crew = crew; drops_room = room; manned = manned; there = there; activations_room = told })
 over_beside old new lc crew room manned there told taken = record {
   run = record { waits = taken.run.waits; epoch = taken.run.epoch; number = taken.run.number; failed = taken.run.failed; tables = taken.run.tables };
@@ -68,7 +67,7 @@ over_beside old new lc crew room manned there told taken = record {
 
 -- the applications were woken in a bench that is the same but for the proofs of its facts
 pub steps_beside : (counters : List Counter) (old new : Bench) (room : old.drops.room ≡ DROPS) (manned : old.crew.jobs ≡ jobs_of old.bus.watched) (roomy : old.lc.telemetry.room ≡ TELEMETRY_PIPE_DEPTH)
-    (away : old.lc.there ≡ false → (old.lc.slot.held ≡ true) × (old.lc.slot.out.items ≡ [])) (there : old.lc.there ≡ old.bus.watched) (told : old.activations.room ≡ LIST_ROOM)
+    (away : old.lc.there ≡ false → (old.lc.slot.held ≡ true) × (old.lc.slot.out.items ≡ [])) (there : old.lc.there ≡ old.bus.watched) (told : old.activations.room ≡ EVENTS_ROOM)
     → Steps counters (record old { lc = record old.lc { roomy = roomy; away = away }; drops_room = room; manned = manned; there = there; activations_room = told }) new → Steps counters old new
 steps_beside counters old new room manned roomy away there told steps = record {
   run = record { waits = steps.run.waits; epoch = steps.run.epoch; number = steps.run.number; failed = steps.run.failed; tables = steps.run.tables };
@@ -115,15 +114,12 @@ module _ (counters : List Counter) (old middle new : Bench) (woken : AreWoken co
   sendable_hs : AreSendable hs_most new.hs.out.items
   sendable_hs = taken_sendable _ _ _ _ _ _ _ _ _ _ _ _ _ (woken.hs taken.hs.0 taken.hs.1) (ap (λ slot. slot.state.value) woken.slots.hs) taken.hs.2.0 taken.hs.2.1
 
-  pub all_few : length new.hs.out.items ≤ hs_most
-  all_few = sendable_hs.few
-
   pub all_can_send : AreSendable lc_most new.lc.slot.out.items → CanSend new
   all_can_send lc =
       let slots = woken.slots in
       let land = (woken.mm taken.mm.0 taken.mm.1).1.can_land in
       record {
-        hs = sendable_hs.counted;
+        hs = sendable_hs;
         cs = taken_sendable _ _ _ _ _ _ _ _ _ _ _ _ _ (woken.cs taken.cs.0 taken.cs.1) (ap (λ slot. slot.state.value) slots.cs) taken.cs.2.0 taken.cs.2.1;
         sc = taken_sendable _ _ _ _ _ _ _ _ _ _ _ _ _ (woken.sc taken.sc.0 taken.sc.1).0 (ap (λ slot. slot.state.value) slots.sc) taken.sc.2.0 taken.sc.2.1;
         mm = taken_sendable _ _ _ _ _ _ _ _ _ _ _ _ _ (woken.mm taken.mm.0 taken.mm.1).0 (ap (λ slot. slot.state.value) slots.mm) taken.mm.2.0 taken.mm.2.1;

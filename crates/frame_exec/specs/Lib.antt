@@ -8,5 +8,6 @@ pub use Rattle.frame_runs.specs.Crowds
 pub use Rattle.frame_runs.specs.RunLaws
 pub mod Standing
 pub mod Following
+pub mod Kinds
 pub mod Stages
 pub mod Opening

@@ -81,9 +81,13 @@ pub record KeepsApps (old new : Bench) : Type 0 where
   pub md : new.md.state ≡ old.md.state
   pub lc : new.lc.slot.state ≡ old.lc.slot.state
 
--- what the applications gave, a list each, in their order: before HS's items stands what was told of activations
+-- what the applications gave, a list each, in their order
+abbrev pub given_in : Bench → List (List Out)
+given_in b = b.hs.out.items ∷ b.cs.out.items ∷ b.sc.out.items ∷ b.mm.out.items ∷ b.md.out.items ∷ b.lc.slot.out.items ∷ []
+
+-- the items of a frame: what was told of its activations, and behind it what the applications gave
 abbrev pub items_in : Bench → List (List Out)
-items_in b = b.hs.out.items ∷ b.cs.out.items ∷ b.sc.out.items ∷ b.mm.out.items ∷ b.md.out.items ∷ b.lc.slot.out.items ∷ []
+items_in b = b.activations.items ∷ given_in b
 
 -- the upsets of a frame were written
 pub record IsUpset (upsets : List Upset) (old new : Bench) : Type 0 where
@@ -112,11 +116,17 @@ pub record Takes (held : List App) (old new : Bench) : Type 0 where
   pub log : new.log ≡ old.log
   pub memory : new.ram ≡ old.ram
 
--- the upsets of a frame were written, and the applications took what their pipes held
-pub record Arrives (frame : Frame) (old new : Bench) : Type 0 where
+-- these upsets were written, and each application took what its pipes held, but those that are held
+pub record Enters (upsets : List Upset) (held : List App) (old new : Bench) : Type 0 where
   pub upset : Bench
-  pub writes : IsUpset frame.upsets old upset
-  pub takes : Takes frame.held upset new
+  pub writes : IsUpset upsets old upset
+  pub takes : Takes held upset new
+
+-- the tables that a frame names became active, its upsets were written, and the applications took what their pipes held
+pub record Arrives (frame : Frame) (old new : Bench) : Type 0 where
+  pub active : Bench
+  pub activates : Activates frame.activations [] old active
+  pub enters : Enters frame.upsets frame.held active new
 
 -- no application gave anything yet
 pub record IsClear (b : Bench) : Type 0 where
@@ -197,19 +207,9 @@ pub record TakesOver (old new : Bench) : Type 0 where
   pub log : new.log ≡ old.log
   pub memory : new.ram ≡ old.ram
 
--- these items were told before what HS gave
-pub record TellsFirst (told : List Out) (old new : Bench) : Type 0 where
-  pub run : IsSameRun old new
-  pub apps : KeepsApps old new
-  pub items : joined (items_in new) ≡ told ++ joined (items_in old)
-  pub operations : new.ops.value ≡ old.ops.value
-  pub pipes : new.bus ≡ old.bus
-  pub log : new.log ≡ old.log
-  pub memory : new.ram ≡ old.ram
-
--- What the wakeups leave can be sent, and landed on the frame's image. HS's list may hold more items than HS gives.
+-- what the wakeups leave can be sent, and landed on the frame's image
 pub record CanSend (b : Bench) : Type 0 where
-  pub hs : AllPass is_item_counted b.hs.out.items
+  pub hs : AreSendable hs_most b.hs.out.items
   pub cs : AreSendable cs_most b.cs.out.items
   pub sc : AreSendable sc_most b.sc.out.items
   pub mm : AreSendable mm_most b.mm.out.items

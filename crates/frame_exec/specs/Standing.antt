@@ -1,7 +1,7 @@
 -- When a bench stands for a list of frames.
 use Rattle.std.specs.Prelude.{◌≡◌, ℕ, Bool, ◌+◌, ◌<◌, true, false, List, length, All}
 use Rattle.memory_window.specs.Regions.{is_mapped}
-use Rattle.memory_window.specs.Memory.{regions_of}
+use Rattle.memory_window.specs.Memory.{Memory, regions_of}
 use Rattle.md_dwell.specs.State.{AllGiven}
 use Rattle.sc_sequences.specs.State.{IsReady as ScIsReady}
 use Rattle.packet_log.specs.Blocks.{Waiting, empty_block}
@@ -37,6 +37,10 @@ pub record IsReady (b : Bench) : Type 0 where
   pub sc : ScIsReady b.tables.set.sc b.sc.state.value
   pub md : AllGiven (regions_of b.ram.areas) b.md.state.value
   pub given : AreGiven (regions_of b.ram.areas) b.tables
+
+-- these upsets lie in memory
+abbrev pub AreMapped : List Upset → Memory → Type 0
+AreMapped upsets memory = All (λ (u : Upset). is_mapped (regions_of memory.areas) u.at ≡ true) upsets
 
 -- whether a frame of the bench failed
 abbrev pub has_failed : Bench → Bool

@@ -1,22 +1,22 @@
 //! The bench: one frame after another.
 
 ghost use Rattle.std.specs.Prelude.{◌≡◌};
-ghost use Rattle.frame_exec.specs.declared.bench.TheConstants.{DROPS};
-ghost use Rattle.app_suite.specs.declared.slot.TheConstants.{LIST_ROOM};
-ghost use Rattle.hs_monitors.specs.declared.step.TheConstants.{MOST_ITEMS};
+ghost use Rattle.frame_exec.specs.declared.bench.TheConstants.{DROPS, EVENTS_ROOM};
 ghost use Rattle.app_suite.specs.Jobs.{jobs_of};
 
 use crate::cut::Cut;
+use crate::kind::FrameKind;
+use crate::lists::{all_in_order, deliver_in_order};
+use crate::yielded::Yield;
 use active_tables::Tables;
 use app_suite::{
-    CsSlot, Holds, HsSlot, LcSlot, Left, MdSlot, MmSlot, Naming, ScSlot, deliver_all, hand_over,
-    in_order, naming_of, tell,
+    CsSlot, Holds, HsSlot, LcSlot, Left, MdSlot, MmSlot, Naming, ScSlot, hand_over, naming_of, tell,
 };
 use bus_pipes::{Batch, Bus, Drops, Outbox, PipeName};
 use crew_board::Crew;
 use cs_slices::Cs;
 use frame_runs::obey_frame;
-use frame_wires::{has_reset, put_behind, put_frame, stamp_all, take_unless, upset_all};
+use frame_wires::{has_reset, put_frame, stamp_all, take_unless, upset_all};
 use fsw_outside::{Failed, Gate, Sink};
 use hs_monitors::Hs;
 use lc_watch::Lc;
@@ -27,12 +27,14 @@ use packet_forms::Counter;
 use packet_log::{Block, LineBuffer, Log};
 use sc_sequences::Sc;
 use scenario::{FrameInput, Upset};
-use std::mem;
 use std::thread::Threads;
 use subjects::{Crowd, Subject};
 
 /// How many packets are dropped in a frame at most: all that are sent and all that the applications give.
 pub(crate) const DROPS: u32 = 1573;
+
+/// How many events of activations a frame has at most: one for each of its items.
+pub(crate) const EVENTS_ROOM: u32 = 64;
 
 /// The bench, after some frames. It takes all its memory as it is opened, and borrows the files, from which MM loads.
 #[derive(Drop)]
@@ -46,7 +48,7 @@ pub struct Bench<'f> {
     // how many threads may land operations, or cycle a crowd, at once
     pub(crate) workers: u32,
     pub(crate) tables: Tables<'f>,
-    // the events of the frame's activations, until HS's items stand behind them: then the two lists change places
+    // the events of the frame's activations, which are the first of its items
     pub(crate) activations: Outbox,
     pub(crate) hs: HsSlot,
     // the packets that HS took from its pipe of events
@@ -70,34 +72,32 @@ pub struct Bench<'f> {
     ghost drops_room: { drops.room ≡ DROPS },
     ghost manned: { crew.jobs ≡ jobs_of bus.watched },
     ghost there: { lc.there ≡ bus.watched },
-    ghost activations_room: { activations.room ≡ LIST_ROOM },
+    ghost activations_room: { activations.room ≡ EVENTS_ROOM },
 }
 
 impl<'f> Bench<'f> {
-    ghost use Rattle.std.specs.Prelude.{ℕ, ◌+◌, ◌-◌, ◌<◌, ◌≤◌, List, [], ◌∷◌, ◌++◌, map, length, true, false, ◌||◌, All, IfErr, OnOk, OnErr, is_err};
+    ghost use Rattle.std.specs.Prelude.{ℕ, ◌+◌, ◌-◌, ◌<◌, ◌≤◌, List, [], ◌∷◌, ◌++◌, map, length, true, false, ◌||◌, IfErr, OnOk, OnErr, is_err};
     ghost use Rattle.fsw_outside.specs.Told.{WhereTold};
     ghost use Rattle.fsw_outside.specs.Causes.{HasCause};
     ghost use Rattle.fsw_outside.specs.Written.{WritesAll};
-    ghost use Rattle.memory_window.specs.Regions.{is_mapped};
-    ghost use Rattle.memory_window.specs.Memory.{regions_of};
     ghost use Rattle.packet_log.specs.Blocks.{Notes, Puts, empty_block, late_in, tells};
-    ghost use Rattle.scenario.specs.declared.frame.Upset.{Upset};
     ghost use Rattle.scenario.specs.declared.frame.App.{App};
     ghost use Rattle.scenario.specs.FrameLists.{Frame};
     ghost use Rattle.frame_runs.specs.Runs.{Setup, State, activated_at, naming_at, frame_lines, log_of, run_of};
     ghost use Rattle.frame_runs.specs.Crowds.{with_counters, beside, behind_items, crowd_after};
     ghost use Rattle.subjects.specs.Crowds.{counter_of, all_cycled};
-    ghost use Rattle.frame_exec.specs.Standing.{Has, has_failed, waiting_in, IsReady, Stands, IsInterrupted, CanRun};
+    ghost use Rattle.frame_exec.specs.Standing.{Has, has_failed, waiting_in, AreMapped, IsReady, Stands, IsInterrupted, CanRun};
     ghost use Rattle.frame_exec.specs.Following.{Follows, IsCutAt, Adds};
     ghost use Rattle.app_suite.specs.Landable.{CanLand};
     ghost use Rattle.std.specs.List.{AllPass, list_any};
     ghost use Rattle.bus_pipes.specs.Counted.{is_item_counted};
     ghost use Rattle.table_files.specs.Files.{kind_at};
-    ghost use Rattle.frame_exec.specs.Stages.{IsSameRun, GoesOn, NamesFile, Activates, TellsFirst, IsUpset, Takes, Arrives, CanSend, Sends, RunsIn, IsSameFrame, Lands, StartsAnew, IsStamped, HasGiven, items_in, loads_in, lines_in};
+    ghost use Rattle.frame_exec.specs.Stages.{IsSameRun, GoesOn, NamesFile, Activates, IsUpset, Takes, Enters, Arrives, CanSend, Sends, RunsIn, IsSameFrame, Lands, StartsAnew, IsStamped, HasGiven, items_in, given_in, loads_in, lines_in};
     ghost use Rattle.frame_wires.specs.Sending.{is_reset};
     ghost use Rattle.app_suite.specs.Holding.{AreHeld};
     ghost use Rattle.app_suite.specs.Wakes.{joined};
     ghost use Rattle.app_suite.specs.declared.left.Left.{Left};
+    ghost use Rattle.frame_exec.specs.declared.yielded.Yield.TheVariants as yields;
 
     /// Whether a frame of this bench failed.
     pub fn failed(&self) -> bool
@@ -177,8 +177,8 @@ impl<'f> Bench<'f> {
         ensures cause { HasCause (O.held sink.new) (O.faults sink.old) (O.faults sink.new) result }
         ensures failed { has_failed self.new ≡ is_err result }
     {
-        let silent = self.run(rt, gate, input, counters);
-        match self.write(sink, silent) {
+        let lines = self.run(rt, gate, input, counters);
+        match self.write(sink, lines) {
             Ok(()) => {
                 self.land(rt, gate);
                 self.go_on();
@@ -265,8 +265,8 @@ impl<'f> Bench<'f> {
         ensures cause { HasCause (O.held sink.new) (O.faults sink.old) (O.faults sink.new) result }
         ensures failed { has_failed self.new ≡ is_err result }
     {
-        let silent = self.run(rt, gate, input, counters);
-        match self.add_lines(sink, silent) {
+        let lines = self.run(rt, gate, input, counters);
+        match self.add_lines(sink, lines) {
             Ok(()) => {
                 self.land(rt, gate);
                 self.go_on();
@@ -367,15 +367,26 @@ impl<'f> Bench<'f> {
         self.bus.clear();
     }
 
-    /// Makes the tables of these files active, in order, and tells of each whether it is. What an earlier frame told is forgotten.
+    /// Forgets what an earlier frame told of activations.
+    #[inline(always)]
+    fn forget_told(&mut self)
+        ensures forgets { Activates [] [] self.old self.new }
+        ensures none { self.new.activations.items ≡ [] }
+        ensures ready { IsReady self.old → IsReady self.new }
+    {
+        self.activations.clear();
+    }
+
+    /// Makes the tables of these files active, in order, and tells of each whether it is. Nothing was told before.
+    #[cold]
     fn activate_all(&mut self, files: &[u32])
         requires time { self.old.epoch + self.old.number < 4294967296 }
         requires few { length files.now ≤ 64 }
+        requires none { self.old.activations.items ≡ [] }
         requires ready { IsReady self.old }
         ensures activates { Activates files.now [] self.old self.new }
         ensures ready { IsReady self.new }
     {
-        self.activations.clear();
         'files: for file in files {
             self.name_file(*file);
         }
@@ -417,7 +428,7 @@ impl<'f> Bench<'f> {
 
     /// Writes the frame's upsets.
     fn upset(&mut self, upsets: &[Upset])
-        requires { All (λ (u : Upset). is_mapped (regions_of self.old.ram.areas) u.at ≡ true) upsets.now }
+        requires { AreMapped upsets.now self.old.ram }
         ensures { IsUpset upsets.now self.old self.new }
     {
         upset_all(&mut self.ram, upsets);
@@ -426,7 +437,8 @@ impl<'f> Bench<'f> {
     /// Each application but those that are held takes what its pipes hold.
     #[inline(always)]
     fn take_all_but(&mut self, holds: Holds)
-        ensures { (held : List App) → AreHeld held holds → Takes held self.old self.new }
+        ensures takes { (held : List App) → AreHeld held holds → Takes held self.old self.new }
+        ensures ready { IsReady self.old → IsReady self.new }
     {
         self.hs.take(&mut self.bus, PipeName::Hs, holds.hs);
         take_unless(&mut self.bus, PipeName::HsEv, holds.hs, &mut self.events);
@@ -438,29 +450,31 @@ impl<'f> Bench<'f> {
         self.ops.clear();
     }
 
-    /// Sends the items, unless nothing is to be sent, and tells whether nothing was sent nor dropped.
+    /// Sends the items, unless nothing is to be sent, and answers whether there is a line of what was sent or dropped.
     #[inline(always)]
-    fn send(&mut self, input: &FrameInput, none: bool) -> bool
+    fn send(&mut self, input: &FrameInput, items: Yield) -> Yield
         requires can { CanSend self.old }
-        requires few { length input.now.sends + length self.old.hs.out.items ≤ 64 + MOST_ITEMS }
-        requires none { none ≡ true → joined (items_in self.old) ≡ [] }
+        requires told { AllPass is_item_counted self.old.activations.items }
+        requires few { length input.now.sends + length self.old.activations.items ≤ 64 }
+        requires none { items ≡ yields.Nothing → joined (given_in self.old) ≡ [] }
         ensures sends { Sends input.now.sends self.old self.new }
-        ensures silent { result ≡ true → lines_in self.new ≡ [] }
+        ensures silent { result ≡ yields.Nothing → lines_in self.new ≡ [] }
     {
         self.drops.clear();
         self.resets = false;
-        if none && input.sends().is_empty() {
-            return true;
+        if items.is_nothing() && self.activations.is_empty() && input.sends().is_empty() {
+            return Yield::Nothing;
         }
         self.send_all(input);
-        self.is_silent()
+        Yield::unless(self.is_silent())
     }
 
     /// Gives the items their counts, and offers the frame's packets and theirs to the pipes, unless a processor reset is asked for.
     #[inline(never)]
     fn send_all(&mut self, input: &FrameInput)
         requires can { CanSend self.old }
-        requires few { length input.now.sends + length self.old.hs.out.items ≤ 64 + MOST_ITEMS }
+        requires told { AllPass is_item_counted self.old.activations.items }
+        requires few { length input.now.sends + length self.old.activations.items ≤ 64 }
         requires none { self.old.drops.items ≡ [] }
         ensures { Sends input.now.sends self.old self.new }
     {
@@ -470,8 +484,9 @@ impl<'f> Bench<'f> {
             return;
         }
         self.bus.deliver(input.sends(), &mut self.drops);
-        deliver_all(
+        deliver_in_order(
             &mut self.bus,
+            &self.activations,
             &self.hs,
             &self.cs,
             &self.sc,
@@ -485,8 +500,10 @@ impl<'f> Bench<'f> {
     /// Gives the items their sequence counts.
     fn stamp(&mut self)
         requires can { CanSend self.old }
+        requires told { AllPass is_item_counted self.old.activations.items }
         ensures { IsStamped self.old self.new }
     {
+        stamp_all(&mut self.log, &mut self.activations);
         stamp_all(&mut self.log, &mut self.hs.out);
         stamp_all(&mut self.log, &mut self.cs.out);
         stamp_all(&mut self.log, &mut self.sc.out);
@@ -495,76 +512,44 @@ impl<'f> Bench<'f> {
         stamp_all(&mut self.log, &mut self.lc.slot.out);
     }
 
-    /// Writes the frame's upsets, and lets each application take what its pipes hold: answers whether it did so. Where the frame names
-    /// tables nothing changes, since they become active first. A frame that only sends is asked for nothing else.
+    /// Does what comes before the wakeups of a frame: makes the tables active that it names, writes its upsets, and lets each application
+    /// that it doesn't hold take what its pipes hold.
     #[inline(always)]
-    fn arrive(&mut self, input: &FrameInput) -> bool
-        requires upsets { All (λ (u : Upset). is_mapped (regions_of self.old.ram.areas) u.at ≡ true) input.now.upsets }
-        requires ready { IsReady self.old }
-        ensures arrives { result ≡ true → Arrives input.now self.old self.new }
-        ensures unnamed { result ≡ true → input.now.activations ≡ [] }
-        ensures waits { result ≡ false → self.new ≡ self.old }
-        ensures few { length input.now.sends ≤ 64 }
-        ensures ready { IsReady self.new }
-    {
-        if !self.upset_if_plain(input) {
-            return self.arrive_unless_named(input);
-        }
-        self.take_all_but(Holds::none());
-        true
-    }
-
-    /// Writes the upsets of a plain frame, in which nobody is held and no table is named: answers whether it is one. In another nothing
-    /// changes.
-    #[inline(always)]
-    fn upset_if_plain(&mut self, input: &FrameInput) -> bool
-        requires { All (λ (u : Upset). is_mapped (regions_of self.old.ram.areas) u.at ≡ true) input.now.upsets }
-        ensures upset { result ≡ true → IsUpset input.now.upsets self.old self.new }
-        ensures plain { result ≡ true → (input.now.held ≡ []) × (input.now.activations ≡ []) }
-        ensures waits { result ≡ false → self.new ≡ self.old }
-        ensures few { length input.now.sends ≤ 64 }
-    {
-        if input.has_only_sends() {
-            return true;
-        }
-        if !input.is_plain() {
-            return false;
-        }
-        self.upset(input.upsets());
-        true
-    }
-
-    /// What `arrive` does in a frame that isn't plain.
-    #[inline(never)]
-    fn arrive_unless_named(&mut self, input: &FrameInput) -> bool
-        requires upsets { All (λ (u : Upset). is_mapped (regions_of self.old.ram.areas) u.at ≡ true) input.now.upsets }
-        requires ready { IsReady self.old }
-        ensures arrives { result ≡ true → Arrives input.now self.old self.new }
-        ensures unnamed { result ≡ true → input.now.activations ≡ [] }
-        ensures waits { result ≡ false → self.new ≡ self.old }
-        ensures ready { IsReady self.new }
-    {
-        if !input.activations().is_empty() {
-            return false;
-        }
-        self.upset_and_take(input);
-        true
-    }
-
-    /// Writes the frame's upsets, and lets each application take what its pipes hold.
-    #[inline(always)]
-    fn upset_and_take(&mut self, input: &FrameInput)
-        requires upsets { All (λ (u : Upset). is_mapped (regions_of self.old.ram.areas) u.at ≡ true) input.now.upsets }
+    fn arrive(&mut self, input: &FrameInput)
+        requires time { self.old.epoch + self.old.number < 4294967296 }
+        requires upsets { AreMapped input.now.upsets self.old.ram }
         requires ready { IsReady self.old }
         ensures arrives { Arrives input.now self.old self.new }
+        ensures few { length input.now.sends + length input.now.activations ≤ 64 }
+        ensures ready { IsReady self.new }
+    {
+        self.forget_told();
+        match FrameKind::of(input) {
+            FrameKind::OnlySends => self.take_all_but(Holds::none()),
+            FrameKind::Plain => self.enter(input, Holds::none()),
+            FrameKind::Holds => self.enter(input, Holds::of(input.held())),
+            FrameKind::NamesTables => {
+                self.activate_all(input.activations());
+                self.enter(input, Holds::of(input.held()));
+            }
+        }
+    }
+
+    /// Writes a frame's upsets, and lets each application take what its pipes hold but those that are held.
+    #[inline(always)]
+    fn enter(&mut self, input: &FrameInput, holds: Holds)
+        requires upsets { AreMapped input.now.upsets self.old.ram }
+        requires ready { IsReady self.old }
+        ensures enters { (held : List App) → AreHeld held holds
+            → Enters input.now.upsets held self.old self.new }
         ensures ready { IsReady self.new }
     {
         self.upset(input.upsets());
-        self.take_all_but(Holds::of(input.held()));
+        self.take_all_but(holds);
     }
 
-    /// Runs a frame up to its lines, on these execution counters: makes its tables active, writes its upsets, wakes the applications on its
-    /// image, sends what they gave, and tells whether there is no line.
+    /// Runs a frame up to its lines, on these execution counters: lets it arrive, wakes the applications on its image, sends what is told and
+    /// what they gave, and answers whether there is a line.
     #[inline(always)]
     fn run<R: Threads + Sync, G: Gate>(
         &mut self,
@@ -572,108 +557,75 @@ impl<'f> Bench<'f> {
         gate: &G,
         input: &FrameInput,
         counters: &[Counter],
-    ) -> bool
+    ) -> Yield
         requires time { self.old.epoch + self.old.number < 4294967296 }
-        requires upsets { All (λ (u : Upset). is_mapped (regions_of self.old.ram.areas) u.at ≡ true) input.now.upsets }
+        requires upsets { AreMapped input.now.upsets self.old.ram }
         requires ready { IsReady self.old }
-        ensures runs { (setup : Setup) (s : State) → self.old.epoch ≡ setup.epoch → self.old.tables.files ≡ setup.files → Has self.old s
-            → RunsIn setup (activated_at setup s (with_counters counters.now input.now)) (with_counters counters.now input.now) self.new }
+        ensures runs { (setup : Setup) (s : State) → self.old.epoch ≡ setup.epoch
+            → self.old.tables.files ≡ setup.files → Has self.old s
+            → RunsIn setup (activated_at setup s (with_counters counters.now input.now))
+            (with_counters counters.now input.now) self.new }
         ensures run { GoesOn self.old self.new }
         ensures can_land { CanLand (loads_in self.new) self.new.ram self.new.ops.value }
         ensures ready { IsReady self.new }
-        ensures silent { result ≡ true → lines_in self.new ≡ [] }
+        ensures silent { result ≡ yields.Nothing → lines_in self.new ≡ [] }
     {
-        if !self.arrive(input) {
-            return self.run_activating(rt, gate, input, counters);
-        }
-        let none = self.step(rt, gate, counters);
-        self.send(input, none)
-    }
-
-    /// The same of a frame that names tables. What is told of them comes before what HS gives.
-    #[cold]
-    fn run_activating<R: Threads + Sync, G: Gate>(
-        &mut self,
-        rt: &R,
-        gate: &G,
-        input: &FrameInput,
-        counters: &[Counter],
-    ) -> bool
-        requires time { self.old.epoch + self.old.number < 4294967296 }
-        requires upsets { All (λ (u : Upset). is_mapped (regions_of self.old.ram.areas) u.at ≡ true) input.now.upsets }
-        requires ready { IsReady self.old }
-        ensures runs { (setup : Setup) (s : State) → self.old.epoch ≡ setup.epoch → self.old.tables.files ≡ setup.files → Has self.old s
-            → RunsIn setup (activated_at setup s (with_counters counters.now input.now)) (with_counters counters.now input.now) self.new }
-        ensures run { GoesOn self.old self.new }
-        ensures can_land { CanLand (loads_in self.new) self.new.ram self.new.ops.value }
-        ensures ready { IsReady self.new }
-        ensures silent { result ≡ true → lines_in self.new ≡ [] }
-    {
-        self.activate_all(input.activations());
-        self.upset_and_take(input);
-        self.step(rt, gate, counters);
-        self.tell_first();
-        self.send(input, false)
-    }
-
-    /// Puts what was told of activations before what HS gave: both are HS's list then.
-    fn tell_first(&mut self)
-        requires can { CanSend self.old }
-        requires counted { AllPass is_item_counted self.old.activations.items }
-        requires told { length self.old.activations.items ≤ 64 }
-        requires few { length self.old.hs.out.items ≤ MOST_ITEMS }
-        ensures first { TellsFirst self.old.activations.items self.old self.new }
-        ensures can { CanSend self.new }
-        ensures few { length self.new.hs.out.items ≡ length self.old.activations.items + length self.old.hs.out.items }
-        ensures ready { IsReady self.old → IsReady self.new }
-    {
-        put_behind(&mut self.activations, self.hs.out.items());
-        mem::swap(&mut self.activations, &mut self.hs.out);
+        self.arrive(input);
+        let items = self.step(rt, gate, counters);
+        self.send(input, items)
     }
 
     /// Writes the lines of the frame that was run, all at once.
-    fn write<O: Sink>(&mut self, sink: &mut O, silent: bool) -> Result<(), Failed>
+    fn write<O: Sink>(&mut self, sink: &mut O, lines: Yield) -> Result<(), Failed>
         requires number { self.old.number < 4294967296 }
         requires none { self.old.block ≡ empty_block }
-        requires silent { silent ≡ true → lines_in self.old ≡ [] }
+        requires silent { lines ≡ yields.Nothing → lines_in self.old ≡ [] }
         ensures content { WhereTold (O.held sink.old) (O.held sink.new) (WritesAll result (lines_in self.old)) }
         ensures cause { HasCause (O.held sink.new) (O.faults sink.old) (O.faults sink.new) result }
         ensures same { IsSameFrame self.old self.new }
         ensures handed { OnOk result (self.new.block ≡ empty_block) }
     {
-        let Ok(()) = self.put_lines(sink, silent) else {
+        let Ok(()) = self.put_lines(sink, lines) else {
             return Err(Failed);
         };
         self.block.flush(sink)
     }
 
     /// Puts the lines of the frame that was run behind those that wait, and notes where they end.
-    fn add_lines<O: Sink>(&mut self, sink: &mut O, silent: bool) -> Result<(), Failed>
+    fn add_lines<O: Sink>(&mut self, sink: &mut O, lines: Yield) -> Result<(), Failed>
         requires number { self.old.number < 4294967296 }
-        requires silent { silent ≡ true → lines_in self.old ≡ [] }
+        requires silent { lines ≡ yields.Nothing → lines_in self.old ≡ [] }
         ensures adds { Adds result (lines_in self.old) self.old.block self.new.block (O.held sink.old) (O.held sink.new) }
         ensures cause { HasCause (O.held sink.new) (O.faults sink.old) (O.faults sink.new) result }
         ensures same { IsSameFrame self.old self.new }
     {
-        let Ok(()) = self.put_lines(sink, silent) else {
+        let Ok(()) = self.put_lines(sink, lines) else {
             return Err(Failed);
         };
         self.block.mark_end(sink)
     }
 
     /// Puts the lines of the frame that was run behind those that wait.
-    fn put_lines<O: Sink>(&mut self, sink: &mut O, silent: bool) -> Result<(), Failed>
+    fn put_lines<O: Sink>(&mut self, sink: &mut O, lines: Yield) -> Result<(), Failed>
         requires number { self.old.number < 4294967296 }
-        requires silent { silent ≡ true → lines_in self.old ≡ [] }
+        requires silent { lines ≡ yields.Nothing → lines_in self.old ≡ [] }
         ensures puts { Puts result (lines_in self.old) self.old.block self.new.block (O.held sink.old) (O.held sink.new) }
         ensures left { OnErr result (0 < length self.new.block.bytes) }
         ensures cause { HasCause (O.held sink.new) (O.faults sink.old) (O.faults sink.new) result }
         ensures same { IsSameFrame self.old self.new }
     {
-        if silent {
+        if lines.is_nothing() {
             return Ok(());
         }
-        let lists = in_order(&self.hs, &self.cs, &self.sc, &self.mm, &self.md, &self.lc);
+        let lists = all_in_order(
+            &self.activations,
+            &self.hs,
+            &self.cs,
+            &self.sc,
+            &self.mm,
+            &self.md,
+            &self.lc,
+        );
         put_frame(
             &mut self.block,
             sink,
@@ -693,7 +645,15 @@ impl<'f> Bench<'f> {
         if !self.resets && self.gave_nothing() {
             return;
         }
-        let lists = in_order(&self.hs, &self.cs, &self.sc, &self.mm, &self.md, &self.lc);
+        let lists = all_in_order(
+            &self.activations,
+            &self.hs,
+            &self.cs,
+            &self.sc,
+            &self.mm,
+            &self.md,
+            &self.lc,
+        );
         obey_frame(crowd, self.resets, &lists);
     }
 
@@ -701,12 +661,14 @@ impl<'f> Bench<'f> {
     fn asks_for_reset(&self) -> bool
         ensures { result ≡ list_any is_reset (joined (items_in self.now)) }
     {
-        has_reset(self.hs.out.items())
+        let told = has_reset(self.activations.items());
+        let given = has_reset(self.hs.out.items())
             | has_reset(self.cs.out.items())
             | has_reset(self.sc.out.items())
             | has_reset(self.mm.out.items())
             | has_reset(self.md.out.items())
-            | has_reset(self.lc.slot.out.items())
+            | has_reset(self.lc.slot.out.items());
+        told | given
     }
 
     /// Whether nothing was sent nor dropped in the frame that was run.
@@ -717,12 +679,13 @@ impl<'f> Bench<'f> {
         self.gave_nothing() && self.drops.is_empty()
     }
 
-    /// Whether nothing was given in the frame that was run.
+    /// Whether nothing was told of activations nor given in the frame that was run.
     #[inline(always)]
     fn gave_nothing(&self) -> bool
         ensures { result ≡ true → joined (items_in self.now) ≡ [] }
     {
-        self.hs.out.is_empty()
+        self.activations.is_empty()
+            && self.hs.out.is_empty()
             && self.cs.out.is_empty()
             && self.sc.out.is_empty()
             && self.mm.out.is_empty()

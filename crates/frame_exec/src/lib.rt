@@ -4,8 +4,11 @@
 mod bench;
 mod cut;
 mod in_place;
+mod kind;
+mod lists;
 mod opening;
 mod steps;
+mod yielded;
 
 pub use active_tables::{OpenFault, Tables, TablesFault};
 pub use bench::Bench;

@@ -3,9 +3,9 @@
 ghost use Rattle.std.specs.Prelude.{IfOk};
 ghost use Rattle.frame_exec.specs.Opening.{IsEmpty};
 
-use crate::bench::{Bench, DROPS};
+use crate::bench::{Bench, DROPS, EVENTS_ROOM};
 use active_tables::{OpenFault, Tables, names_limit_checker, refused_place};
-use app_suite::{LIST_ROOM, Left, Slots, jobs_of};
+use app_suite::{Left, Slots, jobs_of};
 use bus_pipes::{Batch, Bus, Drops, Outbox};
 use crew_board::Crew;
 use fsw_outside::NoMemory;
@@ -36,7 +36,7 @@ impl Room {
         ensures { IfOk result (IsEmpty header.now.map lc) }
     {
         Ok(Room {
-            activations: Outbox::open(alloc, LIST_ROOM)?,
+            activations: Outbox::open(alloc, EVENTS_ROOM)?,
             crew: Crew::open(alloc, workers, jobs_of(lc))?,
             ops: Box::new(alloc, Ops::new())?,
             drops: Drops::open(alloc, DROPS)?,

@@ -1,10 +1,10 @@
 //! How the applications are woken in a frame.
 
 ghost use Rattle.std.specs.Prelude.{◌≡◌};
-ghost use Rattle.hs_monitors.specs.declared.step.TheConstants.{MOST_ITEMS};
 
 use crate::bench::Bench;
 use crate::in_place::wake_in_place;
+use crate::yielded::Yield;
 use app_suite::{Reads, Scene, wake_all};
 use fsw_outside::Gate;
 use packet_forms::Counter;
@@ -28,11 +28,12 @@ fn are_shared(workers: u32, rests: [bool; 6]) -> bool {
 impl<'f> Bench<'f> {
     ghost use Rattle.std.specs.Prelude.{◌+◌, ◌<◌, ◌≤◌, [], length, slice_index_or, true, false};
     ghost use Rattle.frame_exec.specs.Standing.{IsReady};
-    ghost use Rattle.frame_exec.specs.Stages.{IsClear, Steps, CanSend, AreWoken, TakesOver, items_in};
+    ghost use Rattle.frame_exec.specs.Stages.{IsClear, Steps, CanSend, AreWoken, TakesOver, given_in};
     ghost use Rattle.app_suite.specs.Wakes.{joined};
     ghost use Rattle.app_suite.specs.declared.left.Left.{Left};
+    ghost use Rattle.frame_exec.specs.declared.yielded.Yield.TheVariants as yields;
 
-    /// Wakes the applications that are there on what they took, on execution counters and on the frame's image, and tells whether no item
+    /// Wakes the applications that are there on what they took, on execution counters and on the frame's image, and answers whether an item
     /// was given. The jobs of the first frame go over all workers, whatever there is to do.
     #[inline(always)]
     pub(crate) fn step<R: Threads + Sync, G: Gate>(
@@ -40,15 +41,14 @@ impl<'f> Bench<'f> {
         rt: &R,
         gate: &G,
         counters: &[Counter],
-    ) -> bool
+    ) -> Yield
         requires time { self.old.epoch + self.old.number < 4294967296 }
         requires clear { IsClear self.old }
         requires ready { IsReady self.old }
         ensures steps { Steps counters.now self.old self.new }
         ensures can_send { CanSend self.new }
-        ensures few { length self.new.hs.out.items ≤ MOST_ITEMS }
         ensures ready { IsReady self.new }
-        ensures none { result ≡ true → joined (items_in self.new) ≡ [] }
+        ensures none { result ≡ yields.Nothing → joined (given_in self.new) ≡ [] }
     {
         if self.number == 0 {
             return self.step_on_crew(rt, gate, counters);
@@ -64,15 +64,14 @@ impl<'f> Bench<'f> {
         rt: &R,
         gate: &G,
         counters: &[Counter],
-    ) -> bool
+    ) -> Yield
         requires time { self.old.epoch + self.old.number < 4294967296 }
         requires clear { IsClear self.old }
         requires ready { IsReady self.old }
         ensures steps { Steps counters.now self.old self.new }
         ensures can_send { CanSend self.new }
-        ensures few { length self.new.hs.out.items ≤ MOST_ITEMS }
         ensures ready { IsReady self.new }
-        ensures none { result ≡ true → joined (items_in self.new) ≡ [] }
+        ensures none { result ≡ yields.Nothing → joined (given_in self.new) ≡ [] }
     {
         let reads = Reads {
             tables: &self.tables,
@@ -90,7 +89,7 @@ impl<'f> Bench<'f> {
         let lc_rests = self.lc.slot.rests(&reads);
         let all_rest = hs_rests & cs_rests & sc_rests & mm_rests & md_rests & lc_rests;
         if all_rest {
-            return true;
+            return Yield::Nothing;
         }
         if are_shared(
             self.workers,
@@ -104,61 +103,36 @@ impl<'f> Bench<'f> {
         let mm = wake_in_place(&mut self.mm, mm_rests, &reads, &mut *self.ops);
         let md = wake_in_place(&mut self.md, md_rests, &reads, &mut ());
         let lc = wake_in_place(&mut self.lc.slot, lc_rests, &reads, &mut ());
-        hs & cs & sc & mm & md & lc
+        Yield::unless(hs & cs & sc & mm & md & lc)
     }
 
     /// Wakes the applications that are there as jobs of the crew, in the first frame all of them and later those that have something to do,
-    /// and tells whether no item was given.
+    /// and answers whether an item was given.
     #[inline(never)]
     fn step_on_crew<R: Threads + Sync, G: Gate>(
         &mut self,
         rt: &R,
         gate: &G,
         counters: &[Counter],
-    ) -> bool
+    ) -> Yield
         requires time { self.old.epoch + self.old.number < 4294967296 }
         requires clear { IsClear self.old }
         requires ready { IsReady self.old }
         ensures steps { Steps counters.now self.old self.new }
         ensures can_send { CanSend self.new }
-        ensures few { length self.new.hs.out.items ≤ MOST_ITEMS }
         ensures ready { IsReady self.new }
-        ensures none { result ≡ true → joined (items_in self.new) ≡ [] }
+        ensures none { result ≡ yields.Nothing → joined (given_in self.new) ≡ [] }
     {
         let workers = self.workers.max(1);
-        if self.lc.there {
-            return self.step_watched(rt, gate, counters, workers);
-        }
-        self.wake(rt, gate, counters, workers, false);
-        self.take_over()
-    }
-
-    /// Wakes the applications with LC as one of them, on at most so many workers, and tells whether no item was given.
-    #[inline(never)]
-    fn step_watched<R: Threads + Sync, G: Gate>(
-        &mut self,
-        rt: &R,
-        gate: &G,
-        counters: &[Counter],
-        workers: u32,
-    ) -> bool
-        requires workers { 0 < workers }
-        requires there { self.old.lc.there ≡ true }
-        requires time { self.old.epoch + self.old.number < 4294967296 }
-        requires clear { IsClear self.old }
-        requires ready { IsReady self.old }
-        ensures steps { Steps counters.now self.old self.new }
-        ensures can_send { CanSend self.new }
-        ensures few { length self.new.hs.out.items ≤ MOST_ITEMS }
-        ensures ready { IsReady self.new }
-        ensures none { result ≡ true → joined (items_in self.new) ≡ [] }
-    {
-        self.wake(rt, gate, counters, workers, true);
+        self.wake(rt, gate, counters, workers);
         let none = self.take_over();
-        none & self.lc.take_over(&mut self.crew)
+        if !self.lc.there {
+            return Yield::unless(none);
+        }
+        Yield::unless(none & self.lc.take_over(&mut self.crew))
     }
 
-    /// Wakes the applications, each as a job of the crew, on at most so many workers: LC as the last, where it is watching.
+    /// Wakes the applications, each as a job of the crew, on at most so many workers: LC as the last, where it is there.
     #[inline(always)]
     fn wake<R: Threads + Sync, G: Gate>(
         &mut self,
@@ -166,10 +140,8 @@ impl<'f> Bench<'f> {
         gate: &G,
         counters: &[Counter],
         workers: u32,
-        watched: bool,
     )
         requires workers { 0 < workers }
-        requires watched { self.old.bus.watched ≡ watched }
         requires time { self.old.epoch + self.old.number < 4294967296 }
         requires ready { IsReady self.old }
         ensures { AreWoken counters.now self.old self.new }
@@ -194,7 +166,7 @@ impl<'f> Bench<'f> {
             lc,
             reads,
         };
-        wake_all(&mut self.crew, rt, workers, gate, &scene, watched);
+        wake_all(&mut self.crew, rt, workers, gate, &scene, lc.there);
     }
 
     /// Takes over what the jobs left but LC's, in the order of the applications, and tells whether no item was given.
@@ -206,7 +178,7 @@ impl<'f> Bench<'f> {
         ensures lc { self.new.lc ≡ self.old.lc }
         ensures last { (left : Left) → slice_index_or self.new.crew.results 5 left ≡ slice_index_or self.old.crew.results 5 left }
         ensures count { length self.new.crew.results ≡ length self.old.crew.results }
-        ensures none { result ≡ true → joined (items_in self.new) ≡ [] }
+        ensures none { result ≡ true → joined (given_in self.new) ≡ [] }
     {
         let hs = self.hs.take_over(&mut self.crew, 0);
         let cs = self.cs.take_over(&mut self.crew, 1);

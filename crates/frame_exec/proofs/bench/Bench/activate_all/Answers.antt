@@ -2,11 +2,11 @@ use Rattle.std.proofs.Common.{ℕ, List, [], ◌∷◌, take, get_or, refl, sym,
 use Rattle.std.proofs.lemmas.List.{get_or_default, length-take}
 use Rattle.histories.proofs.Fronts.{front_more}
 use Rattle.frame_exec.specs.Stages.{Activates}
-use Rattle.frame_exec.proofs.Naming.{activates_none, activates_more, ready_told}
+use Rattle.frame_exec.proofs.Naming.{activates_none, activates_more}
 use Rattle.frame_exec.proofs.bench.Bench.activate_all.Goals as goal
 
 pub files-init : goal.files-init
-files-init c = record { named = activates_none c.args.self.now c.clear.new.self _ _ _ _ c.clear.ensures.none; ready = ready_told c.args.self.now c.clear.new.self _ _ _ _ c.requires.ready }
+files-init c = record { named = activates_none c.args.self.now c.requires.none; ready = c.requires.ready }
 
 pub name_file-requires-clause-room : goal.name_file-requires-clause-room
 name_file-requires-clause-room c =

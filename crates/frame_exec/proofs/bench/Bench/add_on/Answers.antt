@@ -12,79 +12,79 @@ use Rattle.frame_runs.proofs.Frames.{lines_are}
 use Rattle.frame_exec.proofs.Behind.{follows_next, cut_added, told_added}
 use Rattle.frame_exec.proofs.bench.Bench.add_on.Goals as goal
 
-pub run-silent-requires-clause-time : goal.run-silent-requires-clause-time
-run-silent-requires-clause-time g c = λ _ _.
+pub run-lines-requires-clause-time : goal.run-lines-requires-clause-time
+run-lines-requires-clause-time g c = λ _ _.
     let s = c.requires.started in
     let fits = time_fits c.args.self.now s.0 (s.1 ++ s.2) c.args.input.now s.3.epoch s.3.has s.4 in
     omega (arith, fits)
 
-pub run-silent-requires-clause-upsets : goal.run-silent-requires-clause-upsets
-run-silent-requires-clause-upsets g c = λ _ _. let s = c.requires.started in upsets_mapped c.args.self.now s.0 (s.1 ++ s.2) c.args.input.now s.3.has s.4
+pub run-lines-requires-clause-upsets : goal.run-lines-requires-clause-upsets
+run-lines-requires-clause-upsets g c = λ _ _. let s = c.requires.started in upsets_mapped c.args.self.now s.0 (s.1 ++ s.2) c.args.input.now s.3.has s.4
 
 pub add_lines-requires : goal.add_lines-requires
 add_lines-requires g c =
     let s = c.requires.started in
     let fits = time_fits c.args.self.now s.0 (s.1 ++ s.2) c.args.input.now s.3.epoch s.3.has s.4 in
-    let same = c.run-silent.ensures.run.number in
-    record { number = omega (arith, fits, same); silent = c.run-silent.ensures.silent }
+    let same = c.run-lines.ensures.run.number in
+    record { number = omega (arith, fits, same); silent = c.run-lines.ensures.silent }
 
 pub land-requires-clause-number : goal.land-requires-clause-number
 land-requires-clause-number g c =
     let s = c.requires.started in
     let fits = time_fits c.args.self.now s.0 (s.1 ++ s.2) c.args.input.now s.3.epoch s.3.has s.4 in
-    let number = c.in-Ok.ensures.same.number ∙ c.run-silent.ensures.run.number in
+    let number = c.in-Ok.ensures.same.number ∙ c.run-lines.ensures.run.number in
     λ _ _. omega (arith, fits, number)
 
 pub land-requires-clause-can_land : goal.land-requires-clause-can_land
-land-requires-clause-can_land g c = λ _ _. can_land_still c.run-silent.new.self c.add_lines.new.self c.in-Ok.ensures.same c.run-silent.ensures.can_land
+land-requires-clause-can_land g c = λ _ _. can_land_still c.run-lines.new.self c.add_lines.new.self c.in-Ok.ensures.same c.run-lines.ensures.can_land
 
 pub go_on-requires-clause-time : goal.go_on-requires-clause-time
 go_on-requires-clause-time g c =
     let s = c.requires.started in
     let fits = time_fits c.args.self.now s.0 (s.1 ++ s.2) c.args.input.now s.3.epoch s.3.has s.4 in
     let same = c.in-Ok.ensures.same in
-    let epoch = c.land.ensures.epoch ∙ same.epoch ∙ c.run-silent.ensures.run.epoch in
-    let number = c.land.ensures.number ∙ ap (λ (n : ℕ). n + 1) (same.number ∙ c.run-silent.ensures.run.number) in
+    let epoch = c.land.ensures.epoch ∙ same.epoch ∙ c.run-lines.ensures.run.epoch in
+    let number = c.land.ensures.number ∙ ap (λ (n : ℕ). n + 1) (same.number ∙ c.run-lines.ensures.run.number) in
     omega (arith, fits, epoch, number)
 
 pub go_on-requires-clause-ready : goal.go_on-requires-clause-ready
 go_on-requires-clause-ready g c =
     let s = c.requires.started in
-    ready_next c.run-silent.new.self c.add_lines.new.self c.land.new.self s.0 (s.1 ++ s.2) c.args.input.now c.in-Ok.ensures.same c.land.ensures c.run-silent.ensures.ready
+    ready_next c.run-lines.new.self c.add_lines.new.self c.land.new.self s.0 (s.1 ++ s.2) c.args.input.now c.in-Ok.ensures.same c.land.ensures c.run-lines.ensures.ready
 
 pub returns-in-Ok-clause-follows : goal.returns-in-Ok-clause-follows
 returns-in-Ok-clause-follows g c = λ setup earlier later follows.
-    let run = c.run-silent.ensures.run in
+    let run = c.run-lines.ensures.run in
     let same = c.in-Ok.ensures.same in
-    let r = c.run-silent.ensures.runs setup (run_of setup (earlier ++ later)) follows.epoch follows.files follows.has in
+    let r = c.run-lines.ensures.runs setup (run_of setup (earlier ++ later)) follows.epoch follows.files follows.has in
     let frame = with_counters c.args.counters.now c.args.input.now in
-    let lines = lines_are setup (earlier ++ later) frame c.run-silent.new.self.number _ c.run-silent.new.self.drops.items (run.number ∙ follows.has.number) r.sent r.drops in
+    let lines = lines_are setup (earlier ++ later) frame c.run-lines.new.self.number _ c.run-lines.new.self.drops.items (run.number ∙ follows.has.number) r.sent r.drops in
     let goes = c.go_on.ensures.anew.goes in
-    follows_next c.go_on.new.self setup earlier later frame _ c.run-silent.new.self.block c.add_lines.new.self.block _ _
+    follows_next c.go_on.new.self setup earlier later frame _ c.run-lines.new.self.block c.add_lines.new.self.block _ _
     (goes.epoch ∙ c.land.ensures.epoch ∙ same.epoch ∙ run.epoch ∙ follows.epoch) (goes.files ∙ ap (λ (t : Loaded). t.files) (c.land.ensures.tables ∙ same.tables) ∙ run.files ∙ follows.files) (goes.failed ∙ c.land.ensures.failed ∙ same.failed ∙ run.failed ∙ follows.well)
-    (has_next c.run-silent.new.self c.add_lines.new.self c.land.new.self setup (earlier ++ later) frame same c.land.ensures c.go_on.new.self c.go_on.ensures.anew (run.epoch ∙ follows.epoch) (run.files ∙ follows.files) (run.number ∙ follows.has.number) r)
+    (has_next c.run-lines.new.self c.add_lines.new.self c.land.new.self setup (earlier ++ later) frame same c.land.ensures c.go_on.new.self c.go_on.ensures.anew (run.epoch ∙ follows.epoch) (run.files ∙ follows.files) (run.number ∙ follows.has.number) r)
     c.go_on.ensures.ready
     (goes.waits ∙ c.land.ensures.waits) lines
     (subst (Notes (ends_from 0 (lines_behind setup earlier later)) (length (joined (lines_behind setup earlier later)))) (sym run.waits) follows.notes) c.in-Ok.ensures.adds
 
 pub returns-in-Ok-clause-told : goal.returns-in-Ok-clause-told
 returns-in-Ok-clause-told g c = λ setup earlier later follows.
-    let r = c.run-silent.ensures.runs setup (run_of setup (earlier ++ later)) follows.epoch follows.files follows.has in
+    let r = c.run-lines.ensures.runs setup (run_of setup (earlier ++ later)) follows.epoch follows.files follows.has in
     let frame = with_counters c.args.counters.now c.args.input.now in
-    let lines = lines_are setup (earlier ++ later) frame c.run-silent.new.self.number _ c.run-silent.new.self.drops.items (c.run-silent.ensures.run.number ∙ follows.has.number) r.sent r.drops in
-    told_added _ _ c.args.self.now.block c.run-silent.new.self.block c.add_lines.new.self.block c.go_on.new.self.block _ _ lines c.run-silent.ensures.run.waits (c.go_on.ensures.anew.goes.waits ∙ c.land.ensures.waits) c.in-Ok.ensures.adds
+    let lines = lines_are setup (earlier ++ later) frame c.run-lines.new.self.number _ c.run-lines.new.self.drops.items (c.run-lines.ensures.run.number ∙ follows.has.number) r.sent r.drops in
+    told_added _ _ c.args.self.now.block c.run-lines.new.self.block c.add_lines.new.self.block c.go_on.new.self.block _ _ lines c.run-lines.ensures.run.waits (c.go_on.ensures.anew.goes.waits ∙ c.land.ensures.waits) c.in-Ok.ensures.adds
 
 pub returns-in-Err-clause-cut : goal.returns-in-Err-clause-cut
 returns-in-Err-clause-cut g c = λ setup earlier later follows.
-    let r = c.run-silent.ensures.runs setup (run_of setup (earlier ++ later)) follows.epoch follows.files follows.has in
+    let r = c.run-lines.ensures.runs setup (run_of setup (earlier ++ later)) follows.epoch follows.files follows.has in
     let frame = with_counters c.args.counters.now c.args.input.now in
-    let lines = lines_are setup (earlier ++ later) frame c.run-silent.new.self.number _ c.run-silent.new.self.drops.items (c.run-silent.ensures.run.number ∙ follows.has.number) r.sent r.drops in
-    cut_added {E = Failed} c.in-Err.field-0 setup earlier later frame (lines_in c.run-silent.new.self) c.args.self.now.block c.add_lines.new.self.block (g.O.Sink.held c.args.sink.now) (g.O.Sink.held c.add_lines.new.sink) c.cut.result.late
+    let lines = lines_are setup (earlier ++ later) frame c.run-lines.new.self.number _ c.run-lines.new.self.drops.items (c.run-lines.ensures.run.number ∙ follows.has.number) r.sent r.drops in
+    cut_added {E = Failed} c.in-Err.field-0 setup earlier later frame (lines_in c.run-lines.new.self) c.args.self.now.block c.add_lines.new.self.block (g.O.Sink.held c.args.sink.now) (g.O.Sink.held c.add_lines.new.sink) c.cut.result.late
     lines follows.notes
-    (subst (λ (block : Waiting). Adds {E = Failed} (Err c.in-Err.field-0) (lines_in c.run-silent.new.self) block c.add_lines.new.self.block (g.O.Sink.held c.args.sink.now) (g.O.Sink.held c.add_lines.new.sink)) c.run-silent.ensures.run.waits c.in-Err.ensures.adds)
+    (subst (λ (block : Waiting). Adds {E = Failed} (Err c.in-Err.field-0) (lines_in c.run-lines.new.self) block c.add_lines.new.self.block (g.O.Sink.held c.args.sink.now) (g.O.Sink.held c.add_lines.new.sink)) c.run-lines.ensures.run.waits c.in-Err.ensures.adds)
     c.cut.ensures.late
 
 pub returns-in-Ok-clause-given : goal.returns-in-Ok-clause-given
 returns-in-Ok-clause-given g c = λ setup earlier later follows.
-    has_given c.run-silent.new.self c.add_lines.new.self c.land.new.self c.go_on.new.self setup (earlier ++ later) (with_counters c.args.counters.now c.args.input.now) c.in-Ok.ensures.same c.land.ensures c.go_on.ensures.anew
-    (c.run-silent.ensures.runs setup (run_of setup (earlier ++ later)) follows.epoch follows.files follows.has)
+    has_given c.run-lines.new.self c.add_lines.new.self c.land.new.self c.go_on.new.self setup (earlier ++ later) (with_counters c.args.counters.now c.args.input.now) c.in-Ok.ensures.same c.land.ensures c.go_on.ensures.anew
+    (c.run-lines.ensures.runs setup (run_of setup (earlier ++ later)) follows.epoch follows.files follows.has)

@@ -8,56 +8,56 @@ use Rattle.frame_exec.proofs.Frames.{has_next, ready_next, can_land_still, upset
 use Rattle.frame_runs.proofs.Frames.{activated_image, lines_are}
 use Rattle.frame_exec.proofs.bench.Bench.frame_on.Goals as goal
 
-pub run-silent-requires-clause-time : goal.run-silent-requires-clause-time
-run-silent-requires-clause-time g c = λ _ _.
+pub run-lines-requires-clause-time : goal.run-lines-requires-clause-time
+run-lines-requires-clause-time g c = λ _ _.
     let s = c.requires.started in
     let fits = time_fits c.args.self.now s.0 s.1 c.args.input.now s.2.epoch s.2.has s.3 in
     omega (arith, fits)
 
-pub run-silent-requires-clause-upsets : goal.run-silent-requires-clause-upsets
-run-silent-requires-clause-upsets g c = λ _ _. let s = c.requires.started in upsets_mapped c.args.self.now s.0 s.1 c.args.input.now s.2.has s.3
+pub run-lines-requires-clause-upsets : goal.run-lines-requires-clause-upsets
+run-lines-requires-clause-upsets g c = λ _ _. let s = c.requires.started in upsets_mapped c.args.self.now s.0 s.1 c.args.input.now s.2.has s.3
 
 pub write-requires : goal.write-requires
 write-requires g c =
     let s = c.requires.started in
     let fits = time_fits c.args.self.now s.0 s.1 c.args.input.now s.2.epoch s.2.has s.3 in
-    let same = c.run-silent.ensures.run.number in
-    record { number = omega (arith, fits, same); none = c.run-silent.ensures.run.waits ∙ s.2.waits; silent = c.run-silent.ensures.silent }
+    let same = c.run-lines.ensures.run.number in
+    record { number = omega (arith, fits, same); none = c.run-lines.ensures.run.waits ∙ s.2.waits; silent = c.run-lines.ensures.silent }
 
 pub land-requires-clause-number : goal.land-requires-clause-number
 land-requires-clause-number g c =
     let s = c.requires.started in
     let fits = time_fits c.args.self.now s.0 s.1 c.args.input.now s.2.epoch s.2.has s.3 in
-    let number = c.in-Ok.ensures.same.number ∙ c.run-silent.ensures.run.number in
+    let number = c.in-Ok.ensures.same.number ∙ c.run-lines.ensures.run.number in
     λ _ _. omega (arith, fits, number)
 
 pub land-requires-clause-can_land : goal.land-requires-clause-can_land
-land-requires-clause-can_land g c = λ _ _. can_land_still c.run-silent.new.self c.write.new.self c.in-Ok.ensures.same c.run-silent.ensures.can_land
+land-requires-clause-can_land g c = λ _ _. can_land_still c.run-lines.new.self c.write.new.self c.in-Ok.ensures.same c.run-lines.ensures.can_land
 
 pub go_on-requires-clause-time : goal.go_on-requires-clause-time
 go_on-requires-clause-time g c =
     let s = c.requires.started in
     let fits = time_fits c.args.self.now s.0 s.1 c.args.input.now s.2.epoch s.2.has s.3 in
     let same = c.in-Ok.ensures.same in
-    let epoch = c.land.ensures.epoch ∙ same.epoch ∙ c.run-silent.ensures.run.epoch in
-    let number = c.land.ensures.number ∙ ap (λ (n : ℕ). n + 1) (same.number ∙ c.run-silent.ensures.run.number) in
+    let epoch = c.land.ensures.epoch ∙ same.epoch ∙ c.run-lines.ensures.run.epoch in
+    let number = c.land.ensures.number ∙ ap (λ (n : ℕ). n + 1) (same.number ∙ c.run-lines.ensures.run.number) in
     omega (arith, fits, epoch, number)
 
 pub go_on-requires-clause-ready : goal.go_on-requires-clause-ready
 go_on-requires-clause-ready g c =
     let s = c.requires.started in
-    ready_next c.run-silent.new.self c.write.new.self c.land.new.self s.0 s.1 c.args.input.now c.in-Ok.ensures.same c.land.ensures c.run-silent.ensures.ready
+    ready_next c.run-lines.new.self c.write.new.self c.land.new.self s.0 s.1 c.args.input.now c.in-Ok.ensures.same c.land.ensures c.run-lines.ensures.ready
 
 pub returns-in-Ok-clause-lines : goal.returns-in-Ok-clause-lines
 returns-in-Ok-clause-lines g c = λ setup frames stands.
-    let r = c.run-silent.ensures.runs setup (run_of setup frames) stands.epoch stands.files stands.has in
+    let r = c.run-lines.ensures.runs setup (run_of setup frames) stands.epoch stands.files stands.has in
     let frame = with_counters c.args.counters.now c.args.input.now in
-    let lines = lines_are setup frames frame c.run-silent.new.self.number _ c.run-silent.new.self.drops.items (c.run-silent.ensures.run.number ∙ stands.has.number) r.sent r.drops in
+    let lines = lines_are setup frames frame c.run-lines.new.self.number _ c.run-lines.new.self.drops.items (c.run-lines.ensures.run.number ∙ stands.has.number) r.sent r.drops in
     told_map c.in-Ok.ensures.content (λ before after written. written ∙ ap (λ (bytes : List ℕ). before ++ bytes) lines)
 
 pub returns-in-Ok-clause-stands : goal.returns-in-Ok-clause-stands
 returns-in-Ok-clause-stands g c = λ setup frames stands.
-    let run = c.run-silent.ensures.run in
+    let run = c.run-lines.ensures.run in
     let same = c.in-Ok.ensures.same in
     let goes = c.go_on.ensures.anew.goes in
     record {
@@ -65,22 +65,22 @@ returns-in-Ok-clause-stands g c = λ setup frames stands.
       files = goes.files ∙ ap (λ (t : Loaded). t.files) (c.land.ensures.tables ∙ same.tables) ∙ run.files ∙ stands.files;
       well = goes.failed ∙ c.land.ensures.failed ∙ same.failed ∙ run.failed ∙ stands.well;
       waits = goes.waits ∙ c.land.ensures.waits ∙ c.in-Ok.ensures.handed;
-      has = has_next c.run-silent.new.self c.write.new.self c.land.new.self setup frames (with_counters c.args.counters.now c.args.input.now) same c.land.ensures c.go_on.new.self c.go_on.ensures.anew (run.epoch ∙ stands.epoch) (run.files ∙ stands.files) (run.number ∙ stands.has.number)
-          (c.run-silent.ensures.runs setup (run_of setup frames) stands.epoch stands.files stands.has);
+      has = has_next c.run-lines.new.self c.write.new.self c.land.new.self setup frames (with_counters c.args.counters.now c.args.input.now) same c.land.ensures c.go_on.new.self c.go_on.ensures.anew (run.epoch ∙ stands.epoch) (run.files ∙ stands.files) (run.number ∙ stands.has.number)
+          (c.run-lines.ensures.runs setup (run_of setup frames) stands.epoch stands.files stands.has);
       ready = c.go_on.ensures.ready;
     }
 
 pub returns-in-Err-clause-interrupted : goal.returns-in-Err-clause-interrupted
-returns-in-Err-clause-interrupted g c = λ setup frames stands. record { memory = c.in-Err.ensures.same.memory ∙ (c.run-silent.ensures.runs setup (run_of setup frames) stands.epoch stands.files stands.has).memory ∙ activated_image setup (run_of setup frames) (with_counters c.args.counters.now c.args.input.now) }
+returns-in-Err-clause-interrupted g c = λ setup frames stands. record { memory = c.in-Err.ensures.same.memory ∙ (c.run-lines.ensures.runs setup (run_of setup frames) stands.epoch stands.files stands.has).memory ∙ activated_image setup (run_of setup frames) (with_counters c.args.counters.now c.args.input.now) }
 
 pub returns-in-Err-clause-lines : goal.returns-in-Err-clause-lines
 returns-in-Err-clause-lines g c = λ setup frames stands.
-    let r = c.run-silent.ensures.runs setup (run_of setup frames) stands.epoch stands.files stands.has in
+    let r = c.run-lines.ensures.runs setup (run_of setup frames) stands.epoch stands.files stands.has in
     let frame = with_counters c.args.counters.now c.args.input.now in
-    let lines = lines_are setup frames frame c.run-silent.new.self.number _ c.run-silent.new.self.drops.items (c.run-silent.ensures.run.number ∙ stands.has.number) r.sent r.drops in
+    let lines = lines_are setup frames frame c.run-lines.new.self.number _ c.run-lines.new.self.drops.items (c.run-lines.ensures.run.number ∙ stands.has.number) r.sent r.drops in
     told_map c.in-Err.ensures.content (λ before after part. subst (λ (bytes : List ℕ). AppendsPart bytes before after) lines part)
 
 pub returns-in-Ok-clause-given : goal.returns-in-Ok-clause-given
 returns-in-Ok-clause-given g c = λ setup frames stands.
-    has_given c.run-silent.new.self c.write.new.self c.land.new.self c.go_on.new.self setup frames (with_counters c.args.counters.now c.args.input.now) c.in-Ok.ensures.same c.land.ensures c.go_on.ensures.anew
-    (c.run-silent.ensures.runs setup (run_of setup frames) stands.epoch stands.files stands.has)
+    has_given c.run-lines.new.self c.write.new.self c.land.new.self c.go_on.new.self setup frames (with_counters c.args.counters.now c.args.input.now) c.in-Ok.ensures.same c.land.ensures c.go_on.ensures.anew
+    (c.run-lines.ensures.runs setup (run_of setup frames) stands.epoch stands.files stands.has)

@@ -1,4 +1,5 @@
-use Rattle.std.proofs.Common.{◌≡◌, ◌==◌, ℕ, List, [], ◌++◌, length, refl, sym, ◌∙◌, ap, subst, append-nil}
+use Rattle.std.proofs.Common.{◌≡◌, ◌==◌, true, ℕ, List, [], ◌∷◌, ◌++◌, arith, length, refl, sym, ◌∙◌, ap, subst, append-nil}
+use Rattle.std.proofs.lemmas.Bool.Decides.{nat_tests}
 use Rattle.std.specs.List.{flat_map, list_any}
 use Rattle.bus_pipes.specs.Delivery.{after_offers, drops_from}
 use Rattle.bus_pipes.specs.declared.names.Out.{Out}
@@ -6,19 +7,24 @@ use Rattle.bus_pipes.proofs.Deliveries.{after_offers_none, drops_none}
 use Rattle.packet_log.specs.Sent.{makes}
 use Rattle.packet_log.specs.Standing.{Stands as LogStands}
 use Rattle.frame_wires.specs.Sending.{packet_in, is_reset, sent_of}
-use Rattle.frame_exec.specs.Stages.{items_in}
+use Rattle.frame_exec.specs.Stages.{items_in, given_in}
 use Rattle.app_suite.specs.Wakes.{joined}
 use Rattle.frame_wires.proofs.Offers.{offers_nothing}
 use Rattle.frame_wires.proofs.Stamping.{sent_none}
 use Rattle.frame_exec.proofs.bench.Bench.send.Goals as goal
 
+-- nothing was told, and no application gave anything
+nothing_in : (told : List Out) (given : List (List Out)) → true ≡ (length told == 0) → joined given ≡ [] → joined (told ∷ given) ≡ []
+nothing_in [] given none gave = gave
+nothing_in (item ∷ told) given none gave = absurd (grind (arith, nat_tests))
+
 -- neither the frame nor an application gave anything
-pub returns-then-is_empty-clause-sends : goal.returns-then-is_empty-clause-sends
-returns-then-is_empty-clause-sends c =
+pub returns-then-is_empty-2-clause-sends : goal.returns-then-is_empty-2-clause-sends
+returns-then-is_empty-2-clause-sends c =
     let old = c.args.self.now in
-    let none : joined (items_in old) ≡ [] = c.requires.none c.if-none.true in
+    let none : joined (items_in old) ≡ [] = nothing_in old.activations.items (given_in old) (sym c.if-is_empty.true ∙ c.is_empty.ensures) (c.requires.none (c.is_nothing.ensures c.if-is_nothing.true)) in
     let offered : c.args.input.now.sends ++ flat_map packet_in (joined (items_in old)) ≡ [] =
-    offers_nothing c.args.input.now.sends (joined (items_in old)) (c.if-is_empty.ensures ∙ ap (λ (packets : List (List ℕ)). length packets == 0) c.sends.ensures.value) none in
+    offers_nothing c.args.input.now.sends (joined (items_in old)) (c.if-is_empty-2.ensures ∙ ap (λ (packets : List (List ℕ)). length packets == 0) c.sends.ensures.value) none in
     record {
       run = record { waits = refl; epoch = refl; number = refl; failed = refl; tables = refl };
       apps = record { hs = refl; cs = refl; sc = refl; mm = refl; md = refl; lc = refl };

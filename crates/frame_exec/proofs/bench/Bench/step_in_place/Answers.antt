@@ -1,5 +1,4 @@
 use Rattle.std.proofs.Common.{◌+◌, [], ◌∙◌, ap, refl, sym, subst}
-use Rattle.hs_monitors.specs.declared.step.TheConstants.{MOST_ITEMS as hs_most}
 use Rattle.memory_window.specs.Memory.{Memory, regions_of}
 use Rattle.memory_window.specs.Window.{seen}
 use Rattle.cs_slices.specs.Given.{SegmentsGiven}
@@ -58,7 +57,7 @@ returns-clause-can_send g c =
     let b = c.args.self.now in
     let left = operates (loads_in b) b.mm.held (b.epoch + b.number) b.mm.commands (seen c.window.result) c.wake_in_place-mm.new.beside c.wake_in_place-mm.ensures.held c.wake_in_place-mm.ensures.fills in
     record {
-      hs = c.wake_in_place-hs.ensures.sendable.counted;
+      hs = c.wake_in_place-hs.ensures.sendable;
       cs = c.wake_in_place-cs.ensures.sendable;
       sc = c.wake_in_place-sc.ensures.sendable;
       mm = c.wake_in_place-mm.ensures.sendable;
@@ -66,9 +65,6 @@ returns-clause-can_send g c =
       lc = c.wake_in_place-lc.ensures.sendable;
       operations = subst (λ (m : Memory). CanLand (loads_in b) m c.wake_in_place-mm.new.beside) c.window.ensures.window left.can_land;
     }
-
-pub returns-clause-few : goal.returns-clause-few
-returns-clause-few g c = c.wake_in_place-hs.ensures.sendable.few
 
 pub returns-clause-ready : goal.returns-clause-ready
 returns-clause-ready g c = record {
@@ -78,8 +74,8 @@ returns-clause-ready g c = record {
 }
 
 pub returns-clause-none : goal.returns-clause-none
-returns-clause-none g c =
-    six_gave_none _ _ _ _ _ _ _ _ _ _ _ _ c.wake_in_place-hs.ensures.none c.wake_in_place-cs.ensures.none c.wake_in_place-sc.ensures.none c.wake_in_place-mm.ensures.none c.wake_in_place-md.ensures.none c.wake_in_place-lc.ensures.none
+returns-clause-none g c = λ nothing.
+    six_gave_none _ _ _ _ _ _ _ _ _ _ _ _ c.wake_in_place-hs.ensures.none c.wake_in_place-cs.ensures.none c.wake_in_place-sc.ensures.none c.wake_in_place-mm.ensures.none c.wake_in_place-md.ensures.none c.wake_in_place-lc.ensures.none (c.unless.ensures nothing)
 
 -- the crew wakes all: its bench is the same but for the proofs of its ghost facts
 pub returns-then-are_shared-clause-steps : goal.returns-then-are_shared-clause-steps
@@ -119,7 +115,7 @@ returns-then-all_rest-clause-can_send g c =
     let all = six_parts c.rests-hs_rests.result c.rests-cs_rests.result c.rests-sc_rests.result c.rests-mm_rests.result c.rests-md_rests.result c.rests-lc_rests.result c.if-all_rest.true in
     let left = operates (loads_in b) b.mm.held (b.epoch + b.number) b.mm.commands (seen c.window.result) b.ops.value (λ held. clear.operations) (λ here. c.rests-mm_rests.ensures.fills b.ops.value all.3 here clear.operations) in
     record {
-      hs = (none_sendable hs_most _ clear.hs).counted;
+      hs = none_sendable _ _ clear.hs;
       cs = none_sendable _ _ clear.cs;
       sc = none_sendable _ _ clear.sc;
       mm = none_sendable _ _ clear.mm;
@@ -127,9 +123,6 @@ returns-then-all_rest-clause-can_send g c =
       lc = none_sendable _ _ clear.lc;
       operations = subst (λ (m : Memory). CanLand (loads_in b) m b.ops.value) c.window.ensures.window left.can_land;
     }
-
-pub returns-then-all_rest-clause-few : goal.returns-then-all_rest-clause-few
-returns-then-all_rest-clause-few g c = (none_sendable hs_most _ c.requires.clear.hs).few
 
 pub returns-then-all_rest-clause-none : goal.returns-then-all_rest-clause-none
 returns-then-all_rest-clause-none g c =

@@ -1,11 +1,16 @@
 use Rattle.std.proofs.Common.{refl, ◌∙◌, ap}
 use Rattle.std.specs.Prelude.{Bool, not}
 use Rattle.bus_pipes.specs.Pipes.{Pipes}
+use Rattle.frame_exec.proofs.Frames.{ready_by}
 use Rattle.frame_exec.proofs.Waking.{left_is, taken_by}
 use Rattle.frame_exec.proofs.bench.Bench.take_all_but.Goals as goal
 
-pub returns : goal.returns
-returns c = λ held are.
+pub returns-clause-ready : goal.returns-clause-ready
+returns-clause-ready c = λ ready.
+    ready_by c.args.self.now _ refl refl (record { hs = c.take.ensures.state; cs = c.take-2.ensures.state; sc = c.take-3.ensures.state; mm = c.take-4.ensures.state; md = c.take-5.ensures.state; lc = c.take-6.ensures.state }) ready
+
+pub returns-clause-takes : goal.returns-clause-takes
+returns-clause-takes c = λ held are.
     let events = ap (λ (p : Pipes). p.hs_ev) c.take.ensures.pipes in
     let cs = ap (λ (p : Pipes). p.cs) c.take_unless.ensures.pipes ∙ ap (λ (p : Pipes). p.cs) c.take.ensures.pipes in
     let sc = ap (λ (p : Pipes). p.sc) c.take-2.ensures.pipes ∙ ap (λ (p : Pipes). p.sc) c.take_unless.ensures.pipes ∙ ap (λ (p : Pipes). p.sc) c.take.ensures.pipes in

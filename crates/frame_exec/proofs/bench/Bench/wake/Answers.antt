@@ -12,6 +12,9 @@ use Rattle.app_suite.specs.Jobs.{Gives, Operates, jobs_of}
 use Rattle.frame_exec.specs.Stages.{loads_in}
 use Rattle.frame_exec.proofs.bench.Bench.wake.Goals as goal
 
+pub wake_all-requires-clause-jobs : goal.wake_all-requires-clause-jobs
+wake_all-requires-clause-jobs g c = λ _ _. c.args.self.now.manned ∙ ap jobs_of (sym c.args.self.now.there)
+
 pub invariant_of-scene : goal.invariant_of-scene
 invariant_of-scene g c =
     let old = c.args.self.now in
@@ -33,7 +36,7 @@ returns g c =
       run = record { waits = refl; epoch = refl; number = refl; failed = refl; tables = refl };
       told = refl;
       slots = record { hs = refl; cs = refl; sc = refl; mm = refl; md = refl; lc = refl; operations = refl; pipes = refl; log = refl; memory = refl };
-      manned = c.wake_all.ensures.count ∙ ap jobs_of (sym c.requires.watched);
+      manned = c.wake_all.ensures.count ∙ ap jobs_of old.there;
       hs = all.hs;
       cs = λ left at. subst (λ (m : Memory). Gives (λ t. cs_tables old.tables.set ≡ cs_tables t.now) cs_stands cs_gives cs_most old.cs.held (cs_reads time old.cs.commands m) old.cs.state.value left.stays left.cs.value left.out.items) is
           (all.cs left at);
@@ -42,5 +45,5 @@ returns g c =
           × Operates (loads_in old) old.mm.held time old.mm.commands m left.ops.value) is (all.mm left at);
       md = λ left at. subst (λ (m : Memory). Gives {Setup = Active} (λ t. Unit {0}) md_stands md_gives md_most old.md.held (md_reads time old.md.commands m) old.md.state.value left.stays left.md.value left.out.items
           × AllGiven (regions_of m.areas) (next_of left.stays left.md.value old.md.state.value)) is (all.md left at);
-      lc = λ watched. all.lc (sym c.requires.watched ∙ watched);
+      lc = λ watched. all.lc (old.there ∙ watched);
     }
