@@ -1,5 +1,6 @@
 -- Items of a frame that a crowd obeys.
-use Rattle.std.proofs.Common.{◌≡◌, Bool, List, ◌∙◌, ap}
+use Rattle.std.proofs.Common.{◌≡◌, Bool, List, ◌∙◌, ap, Some, Result, Ok, Err}
+use Rattle.std.specs.Prelude.{OnOk}
 use Rattle.bus_pipes.specs.declared.names.Out.{Out}
 use Rattle.subjects.specs.Plans.{Simulated}
 use Rattle.subjects.specs.Crowds.{all_cycled}
@@ -18,3 +19,8 @@ obeyed_frame b setup frames frame old cycled now given once obeyed =
     let t = activated_at setup (run_of setup frames) frame in
     obeyed ∙ ap (λ (resets : Bool). behind_items resets (joined (items_in b)) cycled) given.resets ∙ ap (λ (items : List Out). behind_items (resets_at setup t frame) items cycled) given.items
     ∙ ap (behind_items (resets_at setup t frame) (sent_at setup t frame)) once
+
+-- there is a crowd still
+pub still_some : {A E : Type 0} (result : Result A E) (now then : List Simulated) → OnOk result (now ≡ then) → OnOk result (Some now ≡ Some then)
+still_some (Ok done) now then same = ap (λ (subjects : List Simulated). Some subjects) same
+still_some (Err e) now then same = tt

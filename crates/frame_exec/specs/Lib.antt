@@ -8,6 +8,7 @@ pub use Rattle.frame_runs.specs.Crowds
 pub use Rattle.frame_runs.specs.RunLaws
 pub mod Standing
 pub mod Following
+pub mod Beside
 pub mod Kinds
 pub mod Stages
 pub mod Opening

@@ -84,9 +84,10 @@ impl<'f> Bench<'f> {
     ghost use Rattle.scenario.specs.declared.frame.App.{App};
     ghost use Rattle.scenario.specs.FrameLists.{Frame};
     ghost use Rattle.frame_runs.specs.Runs.{Setup, State, activated_at, naming_at, frame_lines, log_of, run_of};
-    ghost use Rattle.frame_runs.specs.Crowds.{with_counters, beside, behind_items, crowd_after};
+    ghost use Rattle.frame_runs.specs.Crowds.{with_counters, beside, behind_items, crowd_after, frame_beside};
     ghost use Rattle.subjects.specs.Crowds.{counter_of, all_cycled};
     ghost use Rattle.frame_exec.specs.Standing.{Has, has_failed, waiting_in, AreMapped, IsReady, Stands, IsInterrupted, CanRun};
+    ghost use Rattle.frame_exec.specs.Beside.{crowd_in, crowd_then};
     ghost use Rattle.frame_exec.specs.Following.{Follows, IsCutAt, Adds};
     ghost use Rattle.app_suite.specs.Landable.{CanLand};
     ghost use Rattle.std.specs.List.{AllPass, list_any};
@@ -191,30 +192,54 @@ impl<'f> Bench<'f> {
         }
     }
 
-    /// Runs a frame, puts its lines behind those that wait, and lands its operations once all of them were put. Where they don't fit, what waits
-    /// is handed on first. Where that fails, the error says how many earlier frames weren't handed on whole.
-    pub fn add_frame<R: Threads + Sync, G: Gate, O: Sink>(
+    /// Runs a frame, beside a crowd where there is one, puts its lines behind those that wait, and lands its operations once all of them were
+    /// put. A crowd is cycled, gives the frame its execution counters, and obeys its items, as `frame_with` tells. Where the lines don't fit,
+    /// what waits is handed on first. Where that fails, the error says how many earlier frames weren't handed on whole.
+    pub fn add_frame<R: Threads + Sync, S: Subject + Send, G: Gate, O: Sink>(
         &mut self,
         rt: &R,
         input: &FrameInput,
+        crowd: &mut Option<Crowd<S>>,
         gate: &G,
         sink: &mut O,
     ) -> Result<(), Cut>
-        requires started { (setup : Setup) × (earlier : List Frame) × (later : List Frame) × Follows self.old setup earlier later × CanRun setup (earlier ++ later) input.now }
-        ensures follows { (setup : Setup) (earlier later : List Frame) → Follows self.old setup earlier later → OnOk result (Follows self.new setup earlier (later ++ input.now ∷ [])) }
-        ensures told { (setup : Setup) (earlier later : List Frame) → Follows self.old setup earlier later
-            → OnOk result (WhereTold (tells (O.held sink.old) (waiting_in self.old)) (tells (O.held sink.new) (waiting_in self.new)) (λ before after. after ≡ before ++ frame_lines setup (earlier ++ later) input.now)) }
-        ensures cut { (setup : Setup) (earlier later : List Frame) → Follows self.old setup earlier later
-            → IfErr result (λ cut. (cut.late ≤ length later) × WhereTold (tells (O.held sink.old) (waiting_in self.old)) (O.held sink.new) (λ before after. (start : List ℕ)
-            → before ≡ start ++ log_of setup (earlier ++ later) → IsCutAt setup ((earlier ++ later) ++ input.now ∷ []) (length (earlier ++ later) - cut.late) start after)) }
+        requires started { (setup : Setup) × (earlier : List Frame) × (later : List Frame)
+            × Follows self.old setup earlier later × CanRun setup (earlier ++ later) input.now }
+        ensures follows { (setup : Setup) (earlier later : List Frame)
+            → Follows self.old setup earlier later
+            → OnOk result (Follows self.new setup earlier
+            (later ++ frame_beside (crowd_in S.seen crowd.old) input.now ∷ [])) }
+        ensures told { (setup : Setup) (earlier later : List Frame)
+            → Follows self.old setup earlier later
+            → OnOk result (WhereTold (tells (O.held sink.old) (waiting_in self.old))
+            (tells (O.held sink.new) (waiting_in self.new)) (λ before after.
+            after ≡ before ++ frame_lines setup (earlier ++ later)
+            (frame_beside (crowd_in S.seen crowd.old) input.now))) }
+        ensures cut { (setup : Setup) (earlier later : List Frame)
+            → Follows self.old setup earlier later
+            → IfErr result (λ cut. (cut.late ≤ length later)
+            × WhereTold (tells (O.held sink.old) (waiting_in self.old)) (O.held sink.new)
+            (λ before after. (start : List ℕ)
+            → before ≡ start ++ log_of setup (earlier ++ later)
+            → IsCutAt setup ((earlier ++ later) ++ frame_beside (crowd_in S.seen crowd.old) input.now
+            ∷ []) (length (earlier ++ later) - cut.late) start after)) }
+        ensures crowd { (setup : Setup) (earlier later : List Frame)
+            → Follows self.old setup earlier later
+            → OnOk result (crowd_in S.seen crowd.new
+            ≡ crowd_then setup (earlier ++ later) (frame_beside (crowd_in S.seen crowd.old) input.now)
+            (crowd_in S.seen crowd.old)) }
         ensures cause { HasCause (O.held sink.new) (O.faults sink.old) (O.faults sink.new) result }
         ensures failed { has_failed self.new ≡ is_err result }
     {
-        self.add_on(rt, input, input.counters(), gate, sink)
+        match crowd {
+            None => self.add_on(rt, input, input.counters(), gate, sink),
+            Some(crowd) => self.add_beside(rt, input, crowd, gate, sink),
+        }
     }
 
-    /// Cycles a crowd, runs a frame on its readings as `frame_with` does, and puts its lines behind those that wait as `add_frame` does.
-    pub fn add_frame_with<R: Threads + Sync, S: Subject + Send, G: Gate, O: Sink>(
+    /// Adds a frame as `add_frame` does beside this crowd.
+    #[inline(always)]
+    fn add_beside<R: Threads + Sync, S: Subject + Send, G: Gate, O: Sink>(
         &mut self,
         rt: &R,
         input: &FrameInput,

@@ -7,7 +7,7 @@ use Rattle.scenario.specs.FrameLists.{Frame}
 use Rattle.frame_exec.specs.Runs.{Setup}
 use Rattle.frame_exec.specs.Crowds.{Course, beside, gone_on, course_of, frames_run, crowd_behind, frame_beside}
 use Rattle.frame_exec.specs.Standing.{CanRun}
-use Rattle.rehearsal.specs.Beside.{crowd_then}
+use Rattle.frame_exec.specs.Beside.{crowd_then}
 
 -- as many frames are run as there are
 course_length : (setup : Setup) (course : Course) (frames : List Frame) → length (fold (gone_on setup) course frames).frames ≡ length course.frames + length frames
@@ -74,8 +74,3 @@ crowd_none setup (Some subjects) = refl
 -- a further frame can be run as it stands here
 pub can_run_beside : (setup : Setup) (crowd : Option (List Simulated)) (frames : List Frame) (frame : Frame) → CanRun setup frames frame → CanRun setup (frames_run setup crowd frames) frame
 can_run_beside setup crowd frames frame can = record { time = rw (run_length setup crowd frames) can.time; upsets = can.upsets }
-
--- there is a crowd still
-pub still_some : {A E : Type 0} (result : Result A E) (now then : List Simulated) → OnOk result (now ≡ then) → OnOk result (Some now ≡ Some then)
-still_some (Ok done) now then same = ap (λ (subjects : List Simulated). Some subjects) same
-still_some (Err e) now then same = tt

@@ -16,7 +16,7 @@ use Rattle.frame_exec.specs.declared.bench.Bench.{Bench}
 use Rattle.rehearsal.specs.declared.report.Report.{Report}
 use Rattle.rehearsal.specs.declared.report.Status.TheVariants as statuses
 use Rattle.rehearsal.specs.Fed.{Fed}
-use Rattle.rehearsal.specs.Beside.{crowd_then}
+use Rattle.frame_exec.specs.Beside.{crowd_then}
 use Rattle.rehearsal.specs.Text.{Holds, IsRead, IsFedOn, StopsAt}
 use Rattle.rehearsal.specs.Outcome.{frames_of, setup_of, refused_read, frames_in, log_in, IsCut, Outcome, ReadsAhead}
 use Rattle.rehearsal.specs.Run.{Begins, IsCutShort, HandsOn}

@@ -8,7 +8,7 @@ ghost use Rattle.packet_log.specs.Summaries.{summary_text};
 ghost use Rattle.packet_log.specs.Logged.{logged};
 ghost use Rattle.scenario.specs.Drill.{drill_text};
 ghost use Rattle.frame_exec.specs.Tables.{AreLoaded};
-ghost use Rattle.rehearsal.specs.Beside.{crowd_in};
+ghost use Rattle.frame_exec.specs.Beside.{crowd_in};
 ghost use Rattle.rehearsal.specs.Drill.{unread_in};
 ghost use Rattle.rehearsal.specs.Outcome.{DrillOutcome, LeavesFrames};
 ghost use Rattle.rehearsal.specs.Run.{failed_at, Sums};

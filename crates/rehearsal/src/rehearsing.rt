@@ -4,7 +4,8 @@ ghost use Rattle.std.specs.Prelude.{◌≡◌, ◌≢◌, ℕ, ◌≤◌, ◌⊎
 ghost use Rattle.fsw_outside.specs.Told.{WhereTold};
 ghost use Rattle.rehearsal.specs.Words.{words_to_open};
 ghost use Rattle.rehearsal.specs.Files.{AsksFor};
-ghost use Rattle.rehearsal.specs.Beside.{crowd_for, crowd_in};
+ghost use Rattle.frame_exec.specs.Beside.{crowd_in};
+ghost use Rattle.rehearsal.specs.Beside.{crowd_for};
 ghost use Rattle.rehearsal.specs.Outcome.{HasCauses, Rehearses};
 ghost use Rattle.rehearsal.specs.Report.{error_line, Tells};
 ghost use Rattle.rehearsal.specs.Promise.{shelf_use, sink_use, seen_of, Promise};

@@ -1,29 +1,28 @@
 //! The run of one scenario, from its name to its report.
 
-ghost use Rattle.std.specs.Prelude.{◌≡◌, ◌≢◌, ℕ, ◌-◌, ◌<◌, ◌≤◌, ◌⊎◌, List, [], ◌∷◌, ◌++◌, length, IsTrue, OnOk, IfErr};
+ghost use Rattle.std.specs.Prelude.{◌≡◌, ◌≢◌, ℕ, ◌≤◌, List, ◌++◌, length, IsTrue};
 ghost use Rattle.fsw_outside.specs.Told.{WhereTold};
-ghost use Rattle.fsw_outside.specs.Causes.{HasCause, HasRisen};
+ghost use Rattle.fsw_outside.specs.Causes.{HasRisen};
 ghost use Rattle.fsw_outside.specs.Files.{Content, file_named};
 ghost use Rattle.packet_log.specs.Blocks.{tells};
 ghost use Rattle.scenario.specs.Texts.{Text, Given};
 ghost use Rattle.scenario.specs.FrameLists.{Frame};
-ghost use Rattle.frame_exec.specs.Runs.{Setup, frame_lines, log_of};
-ghost use Rattle.frame_exec.specs.Crowds.{frame_beside};
-ghost use Rattle.frame_exec.specs.Following.{Follows, IsCutAt};
-ghost use Rattle.frame_exec.specs.Standing.{CanRun, waiting_in};
+ghost use Rattle.frame_exec.specs.Runs.{Setup};
+ghost use Rattle.frame_exec.specs.Following.{Follows};
+ghost use Rattle.frame_exec.specs.Standing.{waiting_in};
+ghost use Rattle.frame_exec.specs.Beside.{crowd_in};
 ghost use Rattle.frame_exec.specs.Tables.{AreLoaded};
 ghost use Rattle.rehearsal.specs.Files.{OpensOnce};
 ghost use Rattle.rehearsal.specs.Text.{IsRead, Holds};
-ghost use Rattle.rehearsal.specs.Beside.{crowd_in, crowd_then};
 ghost use Rattle.rehearsal.specs.Outcome.{fault_report, HasCauses, IsText, IsTextOf, ReadsAhead, Outcome};
 ghost use Rattle.rehearsal.specs.Run.{Begins, HandsOn};
 
 use crate::report::{Report, Status};
 use crate::source::Source;
 use crate::text::{Feed, Next, fetch, next_item, read_on};
-use frame_exec::{Bench, Cut, OpenFault, Tables};
+use frame_exec::{Bench, OpenFault, Tables};
 use fsw_outside::{Gate, Shelf, Sink};
-use scenario::{FrameInput, Reader};
+use scenario::Reader;
 use std::alloc::Global;
 use std::thread::Threads;
 use subjects::{Crowd, Subject};
@@ -49,48 +48,6 @@ fn hand_on<O: Sink>(bench: &mut Bench<'_>, out: &mut O, report: Report) -> Repor
     match bench.flush(out) {
         Ok(()) => report,
         Err(cut) => Report::at(Status::WriteFailed, report.frames - cut.late),
-    }
-}
-
-/// Runs a frame, beside the crowd where there is one, and puts its lines behind those that wait.
-fn add_frame<R: Threads + Sync, C: Subject + Send, O: Sink, G: Gate>(
-    rt: &R,
-    bench: &mut Bench<'_>,
-    input: &FrameInput,
-    crowd: &mut Option<Crowd<C>>,
-    gate: &G,
-    out: &mut O,
-) -> Result<(), Cut>
-    requires started { (setup : Setup) × (earlier : List Frame) × (later : List Frame)
-        × Follows bench.old setup earlier later × CanRun setup (earlier ++ later) input.now }
-    ensures follows { (setup : Setup) (earlier later : List Frame)
-        → Follows bench.old setup earlier later
-        → OnOk result (Follows bench.new setup earlier
-        (later ++ frame_beside (crowd_in C.seen crowd.old) input.now ∷ [])) }
-    ensures told { (setup : Setup) (earlier later : List Frame)
-        → Follows bench.old setup earlier later
-        → OnOk result (WhereTold (tells (O.held out.old) (waiting_in bench.old))
-        (tells (O.held out.new) (waiting_in bench.new)) (λ before after.
-        after ≡ before ++ frame_lines setup (earlier ++ later)
-        (frame_beside (crowd_in C.seen crowd.old) input.now))) }
-    ensures cut { (setup : Setup) (earlier later : List Frame)
-        → Follows bench.old setup earlier later
-        → IfErr result (λ cut. (cut.late ≤ length later)
-        × WhereTold (tells (O.held out.old) (waiting_in bench.old)) (O.held out.new)
-        (λ before after. (start : List ℕ)
-        → before ≡ start ++ log_of setup (earlier ++ later)
-        → IsCutAt setup ((earlier ++ later) ++ frame_beside (crowd_in C.seen crowd.old) input.now
-        ∷ []) (length (earlier ++ later) - cut.late) start after)) }
-    ensures crowd { (setup : Setup) (earlier later : List Frame)
-        → Follows bench.old setup earlier later
-        → OnOk result (crowd_in C.seen crowd.new
-        ≡ crowd_then setup (earlier ++ later) (frame_beside (crowd_in C.seen crowd.old) input.now)
-        (crowd_in C.seen crowd.old)) }
-    ensures cause { HasCause (O.held out.new) (O.faults out.old) (O.faults out.new) result }
-{
-    match crowd {
-        None => bench.add_frame(rt, input, gate, out),
-        Some(crowd) => bench.add_frame_with(rt, input, crowd, gate, out),
     }
 }
 
@@ -128,7 +85,7 @@ pub fn run_frames<R: Threads + Sync, C: Subject + Send, S: Source, O: Sink, G: G
     'frames: loop {
         match next_item(reader, feed) {
             Next::Header => {}
-            Next::Frame => match add_frame(rt, bench, reader.frame(), crowd, gate, out) {
+            Next::Frame => match bench.add_frame(rt, reader.frame(), crowd, gate, out) {
                 Ok(()) => frames += 1,
                 Err(cut) => return Report::at(Status::WriteFailed, frames - cut.late),
             },

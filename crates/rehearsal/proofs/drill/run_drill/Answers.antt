@@ -1,6 +1,6 @@
 use Rattle.fsw_outside.specs.TellingLaws.{told_nothing, told_map}
 use Rattle.packet_log.specs.Logged.{logged}
-use Rattle.rehearsal.specs.Beside.{crowd_in}
+use Rattle.frame_exec.specs.Beside.{crowd_in}
 use Rattle.rehearsal.proofs.Drilled.{none_risen, ran, done_summed, never_refused, unread_summed, memory_summed, leaves_frames}
 use Rattle.rehearsal.proofs.drill.run_drill.Goals as goal
 

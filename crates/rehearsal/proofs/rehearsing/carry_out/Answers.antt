@@ -1,6 +1,6 @@
 use Rattle.std.proofs.Common.{◌<◌, ◌+◌, length, refl, sym, inl, arith}
 use Rattle.fsw_outside.specs.TellingLaws.{told_nothing, told_map, told_then, told_and}
-use Rattle.rehearsal.specs.Beside.{crowd_in}
+use Rattle.frame_exec.specs.Beside.{crowd_in}
 use Rattle.rehearsal.proofs.Beginnings.{some_faulty}
 use Rattle.rehearsal.proofs.Stages.{opens_front, opens_all, ends_before, ends_at_tables, reads_scenario, runs_drill, asked_or_none}
 use Rattle.rehearsal.proofs.rehearsing.carry_out.Goals as goal

@@ -13,7 +13,7 @@ use Rattle.rehearsal.specs.declared.report.Report.{Report}
 use Rattle.rehearsal.specs.Fed.{Fed}
 use Rattle.rehearsal.specs.Run.{IsCutShort}
 use Rattle.rehearsal.specs.Text.{IsRead, Holds}
-use Rattle.rehearsal.specs.Beside.{crowd_in}
+use Rattle.frame_exec.specs.Beside.{crowd_in}
 use Rattle.rehearsal.specs.Outcome.{frames_of, setup_of, frames_in, log_in}
 use Rattle.scenario.specs.TextLaws.{given_first}
 use Rattle.rehearsal.proofs.TextFacts.{no_later_head, can_run, few_frames}
@@ -75,7 +75,7 @@ returns-in-Err-clause-outcome g c = λ files text gave h b.
     (refused_append files i.1 (Whole f ∷ []) i.2.some ∙ i.2.given) (omega (arith, i.2.some, length-append i.1 (Whole f ∷ []))) first.1 closed are
     (subst (IsNear n.0 c.next_item.new.feed.pending (length i.2.earlier)) count near)
     (told_map i.4 (λ old new written. written ∙ ap (λ (log : List ℕ). old ++ log) (log_by files (crowd_in g.C.Subject.seen c.args.crowd.now) i.1 _ _ (sym setup) i.2.are)))
-    (subst (λ (s : Setup). IsCutShort c.at.result s (i.2.earlier ++ i.2.later) frames (length i.2.earlier) (tells (g.O.Sink.held c.frames.out) c.frames.bench.block) (g.O.Sink.held c.add_frame.new.out)) (sym setup) short) in (
+    (subst (λ (s : Setup). IsCutShort c.at.result s (i.2.earlier ++ i.2.later) frames (length i.2.earlier) (tells (g.O.Sink.held c.frames.out) c.frames.bench.block) (g.O.Sink.held c.add_frame.new.sink)) (sym setup) short) in (
       whole_of n.0 c.next_item.new.feed.pending end,
       text_of n.0 c.next_item.new.feed.pending start after (g.S.Source.faults c.args.source.now) (g.S.Source.faults c.frames.source) there,
       ends.0,

@@ -3,7 +3,7 @@ use Rattle.fsw_outside.specs.Told.{WhereTold}
 use Rattle.fsw_outside.specs.Files.{Content}
 use Rattle.packet_log.specs.Blocks.{tells}
 use Rattle.scenario.specs.Texts.{Text, Given}
-use Rattle.rehearsal.specs.Beside.{crowd_in}
+use Rattle.frame_exec.specs.Beside.{crowd_in}
 use Rattle.rehearsal.specs.Text.{IsRead, Holds, work_left}
 use Rattle.rehearsal.specs.Outcome.{log_in}
 use Rattle.rehearsal.specs.Run.{Begins}

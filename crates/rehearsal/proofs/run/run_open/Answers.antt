@@ -6,7 +6,7 @@ use Rattle.scenario.specs.TextLaws.{given_first}
 use Rattle.rehearsal.specs.Outcome.{IsTextOf}
 use Rattle.rehearsal.proofs.TextFacts.{no_first_frame}
 use Rattle.rehearsal.proofs.Endings.{not_open_at_end, not_open_at_bad}
-use Rattle.rehearsal.specs.Beside.{crowd_in}
+use Rattle.frame_exec.specs.Beside.{crowd_in}
 use Rattle.rehearsal.proofs.Outcomes.{whole_of, is_closed, text_of, closed_same, open_after, tells_some, reading_same, reading_whole, items_whole, refused_none, read_failed, done, refused_at}
 use Rattle.rehearsal.proofs.Beginnings.{unread, begins, read_none, no_frames, no_log, header_refuses, header_refuses_whole, not_opened, not_opened_ahead, out_of_memory, opened, header_is_there}
 use Rattle.rehearsal.proofs.Ahead.{ahead_by, bad_ahead, header_ahead, nothing_ahead}

@@ -2,7 +2,7 @@ use Rattle.std.proofs.Common.{Bool, [], sym, ap, refl}
 use Rattle.fsw_outside.specs.TellingLaws.{told_nothing}
 use Rattle.scenario.specs.Texts.{Reading}
 use Rattle.scenario.specs.Answers.{answer_at_end}
-use Rattle.rehearsal.specs.Beside.{crowd_in}
+use Rattle.frame_exec.specs.Beside.{crowd_in}
 use Rattle.rehearsal.proofs.Outcomes.{whole_of, is_closed, open_after, tells_some, reading_same, read_failed, refused_none}
 use Rattle.rehearsal.proofs.Beginnings.{unread, no_frames, no_log, nothing_reads, none_handed_out}
 use Rattle.rehearsal.proofs.Ahead.{ahead_by}

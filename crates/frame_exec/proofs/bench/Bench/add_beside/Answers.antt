@@ -7,7 +7,7 @@ use Rattle.frame_runs.specs.Crowds.{with_counters, beside}
 use Rattle.frame_exec.specs.Following.{Follows, IsCutAt}
 use Rattle.frame_exec.specs.Stages.{HasGiven}
 use Rattle.frame_exec.proofs.Obeying.{obeyed_frame}
-use Rattle.frame_exec.proofs.bench.Bench.add_frame_with.Goals as goal
+use Rattle.frame_exec.proofs.bench.Bench.add_beside.Goals as goal
 
 -- the readings of the crowd are the counters that the frame was run on
 pub returns-in-Ok-clause-follows : goal.returns-in-Ok-clause-follows
