@@ -7,5 +7,5 @@ mod sentences;
 mod vocabulary;
 
 pub use packets::show_packet;
-pub use sentences::show_line;
+pub use sentences::{push_time, show_line};
 pub use vocabulary::Vocabulary;

@@ -30,8 +30,8 @@ pub fn show_line(
     push_item(vocabulary, &line.item, out)
 }
 
-/// Appends when something happened.
-fn push_time(epoch: Option<u32>, frame: u32, out: &mut Vec<u8>) -> Result<(), AllocError>
+/// Appends when something happened, in seconds where the epoch is given and else as the frame's number.
+pub fn push_time(epoch: Option<u32>, frame: u32, out: &mut Vec<u8>) -> Result<(), AllocError>
     ensures { OnOk result (out.new.items ≡ out.old.items ++ time_words epoch frame) }
 {
     match epoch {
