@@ -16,7 +16,8 @@ use Rattle.lc_watch.specs.Verdicts.{lc_protocol}
 use Rattle.lc_watch.specs.Failing.{by_firing, fires_by, PointStands}
 use Rattle.lc_watch.specs.Histories.{Input, Setup, heard_at, ordered_at, switches_in, telemetry_of, evaluation_at, evaluations_of}
 use Rattle.lc_watch.specs.Firing.{starts_active, settings_of, is_active, fires, fired_at, fired_of, fired_count}
-use Rattle.lc_watch.specs.Step.{lc_heard, turn_of, lc_answers, items_at, lc_items}
+use Rattle.lc_watch.specs.Answers.{point_items}
+use Rattle.lc_watch.specs.Step.{lc_heard, turn_of, lc_answers, lc_items}
 use Rattle.lc_watch.specs.State.{point_at, StandsFor, is_idle_on}
 use Rattle.lc_watch.specs.declared.actionpoints.ActRow.{ActRow}
 use Rattle.lc_watch.specs.declared.instructions.Instruction.{Instruction}
@@ -67,36 +68,36 @@ module _ (setup : Setup) (history : List Input) (input : Input) (unused : uses_a
     pub idle_items : lc_items setup history input ≡ []
     unfolding lc_items
     idle_items =
-        ap (λ (heard : List (Verdict Instruction)). command_items lc_answers lc_name (turn_of setup history input) heard ++ flat_map (items_at input.time setup.actions) (fired_at setup history input)) none_heard
-        ∙ ap (λ (items : List Out). items ++ flat_map (items_at input.time setup.actions) (fired_at setup history input)) (no_answers lc_answers lc_name (turn_of setup history input))
-        ∙ ap (flat_map (items_at input.time setup.actions)) none_fired
+        ap (λ (heard : List (Verdict Instruction)). command_items lc_answers lc_name (turn_of setup history input) heard ++ flat_map (point_items input.time setup.actions) (fired_at setup history input)) none_heard
+        ∙ ap (λ (items : List Out). items ++ flat_map (point_items input.time setup.actions) (fired_at setup history input)) (no_answers lc_answers lc_name (turn_of setup history input))
+        ∙ ap (flat_map (point_items input.time setup.actions)) none_fired
 
     -- and what is kept stands
     idle_points : (k : ℕ) (lc : Lc) → StandsFor setup history lc → k < 16
-        → PointStands (starts_active (act_at setup.actions k)) (act_at setup.actions k).failures (evaluations_of setup k (history ++ input ∷ [])) (settings_of setup k (history ++ input ∷ []) ++ switches_in k []) (point_at lc.limits.points k)
+        → PointStands (starts_active (act_at setup.actions k)) (act_at setup.actions k).failures (evaluations_of setup k (history ++ input ∷ [])) (settings_of setup k (history ++ input ∷ []) ++ switches_in k []) (point_at lc.duty.points k)
     idle_points k lc stood within =
         let row = act_at setup.actions k in
         let start = starts_active row in
         let evaluations = evaluations_of setup k history in
         let settings = settings_of setup k history in
-        served_is setup history input k (point_at lc.limits.points k)
-        (subst (λ (o : Option Bool). PointStands start row.failures (evaluations ++ option_to_list o) ((settings ++ switches_in k (ordered_at setup input)) ++ by_firing (fires_by start row.failures evaluations (settings ++ switches_in k (ordered_at setup input)) o)) (point_at lc.limits.points k))
+        served_is setup history input k (point_at lc.duty.points k)
+        (subst (λ (o : Option Bool). PointStands start row.failures (evaluations ++ option_to_list o) ((settings ++ switches_in k (ordered_at setup input)) ++ by_firing (fires_by start row.failures evaluations (settings ++ switches_in k (ordered_at setup input)) o)) (point_at lc.duty.points k))
         (sym (unevaluated k))
-        (subst (λ (orders : List Instruction). PointStands start row.failures (evaluations ++ []) ((settings ++ switches_in k orders) ++ by_firing (fires_by start row.failures evaluations (settings ++ switches_in k orders) None)) (point_at lc.limits.points k))
+        (subst (λ (orders : List Instruction). PointStands start row.failures (evaluations ++ []) ((settings ++ switches_in k orders) ++ by_firing (fires_by start row.failures evaluations (settings ++ switches_in k orders) None)) (point_at lc.duty.points k))
         (sym none_ordered)
-        (unseen_stands start row.failures evaluations (settings ++ []) (point_at lc.limits.points k) (stood.limits.points.each k within))))
+        (unseen_stands start row.failures evaluations (settings ++ []) (point_at lc.duty.points k) (stood.duty.points.each k within))))
 
     pub idle_stands : (lc : Lc) → input.seen ≡ [] → StandsFor setup history lc → StandsFor setup (history ++ input ∷ []) lc
     unfolding lc_heard fired_count
     idle_stands lc unseen stood = record {
       counts = stood.counts ∙ ap counts_of (sym (heard_idle lc_protocol (λ (earlier : List Input) (i : Input). setup.actions) (λ i. i.commands) history input silent));
-      limits = record {
+      duty = record {
         outcomes =
-            subst (λ (telemetry : List (List ℕ)). OutcomesStand setup.watch telemetry lc.limits.outcomes)
-            (sym (telemetry_more history input ∙ ap (λ (more : List (List ℕ)). telemetry_of history ++ more) unseen ∙ append-nil (telemetry_of history))) stood.limits.outcomes;
-        points = record { long = stood.limits.points.long; each = λ k within. idle_points k lc stood within };
+            subst (λ (telemetry : List (List ℕ)). OutcomesStand setup.watch telemetry lc.duty.outcomes)
+            (sym (telemetry_more history input ∙ ap (λ (more : List (List ℕ)). telemetry_of history ++ more) unseen ∙ append-nil (telemetry_of history))) stood.duty.outcomes;
+        points = record { long = stood.duty.points.long; each = λ k within. idle_points k lc stood within };
         fired =
-            stood.limits.fired
+            stood.duty.fired
             ∙ sym (fired_more setup history input ∙ ap (λ (places : List ℕ). (length (fired_of setup history) + length places) % 65536) none_fired ∙ (let same : (length (fired_of setup history) + 0) % 65536 ≡ length (fired_of setup history) % 65536 = omega arith in same));
       };
       uses = stood.uses;

@@ -15,7 +15,7 @@ use Rattle.lc_watch.specs.Actionpoints.{act_at}
 use Rattle.lc_watch.specs.Failing.{by_firing, PointStands}
 use Rattle.lc_watch.specs.Histories.{Input, Setup, ordered_at, switch_of, switches_in, evaluation_at, evaluations_of}
 use Rattle.lc_watch.specs.Firing.{starts_active, settings_of, is_active, fires, fired_at}
-use Rattle.lc_watch.specs.Step.{firing_items, items_at}
+use Rattle.lc_watch.specs.Answers.{firing_items, point_items}
 use Rattle.lc_watch.specs.State.{PointsStand, point_at}
 use Rattle.lc_watch.specs.declared.actionpoints.ActRow.{ActRow}
 use Rattle.lc_watch.specs.declared.points.Point.{Point}
@@ -130,11 +130,11 @@ count_if true place = refl
 count_if false place = refl
 
 pub given_more : (setup : Setup) (history : List Input) (input : Input) (time place : ℕ) (before middle after : Held Out)
-    → middle ≡ adding before (flat_map (items_at time setup.actions) (fired_below setup history input place))
+    → middle ≡ adding before (flat_map (point_items time setup.actions) (fired_below setup history input place))
     → after ≡ adding middle (cond (fires setup history input place) (firing_items time (act_at setup.actions place)) [])
-    → after ≡ adding before (flat_map (items_at time setup.actions) (fired_below setup history input (place + 1)))
+    → after ≡ adding before (flat_map (point_items time setup.actions) (fired_below setup history input (place + 1)))
 given_more setup history input time place before middle after first next =
-    let f = items_at time setup.actions in
+    let f = point_items time setup.actions in
     let here = cond (fires setup history input place) (place ∷ []) [] in
     next ∙ ap (λ (held : Held Out). adding held (cond (fires setup history input place) (f place) [])) first
     ∙ adding_more before (flat_map f (fired_below setup history input place)) (cond (fires setup history input place) (f place) [])

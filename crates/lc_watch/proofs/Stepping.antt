@@ -5,14 +5,14 @@ use Rattle.lc_watch.specs.Outcomes.{outcome_at, OutcomesStand}
 use Rattle.lc_watch.specs.Histories.{Input, Setup, ordered_at, telemetry_of}
 use Rattle.lc_watch.specs.Firing.{is_active, fired_count}
 use Rattle.lc_watch.specs.Housekeeping.{results_of, active_bits, housekeeping_of, housekeeping_at}
-use Rattle.lc_watch.specs.State.{PointsStand, LimitsStand, HasTaken}
+use Rattle.lc_watch.specs.State.{PointsStand, DutyStands, HasTaken}
 use Rattle.lc_watch.specs.declared.instructions.Instruction.{Instruction}
-use Rattle.lc_watch.specs.declared.limits.Limits.{Limits}
+use Rattle.lc_watch.specs.declared.duty.Duty.{Duty}
 use Rattle.lc_watch.proofs.Following.{telemetry_more}
 
 module _ (setup : Setup) (history : List Input) (input : Input) where
   -- the telemetry was taken behind the commands
-  pub has_taken : (before after : Limits) → length setup.watch ≡ 32 → LimitsStand setup history (ordered_at setup input) before
+  pub has_taken : (before after : Duty) → length setup.watch ≡ 32 → DutyStands setup history (ordered_at setup input) before
       → OutcomesStand setup.watch (telemetry_of history ++ input.seen) after.outcomes → after.points ≡ before.points → after.fired ≡ before.fired → HasTaken setup history input after
   has_taken before after whole stood outcomes points fired = record {
     whole = whole;

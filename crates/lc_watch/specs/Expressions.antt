@@ -40,7 +40,7 @@ with_two f [] = None
 with_two f (b ∷ []) = None
 with_two f (b ∷ a ∷ values) = Some (f a b ∷ values)
 
--- What a word makes of them, by the value of each watchpoint.
+-- What a word makes of the values that stand so far, by the value of each watchpoint.
 abbrev pub worked : (ℕ → Bool) → List Bool → Word → Option (List Bool)
 worked value values (Watch place) = Some (value place ∷ values)
 worked value values And = with_two (λ a b. a && b) values
@@ -53,7 +53,7 @@ abbrev pub worked_on : (ℕ → Bool) → Option (List Bool) → Word → Option
 worked_on value None word = None
 worked_on value (Some values) word = worked value values word
 
--- The values that the words of an expression leave, the last one first. None where a word is none, or lacks an operand.
+-- The values that the words of an expression leave, the last one first. None where a word isn't in the list of words, or lacks an operand.
 unfoldable pub values_left : (ℕ → Bool) → List Word → Option (List Bool)
 values_left value words = fold (worked_on value) (Some []) words
 

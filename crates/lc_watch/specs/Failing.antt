@@ -33,11 +33,11 @@ set_in moment = moment.0.switches ++ by_firing moment.1
 unfoldable pub set_by : List (Moment × Bool) → List Bool
 set_by earlier = flat_map set_in earlier
 
--- It fires in a moment where it is due, and active by the latest that set it.
+-- An actionpoint fires in a moment where it is due, and active by the latest that set it.
 abbrev pub fires_in : Bool → List (Moment × Bool) → Moment → Bool
 fires_in start earlier moment = last_or start (set_by earlier ++ moment.switches) && moment.due
 
--- The moments, each with whether it fired in it.
+-- The moments, each with whether the actionpoint fired in it.
 unfoldable pub fired_along : Bool → List Moment → List (Moment × Bool)
 fired_along start moments = decided (fires_in start) moments
 

@@ -22,25 +22,25 @@ moment_at setup place earlier input = record { switches = switches_in place (ord
 abbrev pub starts_active : ActRow → Bool
 starts_active row = row.state == 1
 
--- All that set it active or passive in a history: commands, and its firings.
+-- All that set an actionpoint active or passive in a history: commands, and its firings.
 unfoldable pub settings_of : Setup → ℕ → List Input → List Bool
 settings_of setup place history = set_by (fired_along (starts_active (act_at setup.actions place)) (along (moment_at setup place) history))
 
--- Whether it is active behind a history and what was ordered in the next wakeup so far: by the latest that set it.
+-- Whether an actionpoint is active behind a history and what was ordered in the next wakeup so far: by the latest that set it.
 abbrev pub is_active : Setup → List Input → List Instruction → ℕ → Bool
 is_active setup history orders place = last_or (starts_active (act_at setup.actions place)) (settings_of setup place history ++ switches_in place orders)
 
--- Whether it fires in a wakeup behind a history: it is due, and active once the wakeup's commands were obeyed.
+-- Whether an actionpoint fires in a wakeup behind a history: it is due, and active once the wakeup's commands were obeyed.
 abbrev pub fires : Setup → List Input → Input → ℕ → Bool
 fires setup history input place = is_active setup history (ordered_at setup input) place && is_due setup place history input
 
--- The places of those that fire in a wakeup, in table order, and of all that fired in a history.
+-- The places of the actionpoints that fire in a wakeup, in table order, and of all that fired in a history.
 unfoldable pub fired_at : Setup → List Input → Input → List ℕ
 fired_at setup history input = filter (fires setup history input) (range_with_len 0 16)
 
 unfoldable pub fired_of : Setup → List Input → List ℕ
 fired_of setup history = joined_along (fired_at setup) history
 
--- How many those are, modulo 65,536.
+-- How many firings there were in a history, modulo 65,536.
 unfoldable pub fired_count : Setup → List Input → ℕ
 fired_count setup history = length (fired_of setup history) % 65536

@@ -25,7 +25,7 @@ unfoldable pub codes_of : List Outcome → ℕ
 codes_of [] = 0
 codes_of (outcome ∷ outcomes) = code_of outcome + 4 * codes_of outcomes
 
--- Those of the 32 watchpoints.
+-- The outcomes of the 32 watchpoints as one number.
 unfoldable pub results_of : (ℕ → Outcome) → ℕ
 results_of outcome = codes_of (map outcome (range_with_len 0 32))
 

@@ -9,6 +9,7 @@ pub mod Verdicts
 pub mod Histories
 pub mod Firing
 pub mod Housekeeping
+pub mod Answers
 pub mod Step
 pub mod State
 pub mod Rows

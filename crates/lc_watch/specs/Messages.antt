@@ -1,8 +1,10 @@
--- LC's name, the codes of its commands, and what a firing sends.
+-- LC's name, the codes of its commands, its event that no command gives, and the command that it sends.
 use Rattle.std.specs.Prelude.{ℕ, List, [], ◌∷◌, codes}
 use Rattle.packet_forms.specs.Names.{name_of}
 use Rattle.commands.specs.Rows.{code_row}
 use Rattle.commands.specs.declared.verdicts.CodeRow.{CodeRow}
+use Rattle.lc_watch.specs.declared.messages.Event.{Event}
+use Rattle.lc_watch.specs.declared.messages.Event.TheVariants.{Fired}
 
 -- LC's name.
 unfoldable pub lc_name : List ℕ
@@ -18,3 +20,10 @@ firing_event = 101
 
 abbrev pub start_code : ℕ
 start_code = 4
+
+-- The number of an event, and its type: 3 an error.
+abbrev pub event_number : Event → ℕ
+event_number Fired = firing_event
+
+abbrev pub event_kind : Event → ℕ
+event_kind Fired = 3

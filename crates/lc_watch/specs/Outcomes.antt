@@ -27,7 +27,7 @@ compares Equal value limit = value == limit
 compares GreaterOrEqual value limit = nat_le limit value
 compares Greater value limit = nat_lt limit value
 
--- The same where there may be no operator: then it doesn't.
+-- Whether a value stands in the relation of an operator to a limit, where there is an operator.
 abbrev pub holds : Option Operator → ℕ → ℕ → Bool
 holds None value limit = false
 holds (Some operator) value limit = compares operator value limit
@@ -40,7 +40,7 @@ reading row p =
     then (if holds row.operator (bit_and (value_at row.kind p row.offset) row.mask) row.limit then Tripped else Clear)
     else Outside
 
--- The same of a packet of any id: one of another id has none.
+-- The outcome of a watchpoint on a packet of any id: one of another id has none.
 abbrev pub reading_in : WatchRow → List ℕ → Option Outcome
 reading_in row p = if message_id p == row.id then Some (reading row p) else None
 
@@ -49,7 +49,7 @@ reading_in row p = if message_id p == row.id then Some (reading row p) else None
 unfoldable pub outcome_of : WatchRow → List (List ℕ) → Outcome
 outcome_of row telemetry = if is_used row then last_or Unseen (filter_map (reading_in row) telemetry) else Unseen
 
--- The same by the watchpoint's place in a table.
+-- The outcome of the watchpoint in a place of a table.
 abbrev pub outcome_at : List WatchRow → List (List ℕ) → ℕ → Outcome
 outcome_at rows telemetry place = outcome_of (watch_at rows place) telemetry
 

@@ -11,7 +11,7 @@ use Rattle.lc_watch.specs.declared.watchpoints.WatchRow.{WatchRow}
 use Rattle.lc_watch.specs.declared.actionpoints.ActRow.{ActRow}
 use Rattle.lc_watch.specs.declared.points.Point.{Point}
 use Rattle.lc_watch.specs.declared.instructions.Instruction.{Instruction}
-use Rattle.lc_watch.specs.declared.limits.Limits.{Limits}
+use Rattle.lc_watch.specs.declared.duty.Duty.{Duty}
 use Rattle.lc_watch.specs.declared.state.Lc.{Lc}
 
 -- What is kept in a place.
@@ -24,22 +24,22 @@ pub record PointsStand (setup : Setup) (history : List Input) (orders : List Ins
   pub each : (k : ℕ) → k < 16
       → PointStands (starts_active (act_at setup.actions k)) (act_at setup.actions k).failures (evaluations_of setup k history) (settings_of setup k history ++ switches_in k orders) (point_at points k)
 
-pub record LimitsStand (setup : Setup) (history : List Input) (orders : List Instruction) (limits : Limits) : Type 0 where
-  pub outcomes : OutcomesStand setup.watch (telemetry_of history) limits.outcomes
-  pub points : PointsStand setup history orders limits.points
-  pub fired : limits.fired ≡ fired_count setup history
+pub record DutyStands (setup : Setup) (history : List Input) (orders : List Instruction) (duty : Duty) : Type 0 where
+  pub outcomes : OutcomesStand setup.watch (telemetry_of history) duty.outcomes
+  pub points : PointsStand setup history orders duty.points
+  pub fired : duty.fired ≡ fired_count setup history
 
 -- Once a wakeup's telemetry was taken the outcomes stand for it, and the rest still for the history and what was ordered in the wakeup.
-pub record HasTaken (setup : Setup) (history : List Input) (input : Input) (limits : Limits) : Type 0 where
+pub record HasTaken (setup : Setup) (history : List Input) (input : Input) (duty : Duty) : Type 0 where
   pub whole : length setup.watch ≡ 32
-  pub outcomes : OutcomesStand setup.watch (telemetry_of (history ++ input ∷ [])) limits.outcomes
-  pub points : PointsStand setup history (ordered_at setup input) limits.points
-  pub fired : limits.fired ≡ fired_count setup history
+  pub outcomes : OutcomesStand setup.watch (telemetry_of (history ++ input ∷ [])) duty.outcomes
+  pub points : PointsStand setup history (ordered_at setup input) duty.points
+  pub fired : duty.fired ≡ fired_count setup history
 
 -- The state stands for the tables and a history.
 pub record StandsFor (setup : Setup) (history : List Input) (lc : Lc) : Type 0 where
   pub counts : lc.counts ≡ counts_of (lc_heard setup history)
-  pub limits : LimitsStand setup history [] lc.limits
+  pub duty : DutyStands setup history [] lc.duty
   pub uses : lc.uses ≡ uses_any setup.actions
 
 unfoldable pub Stands : List WatchRow → List ActRow → List Input → Lc → Type 0

@@ -1,21 +1,16 @@
 -- What LC sends in a wakeup.
-use Rattle.std.specs.Prelude.{ℕ, List, [], ◌∷◌, ◌++◌}
+use Rattle.std.specs.Prelude.{List, [], ◌++◌}
 use Rattle.std.specs.List.{flat_map}
-use Rattle.packet_forms.specs.MessageIds.{sc_command}
-use Rattle.packet_forms.specs.Numbers.{be16_bytes}
-use Rattle.packet_forms.specs.Built.{command_of, event_of}
 use Rattle.bus_pipes.specs.declared.names.Out.{Out}
-use Rattle.bus_pipes.specs.declared.names.Out.TheVariants.{Made, Stored}
 use Rattle.commands.specs.Inputs.{Wakeup, heard_of}
 use Rattle.commands.specs.Answering.{Answers, command_items}
 use Rattle.commands.specs.declared.verdicts.Verdict.{Verdict}
-use Rattle.lc_watch.specs.Messages.{lc_name, firing_event, start_code}
-use Rattle.lc_watch.specs.Actionpoints.{act_at}
+use Rattle.lc_watch.specs.Messages.{lc_name}
 use Rattle.lc_watch.specs.Verdicts.{lc_protocol}
 use Rattle.lc_watch.specs.Histories.{Input, Setup, heard_at}
 use Rattle.lc_watch.specs.Firing.{fired_at}
+use Rattle.lc_watch.specs.Answers.{point_items}
 use Rattle.lc_watch.specs.Housekeeping.{housekeeping_at}
-use Rattle.lc_watch.specs.declared.actionpoints.ActRow.{ActRow}
 use Rattle.lc_watch.specs.declared.instructions.Instruction.{Instruction}
 
 -- The verdicts on all packets of a history.
@@ -38,20 +33,9 @@ lc_answers = record {
   replies = λ turn orders instruction. [];
 }
 
--- The command that starts a relative sequence.
-unfoldable pub start_of : ℕ → List ℕ
-start_of rts = command_of sc_command start_code (be16_bytes rts)
-
--- What an actionpoint gives that fires: the command that starts its sequence, and then the event.
-abbrev pub firing_items : ℕ → ActRow → List Out
-firing_items time row = Stored (start_of row.rts) ∷ Made (event_of lc_name firing_event 3 time) ∷ []
-
-abbrev pub items_at : ℕ → List ActRow → ℕ → List Out
-items_at time actions place = firing_items time (act_at actions place)
-
 -- What LC sends in a wakeup, by its tables, its history and its input: the items of its commands, and then those of the actionpoints that
 -- fire, in table order.
 unfoldable pub lc_items : Setup → List Input → Input → List Out
 lc_items setup history input =
     command_items lc_answers lc_name (turn_of setup history input) (heard_at setup input)
-    ++ flat_map (items_at input.time setup.actions) (fired_at setup history input)
+    ++ flat_map (point_items input.time setup.actions) (fired_at setup history input)

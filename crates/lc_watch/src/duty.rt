@@ -1,4 +1,4 @@
-//! The limits: the outcomes of the watchpoints, and the actionpoints.
+//! What commands of LC change beside its counts, and what its telemetry leaves.
 ghost use Rattle.std.specs.Prelude.{◌≡◌, ◌≤◌, ◌<◌, ◌+◌, ◌%◌, ◌++◌, ℕ, List, [], ◌∷◌, length};
 ghost use Rattle.std.specs.List.{AllPass, flat_map};
 ghost use Rattle.bus_pipes.specs.Held.{adding};
@@ -9,33 +9,33 @@ ghost use Rattle.lc_watch.specs.Instructions.{NamesPoint};
 ghost use Rattle.lc_watch.specs.Histories.{Input, Setup, setup_of, ordered_at, telemetry_of};
 ghost use Rattle.lc_watch.specs.Firing.{is_active, fired_at};
 ghost use Rattle.lc_watch.specs.Housekeeping.{results_of, active_bits};
-ghost use Rattle.lc_watch.specs.Step.{items_at};
-ghost use Rattle.lc_watch.specs.State.{PointsStand, LimitsStand, HasTaken};
+ghost use Rattle.lc_watch.specs.Answers.{point_items};
+ghost use Rattle.lc_watch.specs.State.{PointsStand, DutyStands, HasTaken};
 ghost use Rattle.lc_watch.specs.declared.instructions.Instruction.{Instruction};
 
 use crate::actionpoints::{ACTIONPOINTS, Adt};
 use crate::instructions::Instruction;
-use crate::outcomes::{Outcome, codes_of, take_all};
+use crate::outcomes::{Outcome, codes_of, take_telemetry};
 use crate::points::{Point, serve};
 use crate::watchpoints::{WATCHPOINTS, Wdt};
 use bus_pipes::Outbox;
 use histories::bits_of;
 use packet_forms::Packet;
 
-/// The outcomes of the watchpoints, what is kept of the actionpoints, and the firings modulo 65,536.
+/// What LC has to do beside answering: the outcomes of the watchpoints, what is kept of the actionpoints, and the firings modulo 65,536.
 #[derive(Clone, Copy, Debug, PartialEq, Eq)]
-pub(crate) struct Limits {
+pub(crate) struct Duty {
     pub(crate) outcomes: [Outcome; WATCHPOINTS],
     pub(crate) points: [Point; ACTIONPOINTS],
     pub(crate) fired: u16,
 }
 
-impl Limits {
+impl Duty {
     /// Before the first wakeup.
-    pub(crate) fn start(actions: &Adt) -> Limits
-        ensures { (watch : List WatchRow) → LimitsStand (setup_of watch actions.now) [] [] result }
+    pub(crate) fn start(actions: &Adt) -> Duty
+        ensures { (watch : List WatchRow) → DutyStands (setup_of watch actions.now) [] [] result }
     {
-        Limits {
+        Duty {
             outcomes: [Outcome::Unseen; WATCHPOINTS],
             points: begin_all(actions),
             fired: 0,
@@ -45,7 +45,7 @@ impl Limits {
     /// Does what an accepted command asks for.
     pub(crate) fn obey(&mut self, instruction: &Instruction)
         requires { NamesPoint instruction.now }
-        ensures { (setup : Setup) (history : List Input) (orders : List Instruction) → LimitsStand setup history orders self.old → LimitsStand setup history (orders ++ instruction.now ∷ []) self.new }
+        ensures { (setup : Setup) (history : List Input) (orders : List Instruction) → DutyStands setup history orders self.old → DutyStands setup history (orders ++ instruction.now ∷ []) self.new }
     {
         match instruction {
             Instruction::Plain => {}
@@ -63,15 +63,15 @@ impl Limits {
         ensures fired { self.new.fired ≡ self.old.fired }
         ensures whole { length watch.now ≡ 32 }
     {
-        take_all(&mut self.outcomes, watch.rows(), telemetry);
+        take_telemetry(&mut self.outcomes, watch.rows(), telemetry);
     }
 
     /// Evaluates the actionpoints in table order, and puts what those give that fire behind the items.
     pub(crate) fn fire(&mut self, actions: &Adt, now: u32, out: &mut Outbox)
         requires room { length out.old.items + 32 ≤ out.old.room }
-        ensures stands { (watch : List WatchRow) (history : List Input) (input : Input) → HasTaken (setup_of watch actions.now) history input self.old → LimitsStand (setup_of watch actions.now) (history ++ input ∷ []) [] self.new }
+        ensures stands { (watch : List WatchRow) (history : List Input) (input : Input) → HasTaken (setup_of watch actions.now) history input self.old → DutyStands (setup_of watch actions.now) (history ++ input ∷ []) [] self.new }
         ensures items { (watch : List WatchRow) (history : List Input) (input : Input) → HasTaken (setup_of watch actions.now) history input self.old
-            → out.new ≡ adding out.old (flat_map (items_at now actions.now) (fired_at (setup_of watch actions.now) history input)) }
+            → out.new ≡ adding out.old (flat_map (point_items now actions.now) (fired_at (setup_of watch actions.now) history input)) }
         ensures counted { AllPass is_item_counted out.old.items → AllPass is_item_counted out.new.items }
         ensures few { length out.new.items ≤ length out.old.items + 32 }
         ensures room { out.new.room ≡ out.old.room }
@@ -89,7 +89,7 @@ impl Limits {
     /// The active actionpoints: bit n - 1 is actionpoint n.
     #[tactic(auto, unfolding(crate::specs::Housekeeping::active_bits))]
     pub(crate) fn active_bits(&self) -> u16
-        ensures { (setup : Setup) (history : List Input) (orders : List Instruction) → LimitsStand setup history orders self.now → result ≡ active_bits (is_active setup history orders) }
+        ensures { (setup : Setup) (history : List Input) (orders : List Instruction) → DutyStands setup history orders self.now → result ≡ active_bits (is_active setup history orders) }
     {
         let mut bits = [false; ACTIONPOINTS];
         for place in 0..ACTIONPOINTS {
@@ -130,7 +130,7 @@ fn serve_all(
     ensures points { (watch : List WatchRow) (history : List Input) (input : Input) → ((k : ℕ) → kept_at outcomes.now k ≡ outcome_at watch (telemetry_of (history ++ input ∷ [])) k)
         → PointsStand (setup_of watch actions.now) history (ordered_at (setup_of watch actions.now) input) points.old → PointsStand (setup_of watch actions.now) (history ++ input ∷ []) [] points.new }
     ensures items { (watch : List WatchRow) (history : List Input) (input : Input) → ((k : ℕ) → kept_at outcomes.now k ≡ outcome_at watch (telemetry_of (history ++ input ∷ [])) k)
-        → PointsStand (setup_of watch actions.now) history (ordered_at (setup_of watch actions.now) input) points.old → out.new ≡ adding out.old (flat_map (items_at now actions.now) (fired_at (setup_of watch actions.now) history input)) }
+        → PointsStand (setup_of watch actions.now) history (ordered_at (setup_of watch actions.now) input) points.old → out.new ≡ adding out.old (flat_map (point_items now actions.now) (fired_at (setup_of watch actions.now) history input)) }
     ensures fired { (watch : List WatchRow) (history : List Input) (input : Input) (count : ℕ) → ((k : ℕ) → kept_at outcomes.now k ≡ outcome_at watch (telemetry_of (history ++ input ∷ [])) k)
         → PointsStand (setup_of watch actions.now) history (ordered_at (setup_of watch actions.now) input) points.old → fired.old ≡ count % 65536
         → fired.new ≡ (count + length (fired_at (setup_of watch actions.now) history input)) % 65536 }

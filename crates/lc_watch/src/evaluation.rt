@@ -20,7 +20,7 @@ pub(crate) fn evaluation(row: &ActRow, outcomes: &[Outcome; WATCHPOINTS]) -> Opt
     }
     let mut stack = 0;
     for word in row.expression() {
-        let Some(next) = work(stack, *word, outcomes) else {
+        let Some(next) = stack_after(stack, *word, outcomes) else {
             return None;
         };
         stack = next;
@@ -31,7 +31,7 @@ pub(crate) fn evaluation(row: &ActRow, outcomes: &[Outcome; WATCHPOINTS]) -> Opt
 /// What a word makes of the values that stand, which are the bits of a number, the last one lowest. None where it is no word, or names a
 /// watchpoint whose value wasn't compared.
 #[inline(always)]
-fn work(stack: u32, word: Word, outcomes: &[Outcome; WATCHPOINTS]) -> Option<u32>
+fn stack_after(stack: u32, word: Word, outcomes: &[Outcome; WATCHPOINTS]) -> Option<u32>
     requires { stack ≤ 65535 }
     ensures unknown { result ≡ None → names_known (kept_at outcomes.now) word ≡ false }
     ensures known { (next : ℕ) → result ≡ Some next → names_known (kept_at outcomes.now) word ≡ true }

@@ -73,7 +73,7 @@ fn count_after(count: u32, word: Word) -> Option<u32>
     }
 }
 
-/// The same after an operator with two operands.
+/// How many values stand after an operator with two operands. None where it lacks one.
 fn count_after_two(count: u32) -> Option<u32>
     ensures values { (f : Bool → Bool → Bool) (values : List Bool) → count ≡ length values → result ≡ option_map length (with_two f values) }
     ensures few { IfSome result (λ next. next ≤ count + 1) }

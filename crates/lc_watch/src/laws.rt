@@ -15,7 +15,7 @@ ghost use Rattle.lc_watch.specs.Failing.{are_failing};
 ghost use Rattle.lc_watch.specs.Histories.{Input, Setup, ordered_at, switches_in, evaluation_at, evaluations_of};
 ghost use Rattle.lc_watch.specs.Firing.{is_active, is_due, fires};
 ghost use Rattle.lc_watch.specs.Housekeeping.{results_of, housekeeping_of};
-ghost use Rattle.lc_watch.specs.Step.{start_of};
+ghost use Rattle.lc_watch.specs.Answers.{start_of};
 ghost use Rattle.lc_watch.specs.Messages.{lc_codes};
 ghost use Rattle.lc_watch.specs.Verdicts.{lc_protocol};
 ghost use Rattle.lc_watch.specs.declared.watchpoints.WatchRow.{WatchRow};

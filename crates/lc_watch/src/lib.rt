@@ -2,12 +2,13 @@
 #![tactic(auto)]
 
 mod actionpoints;
+mod answers;
+mod duty;
 mod evaluation;
 mod expressions;
 mod housekeeping;
 mod instructions;
 pub mod laws;
-mod limits;
 mod loading;
 mod messages;
 mod outcomes;

@@ -1,16 +1,42 @@
-//! LC's name, the codes of its commands, and what a firing sends.
+//! LC's name, the codes of its commands, its event that no command gives, and the command that it sends.
 ghost use Rattle.std.specs.Prelude.{◌≡◌};
 ghost use Rattle.packet_forms.specs.Names.{is_name_text};
-ghost use Rattle.lc_watch.specs.Messages.{lc_name};
+ghost use Rattle.lc_watch.specs.Messages.{lc_name, event_number, event_kind};
 
 use commands::{CodeRow, named};
 use packet_forms::Name;
 
-/// The event of an actionpoint that fires.
-pub(crate) const FIRING: u16 = 101;
-
 /// The code of the command that starts a relative sequence.
 pub(crate) const START_RTS: u8 = 4;
+
+/// The type of an event that tells an error.
+const ERROR: u16 = 3;
+
+/// What LC tells of an actionpoint.
+#[derive(Clone, Copy, Debug, PartialEq, Eq)]
+pub(crate) enum Event {
+    /// The actionpoint fired, and starts its relative sequence.
+    Fired,
+}
+
+impl Event {
+    pub(crate) fn number(self) -> u16
+        ensures { result ≡ event_number self }
+    {
+        match self {
+            Event::Fired => 101,
+        }
+    }
+
+    /// Its type.
+    pub(crate) fn kind(self) -> u16
+        ensures { result ≡ event_kind self }
+    {
+        match self {
+            Event::Fired => ERROR,
+        }
+    }
+}
 
 /// No-op, reset counters, set active, set passive.
 pub(crate) const CODES: [CodeRow; 4] = [

@@ -21,7 +21,7 @@ pub(crate) enum Outcome {
 }
 
 /// Takes these packets in order: of each watchpoint the last of its id counts.
-pub(crate) fn take_all(
+pub(crate) fn take_telemetry(
     outcomes: &mut [Outcome; WATCHPOINTS],
     rows: &[WatchRow; WATCHPOINTS],
     telemetry: &[Packet],
@@ -47,7 +47,7 @@ fn outcome_after(row: &WatchRow, telemetry: &[Packet], before: Outcome) -> Outco
     last_outcome(row, telemetry, before)
 }
 
-/// The same of one that is used: the packets are looked at from the last one on, until one has its id.
+/// The outcome of a watchpoint that is used after these packets, which are looked at from the last one on, until one has its id.
 fn last_outcome(row: &WatchRow, telemetry: &[Packet], before: Outcome) -> Outcome
     requires { is_used row.now ≡ true }
     ensures { (seen : List (List ℕ)) → before ≡ outcome_of row.now seen → result ≡ outcome_of row.now (seen ++ telemetry.now) }

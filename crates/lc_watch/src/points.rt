@@ -3,23 +3,18 @@ ghost use Rattle.std.specs.Prelude.{◌≡◌, ◌<◌, ◌≤◌, ◌+◌, ◌%
 ghost use Rattle.std.specs.List.{AllPass};
 ghost use Rattle.bus_pipes.specs.Held.{adding};
 ghost use Rattle.bus_pipes.specs.Counted.{is_item_counted};
-ghost use Rattle.bus_pipes.specs.declared.names.Out.TheVariants as outs;
-ghost use Rattle.packet_forms.specs.Built.{event_of};
-ghost use Rattle.lc_watch.specs.Messages.{lc_name, firing_event};
 ghost use Rattle.lc_watch.specs.Outcomes.{kept_at};
 ghost use Rattle.lc_watch.specs.Actionpoints.{AbleWhereUsed, evaluation_of};
 ghost use Rattle.lc_watch.specs.Failing.{fires_by, by_firing, PointStands};
 ghost use Rattle.lc_watch.specs.Firing.{starts_active};
-ghost use Rattle.lc_watch.specs.Step.{start_of, firing_items};
+ghost use Rattle.lc_watch.specs.Answers.{firing_items};
 
 use crate::actionpoints::ActRow;
+use crate::answers::put_firing;
 use crate::evaluation::evaluation;
-use crate::messages::{FIRING, START_RTS, name};
 use crate::outcomes::Outcome;
 use crate::watchpoints::WATCHPOINTS;
-use bus_pipes::{Out, Outbox, push_event};
-use packet_forms::message_ids::SC_COMMAND;
-use packet_forms::{Packet, command};
+use bus_pipes::Outbox;
 
 /// Whether an actionpoint is active, and how many of its last evaluations fail in a row, up to as many as it asks for.
 #[derive(Clone, Copy, Debug, PartialEq, Eq)]
@@ -132,25 +127,4 @@ pub(crate) fn serve(
     *fired = fired.wrapping_add(1);
     put_firing(row.rts, now, out);
     judged.point
-}
-
-/// Puts what a firing gives behind the items.
-#[inline(never)]
-fn put_firing(rts: u16, now: u32, out: &mut Outbox)
-    requires room { length out.old.items + 2 ≤ out.old.room }
-    ensures items { out.new ≡ adding out.old (outs.Stored (start_of rts) ∷ outs.Made (event_of lc_name firing_event 3 now) ∷ []) }
-    ensures counted { AllPass is_item_counted out.old.items → AllPass is_item_counted out.new.items }
-    ensures few { length out.new.items ≤ length out.old.items + 2 }
-    ensures room { out.new.room ≡ out.old.room }
-{
-    out.push(Out::Stored(start_command(rts)));
-    push_event(out, name(), FIRING, 3, now);
-}
-
-/// The command that starts a relative sequence.
-#[tactic(auto, unfolding(crate::specs::Step::start_of, packet_forms::specs::Numbers::be16_bytes))]
-fn start_command(rts: u16) -> Packet
-    ensures { result ≡ start_of rts }
-{
-    command(SC_COMMAND, START_RTS, &rts.to_be_bytes())
 }

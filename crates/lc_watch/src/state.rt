@@ -7,16 +7,16 @@ ghost use Rattle.lc_watch.specs.Step.{lc_items};
 ghost use Rattle.lc_watch.specs.State.{Stands, is_idle_on};
 
 use crate::actionpoints::Adt;
-use crate::limits::Limits;
+use crate::duty::Duty;
 use bus_pipes::Counts;
 use commands::start_counts;
 use packet_forms::Packet;
 
-/// The state of LC: both counts, the limits, and whether an actionpoint is used.
+/// The state of LC: both counts, its duty, and whether an actionpoint is used.
 #[derive(Clone, Copy, Debug, PartialEq, Eq)]
 pub struct Lc {
     pub(crate) counts: Counts,
-    pub(crate) limits: Limits,
+    pub(crate) duty: Duty,
     pub(crate) uses: bool,
 }
 
@@ -28,7 +28,7 @@ impl Lc {
     {
         Lc {
             counts: start_counts(),
-            limits: Limits::start(actions),
+            duty: Duty::start(actions),
             uses: actions.uses_any(),
         }
     }

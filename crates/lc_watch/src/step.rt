@@ -7,9 +7,9 @@ ghost use Rattle.lc_watch.specs.Step.{lc_items};
 ghost use Rattle.lc_watch.specs.State.{Stands};
 
 use crate::actionpoints::Adt;
+use crate::duty::Duty;
 use crate::housekeeping::housekeeping;
 use crate::instructions::Instruction;
-use crate::limits::Limits;
 use crate::state::Lc;
 use crate::verdicts::{Refusal, own_refusal};
 use crate::watchpoints::Wdt;
@@ -20,19 +20,19 @@ use packet_forms::Packet;
 /// How many items a wakeup gives at most.
 pub const MOST_ITEMS: u32 = 48;
 
-// What is read beside the packets.
+/// What is read beside the packets.
 #[derive(Clone, Copy)]
 struct Reads<'a> {
     actions: &'a Adt,
 }
 
-impl<'a> Commanded<Reads<'a>> for Limits {
+impl<'a> Commanded<Reads<'a>> for Duty {
     ghost use Rattle.std.specs.Prelude.{◌≡◌, List};
     ghost use Rattle.lc_watch.specs.declared.actionpoints.ActRow.{ActRow};
     ghost use Rattle.lc_watch.specs.Instructions.{NamesPoint};
     ghost use Rattle.lc_watch.specs.Verdicts.{own_refusal};
     ghost use Rattle.lc_watch.specs.Step.{Turn, lc_answers};
-    ghost use Rattle.lc_watch.specs.State.{LimitsStand};
+    ghost use Rattle.lc_watch.specs.State.{DutyStands};
 
     type Instruction = Instruction;
 
@@ -52,13 +52,13 @@ impl<'a> Commanded<Reads<'a>> for Limits {
 
     ghost belongs = { λ turn reads now. (reads.actions.now ≡ turn.setup.actions) × (turn.input.time ≡ now) };
 
-    ghost stands = { λ turn orders limits left. LimitsStand turn.setup turn.history orders limits };
+    ghost stands = { λ turn orders duty left. DutyStands turn.setup turn.history orders duty };
 
-    ghost can_obey = { λ reads limits instruction. NamesPoint instruction };
+    ghost can_obey = { λ reads duty instruction. NamesPoint instruction };
 
     ghost most = { 0 };
 
-    ghost still_safe = { λ reads n limits left safe. safe };
+    ghost still_safe = { λ reads n duty left safe. safe };
 
     ghost timed = { λ turn reads now belongs. belongs.1 };
 
@@ -78,16 +78,12 @@ impl<'a> Commanded<Reads<'a>> for Limits {
         left: &mut (),
         out: &mut Outbox,
     ) {
-        Limits::obey(self, instruction);
+        Duty::obey(self, instruction);
     }
 }
 
 impl Lc {
-    /// A wakeup at the time `now`, in seconds. The packets of the command pipe, at most 16, are handled in order: a request is answered
-    /// with housekeeping, a command with its event. Then the packets of the telemetry pipe are taken in order, and the
-    /// actionpoints are evaluated in table order: each that fires gives the command that starts its sequence, and event 101. What is sent
-    /// goes to `out`, which is empty and has room for 48 items, and the state after the wakeup to `next`. The tables are those on which
-    /// the state was started.
+    /// `advance` on a copy: this state stays, and the state after the wakeup goes to `next`.
     pub fn step(
         &self,
         watch: &Wdt,
@@ -111,7 +107,10 @@ impl Lc {
         next.advance(watch, actions, commands, telemetry, now, out);
     }
 
-    /// The same in place.
+    /// A wakeup at the time `now`, in seconds. The packets of the command pipe, at most 16, are handled in order: a request is answered
+    /// with housekeeping, a command with its event. Then the packets of the telemetry pipe are taken in order, and the
+    /// actionpoints are evaluated in table order: each that fires gives the command that starts its sequence, and event 101. What is sent
+    /// goes to `out`, which is empty and has room for 48 items. The tables are those on which the state was started.
     pub fn advance(
         &mut self,
         watch: &Wdt,
@@ -133,14 +132,14 @@ impl Lc {
         let reads = Reads { actions };
         handle_all(
             &mut self.counts,
-            &mut self.limits,
+            &mut self.duty,
             commands,
             reads,
             now,
             &mut (),
             out,
         );
-        self.limits.take(watch, telemetry);
-        self.limits.fire(actions, now, out);
+        self.duty.take(watch, telemetry);
+        self.duty.fire(actions, now, out);
     }
 }

@@ -25,7 +25,7 @@ ghost use Rattle.sc_tables.specs.Commands.{TimedCommand};
 ghost use Rattle.sc_sequences.specs.Answers.{head_items};
 ghost use Rattle.sc_sequences.specs.Verdicts.{sc_protocol};
 ghost use Rattle.lc_watch.specs.Messages.{firing_event, lc_codes};
-ghost use Rattle.lc_watch.specs.Step.{firing_items};
+ghost use Rattle.lc_watch.specs.Answers.{firing_items};
 ghost use Rattle.lc_watch.specs.declared.actionpoints.ActRow.{ActRow};
 ghost use Rattle.lc_watch.specs.Verdicts.{lc_protocol};
 ghost use Rattle.app_suite.specs.Activations.{table_event};

@@ -6,7 +6,7 @@ use Rattle.lc_watch.specs.Firing.{starts_active}
 use Rattle.lc_watch.specs.Histories.{setup_of}
 use Rattle.lc_watch.proofs.Halves.{half_none, half_more, half_whole}
 use Rattle.lc_watch.proofs.Serving.{IsAny, IsBegun, begun_is}
-use Rattle.lc_watch.proofs.limits.begin_all.Goals as goal
+use Rattle.lc_watch.proofs.duty.begin_all.Goals as goal
 
 pub loop-place-init : goal.loop-place-init
 loop-place-init c = record {

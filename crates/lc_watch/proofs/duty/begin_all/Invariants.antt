@@ -1,7 +1,7 @@
 use Rattle.std.proofs.Common.{◌≡◌, length, false}
 use Rattle.lc_watch.proofs.Halves.{Half}
 use Rattle.lc_watch.proofs.Serving.{IsAny, IsBegun}
-use Rattle.lc_watch.proofs.limits.begin_all.Given as goal
+use Rattle.lc_watch.proofs.duty.begin_all.Given as goal
 
 -- what is kept so far stands for no wakeup
 abbrev pub invariant-loop-place : goal.invariant-loop-place

@@ -8,15 +8,15 @@ use Rattle.lc_watch.specs.Actionpoints.{act_at, evaluation_of}
 use Rattle.lc_watch.specs.Failing.{fires_by, by_firing, PointStands}
 use Rattle.lc_watch.specs.Histories.{Input, Setup, setup_of, ordered_at, switches_in, telemetry_of, evaluation_at, evaluations_of}
 use Rattle.lc_watch.specs.Firing.{starts_active, settings_of}
-use Rattle.lc_watch.specs.Step.{firing_items, items_at}
+use Rattle.lc_watch.specs.Answers.{firing_items, point_items}
 use Rattle.lc_watch.specs.State.{PointsStand, point_at}
 use Rattle.lc_watch.specs.declared.watchpoints.WatchRow.{WatchRow}
 use Rattle.lc_watch.specs.declared.actionpoints.ActRow.{ActRow}
 use Rattle.lc_watch.proofs.Halves.{half_none, half_more, half_whole}
 use Rattle.lc_watch.proofs.Evaluating.{evaluation_same}
 use Rattle.lc_watch.proofs.Serving.{IsPoint, served_is, fired_below, below_none, below_all, given_more, fired_one}
-use Rattle.lc_watch.proofs.limits.serve_all.Goals as goal
-use Rattle.lc_watch.proofs.limits.serve_all.Goals.{After-serve}
+use Rattle.lc_watch.proofs.duty.serve_all.Goals as goal
+use Rattle.lc_watch.proofs.duty.serve_all.Goals.{After-serve}
 
 pub loop-place-init : goal.loop-place-init
 loop-place-init c = record {
@@ -29,7 +29,7 @@ loop-place-init c = record {
       half_none (IsPoint setup history (ordered_at setup input)) (IsPoint setup (history ++ input ∷ []) []) 16 (record { active = false; failing = 0 }) c.args.points.now stood.each;
   items = λ watch history input same stood.
       let setup : Setup = setup_of watch c.args.actions.now in
-      sym (ap (λ (places : List ℕ). adding c.args.out.now (flat_map (items_at c.args.now c.args.actions.now) places)) (below_none setup history input) ∙ adding_none c.args.out.now);
+      sym (ap (λ (places : List ℕ). adding c.args.out.now (flat_map (point_items c.args.now c.args.actions.now) places)) (below_none setup history input) ∙ adding_none c.args.out.now);
   fired = λ watch history input count same stood counted.
       let setup : Setup = setup_of watch c.args.actions.now in
       let none : length (fired_below setup history input 0) ≡ 0 = ap length (below_none setup history input) in
@@ -112,7 +112,7 @@ returns-clause-items c = λ watch history input same stood.
     let setup : Setup = setup_of watch c.args.actions.now in
     let all : c.loop-place.place ≡ 16 = omega arith in
     c.loop-place.invariant.items watch history input same stood
-    ∙ ap (λ (places : List ℕ). adding c.args.out.now (flat_map (items_at c.args.now c.args.actions.now) places)) (ap (fired_below setup history input) all ∙ below_all setup history input)
+    ∙ ap (λ (places : List ℕ). adding c.args.out.now (flat_map (point_items c.args.now c.args.actions.now) places)) (ap (fired_below setup history input) all ∙ below_all setup history input)
 
 pub returns-clause-fired : goal.returns-clause-fired
 returns-clause-fired c = λ watch history input count same stood counted.

@@ -29,12 +29,12 @@ loop-word-preserved c =
       small = let most = c.in-Some.ensures.small in let double = twice i in let before = held.small in omega (arith, most, double, before);
       known =
           subst (λ (words : List Word). list_all (names_known outcome) (take (i + 1) words) ≡ true) is
-          (known_more outcome items i c.loop-word-test.true (subst (λ (words : List Word). list_all (names_known outcome) (take i words) ≡ true) (sym is) held.known) (c.work.ensures.known next c.in-Some.is));
+          (known_more outcome items i c.loop-word-test.true (subst (λ (words : List Word). list_all (names_known outcome) (take i words) ≡ true) (sym is) held.known) (c.stack_after.ensures.known next c.in-Some.is));
       stack =
           subst (λ (words : List Word). (values : List Bool) → values_left (tripped_in outcome) (take (i + 1) words) ≡ Some values → next ≡ bits_of values) is
           (stack_more outcome items i c.loop-word-test.true c.loop-word.stack next
           (subst (λ (words : List Word). (values : List Bool) → values_left (tripped_in outcome) (take i words) ≡ Some values → c.loop-word.stack ≡ bits_of values) (sym is) held.stack)
-          (λ values left stands done. c.work.ensures.left values left next stands done c.in-Some.is));
+          (λ values left stands done. c.stack_after.ensures.left values left next stands done c.in-Some.is));
     }
 
 pub returns-in_default : goal.returns-in_default
@@ -43,7 +43,7 @@ returns-in_default c =
     let items : List Word = c.expression-word-items.result.now in
     let is : items ≡ expression c.args.row.now = c.expression-word-items.ensures.words in
     entry_used outcome c.args.row.now None (sym c.is_used.ensures ∙ c.if-not-is_used.false)
-    (ap (value_of outcome) (sym is) ∙ known_fails outcome items c.loop-word.word-index c.loop-word-test.true (c.work.ensures.unknown c.in_default.is))
+    (ap (value_of outcome) (sym is) ∙ known_fails outcome items c.loop-word.word-index c.loop-word-test.true (c.stack_after.ensures.unknown c.in_default.is))
 
 pub returns : goal.returns
 returns c =

@@ -3,7 +3,7 @@ use Rattle.lc_watch.specs.Outcomes.{kept_at, is_tripped}
 use Rattle.lc_watch.specs.Expressions.{differ, with_one, with_two, worked, tripped_in}
 use Rattle.lc_watch.specs.declared.outcomes.Outcome.{Outcome}
 use Rattle.lc_watch.proofs.Stacks.{one_left, two_left, put_left}
-use Rattle.lc_watch.proofs.evaluation.work.Goals as goal
+use Rattle.lc_watch.proofs.evaluation.stack_after.Goals as goal
 
 pub returns-in-Watch-clause-left : goal.returns-in-Watch-clause-left
 returns-in-Watch-clause-left c = λ values left next stack done is.

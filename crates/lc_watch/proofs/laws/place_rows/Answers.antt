@@ -18,7 +18,8 @@ use Rattle.lc_watch.specs.Instructions.{instruction_of}
 use Rattle.lc_watch.specs.Histories.{telemetry_of, evaluations_of}
 use Rattle.lc_watch.specs.Firing.{settings_of, fired_at, fired_of, fired_count}
 use Rattle.lc_watch.specs.Housekeeping.{codes_of, results_of, active_bits, housekeeping_of, housekeeping_at}
-use Rattle.lc_watch.specs.Step.{lc_heard, start_of, lc_items}
+use Rattle.lc_watch.specs.Answers.{start_of}
+use Rattle.lc_watch.specs.Step.{lc_heard, lc_items}
 use Rattle.lc_watch.proofs.laws.place_rows.Goals as goal
 
 pub returns : goal.returns

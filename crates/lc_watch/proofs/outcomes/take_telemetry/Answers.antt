@@ -5,7 +5,7 @@ use Rattle.lc_watch.specs.Outcomes.{OutcomesStand}
 use Rattle.lc_watch.specs.declared.outcomes.Outcome.TheVariants.{Unseen}
 use Rattle.lc_watch.proofs.Halves.{half_none, half_more, half_whole}
 use Rattle.lc_watch.proofs.Taking.{IsOutcome}
-use Rattle.lc_watch.proofs.outcomes.take_all.Goals as goal
+use Rattle.lc_watch.proofs.outcomes.take_telemetry.Goals as goal
 
 pub returns-then-is_empty : goal.returns-then-is_empty
 returns-then-is_empty c = λ before stood.

@@ -1,7 +1,7 @@
 use Rattle.std.proofs.Common.{◌≡◌, ℕ, List, length}
 use Rattle.lc_watch.specs.Outcomes.{OutcomesStand}
 use Rattle.lc_watch.proofs.Taking.{HalfTaken}
-use Rattle.lc_watch.proofs.outcomes.take_all.Given as goal
+use Rattle.lc_watch.proofs.outcomes.take_telemetry.Given as goal
 
 -- the outcomes so far have seen the packets
 abbrev pub invariant-loop-place : goal.invariant-loop-place

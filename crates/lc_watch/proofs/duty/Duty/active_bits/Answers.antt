@@ -2,7 +2,7 @@ use Rattle.std.proofs.Common.{◌<◌, ◌∙◌, length, false, refl, arith}
 use Rattle.std.proofs.lemmas.List.{length-set}
 use Rattle.lc_watch.proofs.Halves.{half_none, half_more, half_whole}
 use Rattle.lc_watch.proofs.Showing.{IsAnyBit, IsShown, active_shown}
-use Rattle.lc_watch.proofs.limits.Limits.active_bits.Goals as goal
+use Rattle.lc_watch.proofs.duty.Duty.active_bits.Goals as goal
 
 pub loop-place-init : goal.loop-place-init
 loop-place-init c = record { long = refl; half = half_none IsAnyBit (IsShown c.args.self.now.points) 16 false _ (λ k within. tt) }

@@ -1,7 +1,7 @@
 use Rattle.std.proofs.Common.{◌≡◌, false, length}
 use Rattle.lc_watch.proofs.Halves.{Half}
 use Rattle.lc_watch.proofs.Showing.{IsAnyBit, IsShown}
-use Rattle.lc_watch.proofs.limits.Limits.active_bits.Given as goal
+use Rattle.lc_watch.proofs.duty.Duty.active_bits.Given as goal
 
 -- each bit so far tells whether its actionpoint is active
 abbrev pub invariant-loop-place : goal.invariant-loop-place

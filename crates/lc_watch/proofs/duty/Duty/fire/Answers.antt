@@ -3,7 +3,7 @@ use Rattle.lc_watch.specs.Histories.{Setup, setup_of, telemetry_of}
 use Rattle.lc_watch.specs.Firing.{fired_of, fired_count}
 use Rattle.lc_watch.proofs.Taking.{all_outcomes}
 use Rattle.lc_watch.proofs.Following.{fired_more}
-use Rattle.lc_watch.proofs.limits.Limits.fire.Goals as goal
+use Rattle.lc_watch.proofs.duty.Duty.fire.Goals as goal
 
 pub returns-clause-stands : goal.returns-clause-stands
 unfolding fired_count

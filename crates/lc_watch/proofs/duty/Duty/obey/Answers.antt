@@ -1,6 +1,6 @@
 use Rattle.std.proofs.Common.{◌≤◌, ◌-◌, arith}
 use Rattle.lc_watch.proofs.Serving.{plain_ordered, one_ordered}
-use Rattle.lc_watch.proofs.limits.Limits.obey.Goals as goal
+use Rattle.lc_watch.proofs.duty.Duty.obey.Goals as goal
 
 pub returns-in-Plain : goal.returns-in-Plain
 returns-in-Plain c = λ setup history orders stood.

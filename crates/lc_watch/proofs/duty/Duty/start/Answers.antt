@@ -4,7 +4,7 @@ use Rattle.lc_watch.specs.Histories.{setup_of}
 use Rattle.lc_watch.specs.declared.outcomes.Outcome.TheVariants.{Unseen}
 use Rattle.lc_watch.proofs.Following.{telemetry_none, fired_none}
 use Rattle.lc_watch.proofs.Taking.{none_stand}
-use Rattle.lc_watch.proofs.limits.Limits.start.Goals as goal
+use Rattle.lc_watch.proofs.duty.Duty.start.Goals as goal
 
 pub returns : goal.returns
 returns c = λ watch. record {

@@ -11,6 +11,6 @@ pub returns : goal.returns
 unfolding Stands
 returns c = λ watch. record {
   counts = c.start_counts.ensures ∙ sym (ap counts_of (heard_before_all (setup_of watch c.args.actions.now)) ∙ counts_none Instruction);
-  limits = c.start.ensures watch;
+  duty = c.start.ensures watch;
   uses = c.uses_any.ensures;
 }

@@ -1,6 +1,6 @@
 use Rattle.lc_watch.specs.Histories.{telemetry_of}
 use Rattle.lc_watch.proofs.Stepping.{housekeeping_shown}
-use Rattle.lc_watch.proofs.step.LimitsCommandedReads.housekeeping.Goals as goal
+use Rattle.lc_watch.proofs.step.DutyCommandedReads.housekeeping.Goals as goal
 
 pub returns-clause-packet : goal.returns-clause-packet
 returns-clause-packet c = λ turn orders left belongs stood.
