@@ -1,6 +1,5 @@
 -- The frames of a text as they are run beside a crowd, at one more frame.
-use Rattle.std.proofs.Common.{◌≡◌, ℕ, ◌+◌, List, [], ◌∷◌, ◌++◌, length, refl, sym, ◌∙◌, ap, append_assoc, append-nil, length-append, arith, Option, Some, None, Result, Ok, Err}
-use Rattle.std.specs.Prelude.{OnOk}
+use Rattle.std.proofs.Common.{◌≡◌, ℕ, ◌+◌, List, [], ◌∷◌, ◌++◌, length, refl, sym, ◌∙◌, ap, append_assoc, append-nil, length-append, arith, Option, Some, None}
 use Rattle.std.specs.List.{fold}
 use Rattle.subjects.specs.Plans.{Simulated}
 use Rattle.scenario.specs.FrameLists.{Frame}

@@ -1,8 +1,7 @@
 -- The promise of accepted words that were carried out.
-use Rattle.std.proofs.Common.{◌≡◌, ℕ, List, [], refl, ap, subst, sym, ◌∙◌, Option, Some, None, IsTrue}
+use Rattle.std.proofs.Common.{◌≡◌, ℕ, List, [], refl, subst, Option, Some, IsTrue}
 use Rattle.std.specs.Prelude.{◌≢◌, ◌⊎◌}
 use Rattle.fsw_outside.specs.Told.{WhereTold}
-use Rattle.fsw_outside.specs.Files.{Content}
 use Rattle.subjects.specs.Plans.{Simulated}
 use Rattle.rehearsal.specs.Words.{Asked, accepted_words, words_to_open}
 use Rattle.rehearsal.specs.Files.{AsksFor}

@@ -11,10 +11,9 @@ use Rattle.rehearsal.specs.declared.report.Status.TheVariants as statuses
 use Rattle.frame_exec.specs.Tables.{tables_fault}
 use Rattle.active_tables.specs.declared.loading.TablesFault.{TablesFault}
 use Rattle.rehearsal.specs.Words.{Asked, drill_in, file_unless, words_to_open}
-use Rattle.rehearsal.specs.Beside.{crowd_for}
 use Rattle.rehearsal.specs.Files.{AsksFor, OpensOnce, AreTaken, EndsAtFile}
 use Rattle.rehearsal.specs.Outcome.{IsText, ReadsAhead, Outcome, DrillOutcome, Seen, WritesNothing, RunsBy, Rehearses, MayAskNothing}
-use Rattle.rehearsal.proofs.Gathered.{asks_none, asks_front, asks_all}
+use Rattle.rehearsal.proofs.Gathered.{asks_front, asks_all}
 use Rattle.rehearsal.proofs.Beginnings.{text_by}
 
 -- behind the FILEs the scenario's file is to be opened, unless the scenario is generated

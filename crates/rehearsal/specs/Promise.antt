@@ -1,5 +1,5 @@
 -- The headline: what a rehearsal promises, from its words to its report, over any shelf and any outputs.
-use Rattle.std.specs.Prelude.{◌≡◌, ◌≢◌, ℕ, List, [], Bool, true, IsTrue, Option, Some, None, ◌⊎◌}
+use Rattle.std.specs.Prelude.{◌≡◌, ◌≢◌, ℕ, List, Bool, true, IsTrue, Option, Some, None, ◌⊎◌}
 use Rattle.fsw_outside.specs.Told.{WhereTold}
 use Rattle.fsw_outside.specs.Files.{Content, file_named}
 use Rattle.scenario.specs.Texts.{Text, Ended, reading}

@@ -1,5 +1,5 @@
 -- The promise of a rehearsal that ended before anything was read.
-use Rattle.std.proofs.Common.{◌≡◌, ℕ, ◌+◌, List, Bool, Option, Some, None, refl, sym, ap, inl, inr, arith, add-zero}
+use Rattle.std.proofs.Common.{◌≡◌, ℕ, List, Bool, Option, None, refl, sym, ap, inl, inr, arith, add-zero}
 use Rattle.fsw_outside.specs.Told.{WhereTold}
 use Rattle.fsw_outside.specs.Files.{Content}
 use Rattle.fsw_outside.specs.TellingLaws.{told_nothing}
@@ -8,7 +8,7 @@ use Rattle.rehearsal.specs.Words.{Asked, accepted_words, words_to_open}
 use Rattle.rehearsal.specs.Files.{AsksFor}
 use Rattle.rehearsal.specs.Beside.{crowd_for}
 use Rattle.rehearsal.specs.Report.{error_line, Tells}
-use Rattle.rehearsal.specs.Promise.{ShelfUse, shelf_use, SinkUse, sink_use, early_end, CarriesOut, Promise}
+use Rattle.rehearsal.specs.Promise.{shelf_use, SinkUse, sink_use, early_end, CarriesOut, Promise}
 use Rattle.rehearsal.specs.declared.report.Report.{Report}
 use Rattle.rehearsal.specs.declared.report.Status.TheVariants as statuses
 

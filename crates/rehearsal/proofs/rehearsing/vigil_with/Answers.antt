@@ -1,6 +1,6 @@
 use Rattle.std.proofs.Common.{◌∙◌, map}
 use Rattle.frame_exec.specs.Beside.{crowd_in}
-use Rattle.rehearsal.specs.Promise.{ShelfUse, shelf_use, SinkUse, sink_use}
+use Rattle.rehearsal.specs.Promise.{shelf_use, sink_use}
 use Rattle.rehearsal.specs.PromiseLaws.{ends_refused, ends_without_memory}
 use Rattle.rehearsal.proofs.Promised.{carries_out, keeps_promise}
 use Rattle.rehearsal.proofs.rehearsing.vigil_with.Goals as goal
