@@ -1,1 +1,3 @@
 mod TellingLemmas
+mod WovenLemmas
+pub mod Appending

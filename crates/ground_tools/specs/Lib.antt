@@ -1,2 +1,4 @@
 pub mod Telling
+pub mod Woven
+pub mod Appended
 pub mod Kept

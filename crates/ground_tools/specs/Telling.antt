@@ -24,3 +24,11 @@ pub record Stands (t : LogTeller) (front text out : List ℕ) : Type 0 where
 pub record KeepsNames (old new : LogTeller) : Type 0 where
   pub vocabulary : new.vocabulary ≡ old.vocabulary
   pub epoch : new.epoch ≡ old.epoch
+
+-- A teller read on in a text: the sentences of the lines that ended there were appended.
+pub record TellsOn (old new : LogTeller) (text bytes out shown : List ℕ) : Type 0 where
+  pub reader : ReaderStands new.reader (text ++ bytes) (log_said (text ++ bytes))
+  pub names : KeepsNames old new
+  pub more : List ℕ
+  pub told : log_told old.vocabulary old.epoch (text ++ bytes) ≡ log_told old.vocabulary old.epoch text ++ more
+  pub appended : shown ≡ out ++ more

@@ -28,9 +28,9 @@ pub struct Told {
 impl LogTeller {
     ghost use Rattle.log_words.specs.Sentences.{sentence_of};
     ghost use Rattle.log_lines.specs.declared.line.LogLine.{LogLine};
-    ghost use Rattle.log_lines.specs.Logs.{cut_in};
+    ghost use Rattle.log_lines.specs.Logs.{cut_in, log_said, Stands as ReaderStands};
     ghost use Rattle.log_words.specs.Worked.{own_words};
-    ghost use Rattle.ground_tools.specs.Telling.{Stands, KeepsNames};
+    ghost use Rattle.ground_tools.specs.Telling.{Stands, KeepsNames, TellsOn};
 
     /// A teller of a log of which nothing came yet, in the names of the bench's applications. Lines are told by the seconds behind
     /// `epoch`, the time of frame 0, where it is known, and else by their frames.
@@ -74,11 +74,16 @@ impl LogTeller {
         Ok(Told { taken, fault: None })
     }
 
+    /// The frame of the line that was told last.
+    pub(crate) fn last_frame(&self) -> u32 {
+        self.line.frame
+    }
+
     /// Takes a first part of a piece: as far as the end of a line, whose sentence is appended, or all of it where no line ends there.
-    fn step(&mut self, piece: &[u8], out: &mut Vec<u8>) -> Result<Told, AllocError>
+    pub(crate) fn step(&mut self, piece: &[u8], out: &mut Vec<u8>) -> Result<Told, AllocError>
         requires { 0 < length piece.now }
-        ensures told { (front text : List ℕ) → Stands self.old front text out.old.items
-            → IfOk result (λ told. Stands self.new front (text ++ take told.taken piece.now) out.new.items) }
+        ensures told { (text : List ℕ) → ReaderStands self.old.reader text (log_said text)
+            → IfOk result (λ told. TellsOn self.old self.new text (take told.taken piece.now) out.old.items out.new.items) }
         ensures taken { IfOk result (λ told. told.taken ≤ length piece.now) }
         ensures some { IfOk result (λ told. 0 < told.taken) }
         ensures names { KeepsNames self.old self.new }

@@ -7,12 +7,17 @@ ghost use Rattle.fsw_outside.specs.Bytes.{Writes};
 ghost use Rattle.fsw_outside.specs.Tally.{Adds};
 ghost use Rattle.ground_tools.specs.Kept.{told_while, tallied_while};
 
+use crate::frame_tellers::FrameTeller;
 use crate::log_teller::LogTeller;
 use crate::survey::Survey;
+use crate::told_pieces::tell_piece;
 use fsw_outside::{Failed, Sink};
-use packet_forms::{behind, front};
+use packet_forms::front;
 use packet_log::put_bytes;
-use std::alloc::{AllocError, Global};
+use std::alloc::Global;
+
+/// How many bytes that are told of frames without lines wait to be written at most.
+const BLOCK: usize = 65_536;
 
 /// Why a log isn't told any further.
 #[derive(Clone, Copy, Debug, PartialEq, Eq)]
@@ -24,23 +29,26 @@ pub enum Trouble {
 }
 
 /// A sink between a rehearsal and two others. What comes is handed on to the log as it is, and what the log took is told to the
-/// words, a sentence a line, and counted. It tells what the log tells; where the words fail, or memory runs out, it fails from
-/// the next piece on.
+/// words, a sentence a line, and counted; in front of a frame's first sentence stands what was given to the frames up to it. It tells
+/// what the log tells; where the words fail, or memory runs out, it fails from the next piece on.
 #[derive(Drop)]
-pub struct ToldLog<L: Sink + Drop, W: Sink + Drop> {
+pub struct ToldLog<L: Sink + Drop, W: Sink + Drop, F: FrameTeller + Drop> {
     log: L,
     words: W,
     teller: LogTeller,
+    frames: F,
     survey: Survey,
-    sentences: Vec<u8>,
+    // the sentence of a line, and all that is told of a piece
+    sentence: Vec<u8>,
+    told: Vec<u8>,
     trouble: Option<Trouble>,
     refusals: u64,
 }
 
-impl<L: Sink + Drop, W: Sink + Drop> ToldLog<L, W> {
+impl<L: Sink + Drop, W: Sink + Drop, F: FrameTeller + Drop> ToldLog<L, W, F> {
     /// A log of which nothing came yet. Lines are told by the seconds behind `epoch`, the time of frame 0, where it is known, and else
-    /// by their frames.
-    pub fn new(alloc: Global, epoch: Option<u32>, log: L, words: W) -> ToldLog<L, W>
+    /// by their frames; what these were given is told by `frames`.
+    pub fn new(alloc: Global, epoch: Option<u32>, log: L, words: W, frames: F) -> ToldLog<L, W, F>
         ensures log { result.log ≡ log }
         ensures refusals { result.refusals ≡ 0 }
     {
@@ -48,8 +56,10 @@ impl<L: Sink + Drop, W: Sink + Drop> ToldLog<L, W> {
             log,
             words,
             teller: LogTeller::new(epoch),
+            frames,
             survey: Survey::new(alloc),
-            sentences: Vec::new(alloc),
+            sentence: Vec::new(alloc),
+            told: Vec::new(alloc),
             trouble: None,
             refusals: 0,
         }
@@ -76,15 +86,52 @@ impl<L: Sink + Drop, W: Sink + Drop> ToldLog<L, W> {
         }
     }
 
+    /// Writes what is told and wasn't written, where it has so many bytes.
+    fn write_told(&mut self, least: usize) -> Result<(), Trouble>
+        ensures log { self.new.log ≡ self.old.log }
+        ensures refusals { self.new.refusals ≡ self.old.refusals }
+    {
+        if self.told.len() < least {
+            return Ok(());
+        }
+        let written = put_bytes(&mut self.words, self.told.as_slice());
+        self.told.clear();
+        match written {
+            Ok(()) => Ok(()),
+            Err(_) => Err(Trouble::Words),
+        }
+    }
+
+    /// Tells what was given to the frames of a run of so many that no line of the log told of.
+    pub fn tell_rest(&mut self, frames: u32) -> Result<(), Trouble>
+        ensures log { self.new.log ≡ self.old.log }
+        ensures refusals { self.new.refusals ≡ self.old.refusals }
+    {
+        self.told.clear();
+        for frame in 0..frames {
+            if self.frames.tell_frames(frame, &mut self.told).is_err() {
+                return Err(Trouble::Memory);
+            }
+            self.write_told(BLOCK)?;
+        }
+        self.write_told(1)
+    }
+
     /// Tells what the log took.
     fn tell(&mut self, piece: &[u8])
         ensures log { self.new.log ≡ self.old.log }
         ensures refusals { self.new.refusals ≡ self.old.refusals }
     {
-        self.sentences.clear();
-        let told = tell_piece(&mut self.teller, piece, &mut self.sentences);
+        self.told.clear();
+        let told = tell_piece(
+            &mut self.teller,
+            &mut self.frames,
+            piece,
+            &mut self.sentence,
+            &mut self.told,
+        );
         let counted = self.survey.take(piece);
-        let written = put_bytes(&mut self.words, self.sentences.as_slice());
+        let written = put_bytes(&mut self.words, self.told.as_slice());
         if written.is_err() {
             self.trouble = Some(Trouble::Words);
         } else if told.is_err() || counted.is_err() {
@@ -93,17 +140,7 @@ impl<L: Sink + Drop, W: Sink + Drop> ToldLog<L, W> {
     }
 }
 
-/// Appends the sentences of all lines that end in a piece.
-fn tell_piece(teller: &mut LogTeller, piece: &[u8], out: &mut Vec<u8>) -> Result<(), AllocError> {
-    let mut taken = 0;
-    'lines: while taken < piece.len() {
-        let told = teller.tell(behind(piece, taken), out)?;
-        taken += told.taken;
-    }
-    Ok(())
-}
-
-impl<L: Sink + Drop, W: Sink + Drop> Sink for ToldLog<L, W> {
+impl<L: Sink + Drop, W: Sink + Drop, F: FrameTeller + Drop> Sink for ToldLog<L, W, F> {
     ghost held = { λ s. told_while s.refusals (L.held s.log) };
 
     ghost tally = { λ s. told_while s.refusals (L.tally s.log) };
