@@ -1,9 +1,8 @@
 //! Which names are those of books, and from when scenarios count.
 
 use crate::epochs::epoch_of;
-use ground_files::is_stream;
 use ground_making::{MOST_BYTES, is_book};
-use ground_runs::Run;
+use ground_runs::{Run, can_be_read_again};
 use std::alloc::{AllocError, Global};
 use std::fs;
 use std::io::{self, Read};
@@ -48,7 +47,7 @@ fn read_beginning<F: Read>(alloc: Global, text: &mut F) -> io::Result<Vec<u8>> {
 /// The beginning of a file, up to its first line that says something; none of what is no regular file, since it couldn't be read again.
 fn beginning_of<R: Files + AllocGlobal>(rt: &R, run: &Run<'_>) -> io::Result<Option<Vec<u8>>> {
     let path = run.scenario;
-    if is_stream(path) || run.is_drill() || !fs::metadata(rt, path)?.is_file() {
+    if run.is_drill() || !can_be_read_again(rt, path)? {
         return Ok(None);
     }
     let mut file = fs::open(rt, path)?;

@@ -5,10 +5,12 @@ use crate::epochs::epoch_of;
 use crate::shelved_books::{ShelvedBook, shelve_book};
 use ground_files::{Status, get, tell_no_memory, tell_unread};
 use ground_making::{MOST_BYTES, Refusal, tell_refusal};
-use ground_runs::{Rehearsal, Run, run_rehearsal};
-use load_books::book_forms;
+use ground_runs::{Rehearsal, Run, given_file, run_rehearsal};
+use ground_tools::ScenarioTeller;
+use input_words::GivenFile;
+use load_books::{Book, book_forms};
 use rehearsal::Words;
-use std::alloc::Global;
+use std::alloc::{AllocError, Global};
 use std::rt::Files;
 use std::thread::Threads;
 
@@ -25,6 +27,30 @@ fn shelved<'a>(
         Ok(shelved) => Ok(shelved),
         Err(error) => Err(Refusal::from(error)),
     }
+}
+
+/// The files of a book, each by the name of its part.
+fn given_parts(alloc: Global, book: &Book<'_>) -> Result<Vec<GivenFile>, AllocError> {
+    let mut files = Vec::new(alloc);
+    for file in book.files.as_slice() {
+        files.push(given_file(alloc, file.name, file.bytes.as_slice())?)?;
+    }
+    Ok(files)
+}
+
+/// Who tells what the scenario of a book does, unless the words don't ask for it.
+fn book_frames<'a>(
+    alloc: Global,
+    run: &Run<'_>,
+    book: &'a Book<'_>,
+) -> Result<Option<ScenarioTeller<&'a [u8]>>, AllocError> {
+    if !run.tells_inputs {
+        return Ok(None);
+    }
+    let files = given_parts(alloc, book)?;
+    let scenario = book.scenario.as_slice();
+    let teller = ScenarioTeller::open(alloc, scenario, run.epoch, files, !run.has_subjects)?;
+    Ok(Some(teller))
 }
 
 /// Rehearses the book that a text says.
@@ -49,10 +75,14 @@ where
         text,
         scenario,
     };
+    let Ok(frames) = book_frames(rt.alloc(), &timed, &book) else {
+        return tell_no_memory(rt);
+    };
     let what = Rehearsal {
         words,
         shelf,
         teller,
+        frames,
     };
     run_rehearsal(rt, &timed, what)
 }

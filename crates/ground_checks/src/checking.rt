@@ -14,31 +14,16 @@ use crate::scenario_names::{Known, known_names};
 use ground_files::{
     Status, get, input_name, is_stream, output_name, tell_no_memory, tell_unread, tell_unwritten,
 };
+use ground_runs::table_name;
 use memory_window::Map;
-use packet_forms::{Name, behind, front};
+use packet_forms::Name;
 use std::alloc::{AllocError, Global};
 use std::fs;
 use std::rt::Files;
-use std::str::from_utf8;
 use table_files::{FileImage, read_file};
-
-/// Where the name of a table stands in its file, and how many bytes it has at most.
-const NAME: usize = 76;
-
-const MOST_NAME: usize = 40;
 
 /// How many files the program takes beside a scenario.
 const MOST_FILES: usize = 100;
-
-/// The name of a table in the headers of its file.
-fn table_name(file: &[u8]) -> &str {
-    let field = front(behind(file, NAME), MOST_NAME);
-    let size = field
-        .iter()
-        .position(|byte| *byte == 0)
-        .unwrap_or(MOST_NAME);
-    from_utf8(front(field, size)).unwrap_or("")
-}
 
 /// What a file holds, as far as its headers say it.
 fn holding_of(file: &[u8]) -> Holding {

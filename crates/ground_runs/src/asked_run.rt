@@ -16,6 +16,8 @@ pub struct Run<'a> {
     pub epoch: Option<u32>,
     pub is_strict: bool,
     pub allowed: &'a [&'a str],
+    /// Whether what the scenario does is told among the sentences of the log.
+    pub tells_inputs: bool,
     /// The file that keeps the log.
     pub log: Option<&'a str>,
     /// The file that has the words, or standard output.

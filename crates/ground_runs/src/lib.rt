@@ -3,14 +3,17 @@
 
 mod asked_run;
 mod endings;
+mod given_files;
 mod line_causes;
 mod rehearsing;
 mod running;
 mod second_looks;
+mod told_scenarios;
 
 pub use asked_run::Run;
 pub use endings::{CauseTeller, NOT_GIVEN};
+pub use given_files::{given_file, table_name};
 pub use line_causes::{find_line, line_cause};
 pub use rehearsing::rehearse_on;
 pub use running::{Rehearsal, run_rehearsal, run_scenario};
-pub use second_looks::read_again;
+pub use second_looks::{can_be_read_again, read_again};

@@ -3,28 +3,30 @@
 use crate::asked_run::Run;
 use crate::endings::{CauseTeller, is_whole, tell_end, tell_trouble};
 use crate::rehearsing::rehearse_on;
+use crate::told_scenarios::scenario_teller;
 use fsw_outside::{FileShelf, Shelf, StdSink};
 use ground_files::{
     Output, PartFile, Status, open_output, output_name, settle, tell_no_memory, tell_replaced,
     tell_unwritten,
 };
 use ground_summaries::{refused_allow, summary_of, unwanted_of};
-use ground_tools::{ToldLog, Trouble};
+use ground_tools::{FrameTeller, ToldLog, Trouble};
 use rehearsal::{Report, Status as End, Words};
 use std::io::{self, Printer, Write};
 use std::rt::Files;
 use std::thread::Threads;
 
 /// Writes the summary behind the words of a rehearsal whose log was written whole.
-fn sum_up<R, L, W>(
+fn sum_up<R, L, W, F>(
     rt: &R,
     frames: u32,
-    told: &mut ToldLog<StdSink<L>, StdSink<W>>,
+    told: &mut ToldLog<StdSink<L>, StdSink<W>, F>,
 ) -> Result<(), Trouble>
 where
     R: AllocGlobal,
     L: Write + Drop,
     W: Write + Drop,
+    F: FrameTeller + Drop,
 {
     match summary_of(rt.alloc(), told.survey(), frames) {
         Ok(summary) => told.say(summary.as_slice()),
@@ -33,15 +35,16 @@ where
 }
 
 /// Tells what came that no `--allow` names, and answers the status.
-fn judge<R, L, W>(
+fn judge<R, L, W, F>(
     rt: &R,
     run: &Run<'_>,
-    told: &ToldLog<StdSink<L>, StdSink<W>>,
+    told: &ToldLog<StdSink<L>, StdSink<W>, F>,
 ) -> Result<Status, Trouble>
 where
     R: Eprint + AllocGlobal,
     L: Write + Drop,
     W: Write + Drop,
+    F: FrameTeller + Drop,
 {
     if !run.is_strict {
         return Ok(Status::Done);
@@ -57,19 +60,21 @@ where
     Ok(Status::Unwanted)
 }
 
-/// Sums up a rehearsal that ended so.
-fn end_told<R, L, W>(
+/// Tells what is left of a rehearsal that ended so, and sums it up.
+fn end_told<R, L, W, F>(
     rt: &R,
     run: &Run<'_>,
     frames: u32,
     status: Status,
-    told: &mut ToldLog<StdSink<L>, StdSink<W>>,
+    told: &mut ToldLog<StdSink<L>, StdSink<W>, F>,
 ) -> Result<Status, Trouble>
 where
     R: Eprint + AllocGlobal,
     L: Write + Drop,
     W: Write + Drop,
+    F: FrameTeller + Drop,
 {
+    told.tell_rest(frames)?;
     sum_up(rt, frames, told)?;
     let judged = judge(rt, run, told)?;
     if status == Status::Done {
@@ -80,18 +85,19 @@ where
 }
 
 /// Ends a rehearsal: tells why it ended, or sums it up.
-fn end_run<R, T, L, W>(
+fn end_run<R, T, L, W, F>(
     rt: &R,
     run: &Run<'_>,
     teller: &T,
     report: &Report,
-    told: &mut ToldLog<StdSink<L>, StdSink<W>>,
+    told: &mut ToldLog<StdSink<L>, StdSink<W>, F>,
 ) -> Status
 where
     R: Files + Eprint + AllocGlobal,
     T: CauseTeller,
     L: Write + Drop,
     W: Write + Drop,
+    F: FrameTeller + Drop,
 {
     let trouble = told.trouble();
     if trouble.is_some() || report.status == End::WriteFailed {
@@ -137,21 +143,24 @@ fn end_drill<R: Files + Eprint + AllocGlobal, T: CauseTeller>(
     tell_end(rt, teller, report)
 }
 
-/// What is rehearsed: the words for it, a shelf that has the files that they name, and who tells why it ended.
+/// What is rehearsed: the words for it, a shelf that has the files that they name, who tells why it ended, and who tells what its frames were
+/// given.
 #[derive(Drop)]
-pub struct Rehearsal<S: Shelf + Drop, T: CauseTeller + Drop> {
+pub struct Rehearsal<S: Shelf + Drop, T: CauseTeller + Drop, F: FrameTeller + Drop> {
     pub words: Words,
     pub shelf: S,
     pub teller: T,
+    pub frames: F,
 }
 
 /// Rehearses a generated scenario into the words' output, where its summary is written as it is.
-fn run_drill<R, S, T, W>(rt: &R, run: &Run<'_>, what: Rehearsal<S, T>, out: W) -> Ending
+fn run_drill<R, S, T, W, F>(rt: &R, run: &Run<'_>, what: Rehearsal<S, T, F>, out: W) -> Ending
 where
     R: Threads + Sync + Files + Eprint + AllocGlobal,
     S: Shelf + Drop,
     T: CauseTeller + Drop,
     W: Write + Drop,
+    F: FrameTeller + Drop,
 {
     let mut what = what;
     match rehearse_on(rt, &what.words, &mut what.shelf, &mut StdSink::new(out)) {
@@ -164,24 +173,38 @@ where
 }
 
 /// Rehearses into both outputs.
-fn run_both<R, S, T, L, W>(rt: &R, run: &Run<'_>, what: Rehearsal<S, T>, log: L, words: W) -> Ending
+fn run_both<R, S, T, L, W, F>(
+    rt: &R,
+    run: &Run<'_>,
+    what: Rehearsal<S, T, F>,
+    log: L,
+    words: W,
+) -> Ending
 where
     R: Threads + Sync + Files + Eprint + AllocGlobal,
     S: Shelf + Drop,
     T: CauseTeller + Drop,
     L: Write + Drop,
     W: Write + Drop,
+    F: FrameTeller + Drop,
 {
-    let mut what = what;
+    let Rehearsal {
+        words: asked,
+        shelf,
+        teller,
+        frames,
+    } = what;
+    let mut shelf = shelf;
     let mut told = ToldLog::new(
         rt.alloc(),
         run.epoch,
         StdSink::new(log),
         StdSink::new(words),
+        frames,
     );
-    match rehearse_on(rt, &what.words, &mut what.shelf, &mut told) {
+    match rehearse_on(rt, &asked, &mut shelf, &mut told) {
         Ok(report) => Ending {
-            status: end_run(rt, run, &what.teller, &report, &mut told),
+            status: end_run(rt, run, &teller, &report, &mut told),
             frames: report.frames,
         },
         Err(_) => Ending::without_memory(rt),
@@ -212,10 +235,10 @@ impl<'a, R: Files + Eprint + AllocGlobal> Parts<'a, R> {
 }
 
 /// Rehearses into an output for the words, and opens the one for the log.
-fn carry_out<'a, R, S, T, W>(
+fn carry_out<'a, R, S, T, W, F>(
     rt: &'a R,
     run: &Run<'_>,
-    what: Rehearsal<S, T>,
+    what: Rehearsal<S, T, F>,
     part: Option<PartFile<'a, R>>,
     words: W,
 ) -> Status
@@ -224,6 +247,7 @@ where
     S: Shelf + Drop,
     T: CauseTeller + Drop,
     W: Write + Drop,
+    F: FrameTeller + Drop,
 {
     match open_log(rt, run) {
         Ok((log_part, log)) => {
@@ -286,11 +310,12 @@ fn refuse<R: Files + Eprint + AllocGlobal>(rt: &R, run: &Run<'_>) -> Option<Stat
 
 /// Rehearses this, as the words ask for it: the words of the log go to `path`, or standard output, and the log is kept in the file `log`,
 /// where one is named.
-pub fn run_rehearsal<R, S, T>(rt: &R, run: &Run<'_>, what: Rehearsal<S, T>) -> Status
+pub fn run_rehearsal<R, S, T, F>(rt: &R, run: &Run<'_>, what: Rehearsal<S, T, F>) -> Status
 where
     R: Threads + Sync + Files + Print + Eprint + AllocGlobal,
     S: Shelf + Drop,
     T: CauseTeller + Drop,
+    F: FrameTeller + Drop,
 {
     if let Some(status) = refuse(rt, run) {
         return status;
@@ -309,10 +334,14 @@ where
     let Ok(words) = run.words(rt.alloc()) else {
         return tell_no_memory(rt);
     };
+    let Ok(frames) = scenario_teller(rt, run) else {
+        return tell_no_memory(rt);
+    };
     let what = Rehearsal {
         words,
         shelf: FileShelf::new(rt),
         teller: *run,
+        frames,
     };
     run_rehearsal(rt, run, what)
 }

@@ -225,12 +225,18 @@ fn run_options<'a>(alloc: Global) -> Result<Command<'a>, AllocError> {
         "subjects",
         "Simulated applications give the execution counters, in place of the scenario",
     );
+    let tells_log_alone = flag(
+        alloc,
+        "no-inputs",
+        "Tells the log alone, and not what the scenario does in between",
+    );
     Command::new(alloc, "run")
         .about(
             "Rehearses a scenario or a book as vigil does, and tells the log in words as it comes",
         )
         .arg(workers(alloc))?
         .arg(has_subjects)?
+        .arg(tells_log_alone)?
         .arg(time_of_run(alloc))
 }
 

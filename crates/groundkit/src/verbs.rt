@@ -103,6 +103,7 @@ where
         epoch: asked.get_one::<u32>("epoch"),
         is_strict: asked.get_flag("strict"),
         allowed: asked.get_strs("allow").unwrap_or(&[]),
+        tells_inputs: !asked.get_flag("no-inputs"),
         log: asked.get_str("log"),
         path: asked.get_str("output"),
     };
