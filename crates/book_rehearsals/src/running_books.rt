@@ -32,8 +32,9 @@ fn shelved<'a>(
 /// The files of a book, each by the name of its part.
 fn given_parts(alloc: Global, book: &Book<'_>) -> Result<Vec<GivenFile>, AllocError> {
     let mut files = Vec::new(alloc);
-    for file in book.files.as_slice() {
-        files.push(given_file(alloc, file.name, file.bytes.as_slice())?)?;
+    for (place, file) in book.files.as_slice().iter().enumerate() {
+        let given = given_file(alloc, place, file.name, file.bytes.as_slice())?;
+        files.push(given)?;
     }
     Ok(files)
 }

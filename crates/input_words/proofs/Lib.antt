@@ -1,2 +1,3 @@
 mod CounterLemmas
 mod InputLemmas
+mod HoldLemmas

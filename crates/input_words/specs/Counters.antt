@@ -24,7 +24,7 @@ is_advanced last (Some value) = not (value == last)
 -- what a counter does that it didn't do in the frame before: it stands still, or goes on
 abbrev pub conduct_words : WatchedCounter → Option ℕ → List ℕ
 conduct_words w now =
-    name_text w.name ++ (if w.advances then codes "'s execution counter stands still at " else codes "'s execution counter goes on at ") ++ decimal (unwrap_or now w.value)
+    name_text w.name ++ (if w.advances then codes "'s execution counter stands still with the value " else codes "'s execution counter goes on with the value ") ++ decimal (unwrap_or now w.value)
 
 -- the line of a counter whose conduct changes in a frame, and none of another
 abbrev pub conduct_told : FrameTime → WatchedCounter → Option ℕ → List ℕ

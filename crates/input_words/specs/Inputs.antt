@@ -4,8 +4,6 @@ use Rattle.std.specs.List.{flat_map}
 use Rattle.packet_forms.specs.Hex.{hex}
 use Rattle.packet_forms.specs.Numbers.{be32_bytes}
 use Rattle.packet_forms.specs.Packets.{is_command}
-use Rattle.scenario.specs.declared.frame.App.{App}
-use Rattle.scenario.specs.declared.frame.App.TheVariants as apps
 use Rattle.scenario.specs.declared.frame.Upset.{Upset}
 use Rattle.scenario.specs.FrameLists.{Frame}
 use Rattle.log_words.specs.declared.vocabulary.Vocabulary.{Vocabulary}
@@ -19,7 +17,7 @@ input_line t words = time_words t.epoch t.frame ++ codes ": > " ++ words ++ 10 �
 
 -- a byte of memory is set, whatever it was
 abbrev pub upset_words : Upset → List ℕ
-upset_words u = codes "the byte at 0x" ++ hex (be32_bytes u.at) ++ codes " is set to 0x" ++ hex (u.value ∷ [])
+upset_words u = codes "an upset sets the byte at 0x" ++ hex (be32_bytes u.at) ++ codes " to 0x" ++ hex (u.value ∷ [])
 
 -- the words of the FILE of a number, counted from 1
 abbrev pub file_of : List GivenFile → ℕ → Option (List ℕ)
@@ -29,27 +27,31 @@ abbrev pub file_words : Option (List ℕ) → List ℕ
 file_words (Some words) = codes ": " ++ words
 file_words None = codes ", and there is no such file"
 
+-- a FILE of the rehearsal
+abbrev pub numbered_line : ℕ → List ℕ → List ℕ
+numbered_line n words = codes "> file " ++ decimal n ++ codes ": " ++ words ++ 10 ∷ []
+
+abbrev pub file_line : GivenFile → List ℕ
+file_line file = numbered_line file.number file.words.items
+
+abbrev pub none_told : List GivenFile → List ℕ
+none_told [] = codes "> no files" ++ 10 ∷ []
+none_told (file ∷ files) = []
+
+-- the FILEs of a rehearsal, a line each, or that there are none
+unfoldable pub files_told : List GivenFile → List ℕ
+files_told files = flat_map file_line files ++ none_told files
+
 -- the table of a FILE is to become active
 abbrev pub activation_words : ℕ → Option (List ℕ) → List ℕ
 activation_words n file = codes "file " ++ decimal n ++ codes " is to become active" ++ file_words file
-
-abbrev pub app_name : App → List ℕ
-app_name apps.Hs = codes "HS"
-app_name apps.Cs = codes "CS"
-app_name apps.Sc = codes "SC"
-app_name apps.Mm = codes "MM"
-app_name apps.Md = codes "MD"
-
--- an application is left out of the frame's wakeups
-abbrev pub hold_words : App → List ℕ
-hold_words app = app_name app ++ codes " is held: it isn't woken in this frame"
 
 -- a packet is sent: a command, as the ground sends it, or another, as an event of an application that the bench doesn't have
 abbrev pub packet_sent : Vocabulary → List ℕ → List ℕ
 packet_sent v p = (if is_command p then codes "ground sends " else codes "the scenario sends ") ++ packet_words v p
 
--- what a scenario does in a frame, each in its lines' order: upsets, activations, holds, and what it sends
+-- what a scenario does in a frame but for its counters and holds, each in its lines' order: upsets, activations, and what it sends
 unfoldable pub inputs_told : Vocabulary → List GivenFile → FrameTime → Frame → List ℕ
 inputs_told v files t f =
     flat_map (λ u. input_line t (upset_words u)) f.upsets ++ flat_map (λ n. input_line t (activation_words n (file_of files n))) f.activations
-    ++ flat_map (λ a. input_line t (hold_words a)) f.held ++ flat_map (λ p. input_line t (packet_sent v p)) f.sends
+    ++ flat_map (λ p. input_line t (packet_sent v p)) f.sends

@@ -1,3 +1,4 @@
 pub mod Inputs
 pub mod Counters
 pub mod Worked
+pub mod Holds

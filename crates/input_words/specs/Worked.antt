@@ -2,7 +2,6 @@
 use Rattle.std.specs.Prelude.{ℕ, List, [], ◌∷◌, codes, Some}
 use Rattle.packet_forms.specs.Names.{name_of}
 use Rattle.packet_forms.specs.declared.name.Counter.{Counter}
-use Rattle.scenario.specs.declared.frame.App.{App}
 use Rattle.scenario.specs.FrameLists.{Frame, no_items}
 use Rattle.log_words.specs.Worked.{own_words}
 use Rattle.input_words.specs.declared.inputs.FrameTime.{FrameTime}
@@ -20,9 +19,6 @@ told t f = inputs_told own_words [] t f
 
 abbrev pub one_upset : ℕ → ℕ → Frame
 one_upset at value = record no_items { upsets = record { at = at; value = value } ∷ [] }
-
-abbrev pub one_hold : App → Frame
-one_hold app = record no_items { held = app ∷ [] }
 
 abbrev pub one_packet : List ℕ → Frame
 one_packet bytes = record no_items { sends = bytes ∷ [] }

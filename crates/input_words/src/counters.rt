@@ -66,10 +66,10 @@ impl WatchedCounter {
     {
         out.extend_from_slice(self.name.text().as_bytes())?;
         if self.advances {
-            out.extend_from_slice(b"'s execution counter stands still at ")?;
+            out.extend_from_slice(b"'s execution counter stands still with the value ")?;
             return push_decimal(now.unwrap_or(self.value), out);
         }
-        out.extend_from_slice(b"'s execution counter goes on at ")?;
+        out.extend_from_slice(b"'s execution counter goes on with the value ")?;
         push_decimal(now.unwrap_or(self.value), out)
     }
 

@@ -5,14 +5,14 @@ ghost use Rattle.std.specs.List.{flat_map};
 ghost use Rattle.log_words.specs.Sentences.{IsGood, time_words};
 ghost use Rattle.packet_forms.specs.Hex.{hex};
 ghost use Rattle.packet_forms.specs.Numbers.{be32_bytes};
-ghost use Rattle.scenario.specs.declared.frame.App.{App as HeldApp};
 ghost use Rattle.scenario.specs.declared.frame.Upset.{Upset as SetByte};
-ghost use Rattle.input_words.specs.Inputs.{input_line, upset_words, file_of, activation_words, app_name, hold_words, packet_sent, inputs_told};
+ghost use Rattle.input_words.specs.declared.inputs.GivenFile.{GivenFile as Given};
+ghost use Rattle.input_words.specs.Inputs.{input_line, upset_words, file_of, activation_words, file_line, none_told, files_told, packet_sent, inputs_told};
 
 use log_words::{Vocabulary, push_time, show_packet};
 use packet_forms::Packet;
 use row_forms::{push_decimal, push_hex};
-use scenario::{App, FrameInput, Upset};
+use scenario::{FrameInput, Upset};
 use std::alloc::AllocError;
 
 /// A frame, and the time of frame 0 in seconds, where it is known.
@@ -22,9 +22,10 @@ pub struct FrameTime {
     pub frame: u32,
 }
 
-/// A FILE of a rehearsal, as people know it: such as its path and the name of its table.
+/// A FILE of a rehearsal, as people know it: its number, from 1, and words such as its path and the name of its table.
 #[derive(Drop)]
 pub struct GivenFile {
+    pub number: u32,
     pub words: Vec<u8>,
 }
 
@@ -48,9 +49,9 @@ fn push_address(address: u32, out: &mut Vec<u8>) -> Result<(), AllocError>
 fn push_upset(upset: &Upset, out: &mut Vec<u8>) -> Result<(), AllocError>
     ensures { OnOk result (out.new.items ≡ out.old.items ++ upset_words upset.now) }
 {
-    out.extend_from_slice(b"the byte at 0x")?;
+    out.extend_from_slice(b"an upset sets the byte at 0x")?;
     push_address(upset.at, out)?;
-    out.extend_from_slice(b" is set to 0x")?;
+    out.extend_from_slice(b" to 0x")?;
     push_hex(&[upset.value], out)
 }
 
@@ -71,6 +72,46 @@ fn tell_upsets(time: FrameTime, upsets: &[Upset], out: &mut Vec<u8>) -> Result<(
         tell_upset(time, upset, out)?;
     }
     Ok(())
+}
+
+/// Appends the line of a FILE.
+fn tell_file(file: &GivenFile, out: &mut Vec<u8>) -> Result<(), AllocError>
+    ensures { OnOk result (out.new.items ≡ out.old.items ++ file_line file.now) }
+{
+    out.extend_from_slice(b"> file ")?;
+    push_decimal(file.number, out)?;
+    out.extend_from_slice(b": ")?;
+    out.extend_from_slice(file.words.as_slice())?;
+    out.extend_from_slice(b"\n")
+}
+
+/// Appends the lines of FILEs.
+fn tell_each_file(files: &[GivenFile], out: &mut Vec<u8>) -> Result<(), AllocError>
+    ensures { OnOk result (out.new.items ≡ out.old.items ++ flat_map (λ (file : Given). file_line file) files.now) }
+{
+    for file in files {
+        tell_file(file, out)?;
+    }
+    Ok(())
+}
+
+/// Appends that there are no FILEs, where there are none.
+fn tell_none(files: &[GivenFile], out: &mut Vec<u8>) -> Result<(), AllocError>
+    ensures { OnOk result (out.new.items ≡ out.old.items ++ none_told files.now) }
+{
+    match files.first() {
+        None => out.extend_from_slice(b"> no files\n"),
+        Some(_) => Ok(()),
+    }
+}
+
+/// Appends the FILEs of a rehearsal, a line each, or that there are none.
+#[tactic(auto, unfolding(crate::specs::Inputs::files_told))]
+pub fn tell_files(files: &[GivenFile], out: &mut Vec<u8>) -> Result<(), AllocError>
+    ensures { OnOk result (out.new.items ≡ out.old.items ++ files_told files.now) }
+{
+    tell_each_file(files, out)?;
+    tell_none(files, out)
 }
 
 /// The words of the FILE of a number, counted from 1.
@@ -131,38 +172,6 @@ fn tell_activations(
     Ok(())
 }
 
-/// The name of an application that can be held.
-fn app_name(app: App) -> &'static str
-    ensures { result.now ≡ app_name app }
-{
-    match app {
-        App::Hs => "HS",
-        App::Cs => "CS",
-        App::Sc => "SC",
-        App::Mm => "MM",
-        App::Md => "MD",
-    }
-}
-
-/// Appends the line of an application that isn't woken.
-fn tell_hold(time: FrameTime, app: App, out: &mut Vec<u8>) -> Result<(), AllocError>
-    ensures { OnOk result (out.new.items ≡ out.old.items ++ input_line time (hold_words app)) }
-{
-    begin_line(time, out)?;
-    out.extend_from_slice(app_name(app).as_bytes())?;
-    out.extend_from_slice(b" is held: it isn't woken in this frame\n")
-}
-
-/// Appends the lines of held applications.
-fn tell_holds(time: FrameTime, held: &[App], out: &mut Vec<u8>) -> Result<(), AllocError>
-    ensures { OnOk result (out.new.items ≡ out.old.items ++ flat_map (λ (a : HeldApp). input_line time (hold_words a)) held.now) }
-{
-    for app in held {
-        tell_hold(time, *app, out)?;
-    }
-    Ok(())
-}
-
 /// Appends what is sent.
 fn push_packet(
     vocabulary: &Vocabulary,
@@ -211,8 +220,8 @@ fn tell_packets(
     Ok(())
 }
 
-/// Appends what a scenario does in a frame but for its counters, a line each: upsets, activations, holds, and what it sends, each in their
-/// lines' order. A FILE that becomes active is told by its number and by its words among these, and a packet in this vocabulary.
+/// Appends what a scenario does in a frame but for its counters and holds, a line each: upsets, activations, and what it sends, each in
+/// their lines' order. A FILE that becomes active is told by its number and by its words among these, and a packet in this vocabulary.
 pub fn tell_inputs(
     vocabulary: &Vocabulary,
     files: &[GivenFile],
@@ -225,7 +234,6 @@ pub fn tell_inputs(
 {
     tell_upsets(time, input.upsets(), out)?;
     tell_activations(files, time, input.activations(), out)?;
-    tell_holds(time, input.held(), out)?;
     tell_packets(vocabulary, time, input.sends(), out)?;
     Ok(())
 }

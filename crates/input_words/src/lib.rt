@@ -2,8 +2,10 @@
 #![tactic(auto)]
 
 mod counters;
+mod holds;
 mod inputs;
 pub mod laws;
 
 pub use counters::CounterWatch;
-pub use inputs::{FrameTime, GivenFile, tell_inputs};
+pub use holds::HoldWatch;
+pub use inputs::{FrameTime, GivenFile, tell_files, tell_inputs};

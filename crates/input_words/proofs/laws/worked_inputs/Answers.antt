@@ -23,7 +23,6 @@ unfolding written command_of telemetry_of with_sequence with_checksum primary_he
 returns c = record {
   upset = refl;
   frame = refl;
-  hold = refl;
   command = refl;
   strange = refl;
   activation = refl;
