@@ -35,11 +35,17 @@ fn push_holding(file: &[u8], words: &mut Vec<u8>) -> Result<(), AllocError> {
     }
 }
 
-/// A FILE of this name, and what it holds.
-pub fn given_file(alloc: Global, name: &[u8], file: &[u8]) -> Result<GivenFile, AllocError> {
+/// The FILE in a place, from 0, by its name and what it holds.
+pub fn given_file(
+    alloc: Global,
+    place: usize,
+    name: &[u8],
+    file: &[u8],
+) -> Result<GivenFile, AllocError> {
     let mut words = Vec::from_slice(alloc, name)?;
     push_holding(file, &mut words)?;
-    Ok(GivenFile { words })
+    let number = (place as u32).saturating_add(1);
+    Ok(GivenFile { number, words })
 }
 
 /// The FILEs of these paths. Of one that can't be read again nothing is known but its path.
@@ -48,11 +54,11 @@ pub(crate) fn given_files<R: Files + AllocGlobal>(
     paths: &[&str],
 ) -> Result<Vec<GivenFile>, AllocError> {
     let mut files = Vec::new(rt.alloc());
-    for path in paths {
+    for (place, path) in paths.iter().enumerate() {
         let name = path.as_bytes();
         let given = match read_again(rt, path) {
-            Ok(Some(file)) => given_file(rt.alloc(), name, file.as_slice())?,
-            _ => given_file(rt.alloc(), name, &[])?,
+            Ok(Some(file)) => given_file(rt.alloc(), place, name, file.as_slice())?,
+            _ => given_file(rt.alloc(), place, name, &[])?,
         };
         files.push(given)?;
     }

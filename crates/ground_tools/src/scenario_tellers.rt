@@ -5,7 +5,7 @@ ghost use Rattle.scenario.specs.Standing.{Shows, is_finished};
 ghost use Rattle.ground_tools.specs.Appended.{Appends};
 
 use crate::frame_tellers::FrameTeller;
-use input_words::{CounterWatch, FrameTime, GivenFile, tell_inputs};
+use input_words::{CounterWatch, FrameTime, GivenFile, HoldWatch, tell_files, tell_inputs};
 use log_words::Vocabulary;
 use packet_forms::{behind, front};
 use scenario::{FrameInput, Item, Reader};
@@ -30,6 +30,8 @@ pub struct ScenarioTeller<T: Read + Drop> {
     is_over: bool,
     epoch: Option<u32>,
     files: Vec<GivenFile>,
+    has_told_files: bool,
+    holds: HoldWatch,
     // none where the scenario's counters have no effect
     counters: Option<CounterWatch>,
 }
@@ -108,6 +110,8 @@ impl<T: Read + Drop> ScenarioTeller<T> {
             is_over: false,
             epoch,
             files,
+            has_told_files: false,
+            holds: HoldWatch::new(alloc),
             counters,
         })
     }
@@ -137,6 +141,18 @@ impl<T: Read + Drop> ScenarioTeller<T> {
         false
     }
 
+    /// Appends the FILEs, where they weren't told yet.
+    fn tell_files_once(&mut self, out: &mut Vec<u8>) -> Result<(), AllocError>
+        ensures { OnOk result (Appends out.old.items out.new.items) }
+    {
+        if self.has_told_files {
+            return Ok(());
+        }
+        self.has_told_files = true;
+        tell_files(self.files.as_slice(), out)?;
+        Ok(())
+    }
+
     /// Appends what the frame that was read last has.
     fn tell_frame(&mut self, out: &mut Vec<u8>) -> Result<(), AllocError>
         requires { Shows self.old.reader }
@@ -148,6 +164,7 @@ impl<T: Read + Drop> ScenarioTeller<T> {
         };
         let input = self.reader.frame();
         tell_counters(self.alloc, &mut self.counters, time, input, out)?;
+        self.holds.tell(self.alloc, time, input.held(), out)?;
         let vocabulary = Vocabulary::of_applications();
         tell_inputs(&vocabulary, self.files.as_slice(), time, input, out)?;
         Ok(())
@@ -156,6 +173,7 @@ impl<T: Read + Drop> ScenarioTeller<T> {
 
 impl<T: Read + Drop> FrameTeller for ScenarioTeller<T> {
     fn tell_frames(&mut self, last: u32, out: &mut Vec<u8>) -> Result<(), AllocError> {
+        self.tell_files_once(out)?;
         'frames: for _ in self.next..last.saturating_add(1) {
             if self.is_over || !self.read_frame() {
                 self.is_over = true;
