@@ -5,9 +5,9 @@ use Rattle.hs_monitors.specs.Instructions.{hs_language}
 use Rattle.hs_monitors.specs.declared.verdicts.Refusal.{Refusal}
 use Rattle.hs_monitors.specs.declared.instructions.Instruction.{Instruction}
 
--- The number of a refusal: there is none to be numbered.
+-- No refusal has this number.
 abbrev pub number_of : Refusal → ℕ
-number_of reason = elim reason [ ]
+number_of reason = 4
 
 -- A command's own refusal: there is none.
 abbrev pub own_refusal : Unit {0} → List Instruction → Instruction → Option Refusal

@@ -45,8 +45,7 @@ fn app_place(app: App) -> u8
 fn is_held(held: &[App], app: App) -> bool
     ensures { result ≡ is_held held.now app }
 {
-    held.iter()
-        .any(|other| app_place(*other) == app_place(app))
+    held.iter().any(|other| app_place(*other) == app_place(app))
 }
 
 /// Appends the line of an application, where it is held and wasn't before, or the other way round.
