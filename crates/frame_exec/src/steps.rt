@@ -58,7 +58,8 @@ impl<'f> Bench<'f> {
 
     /// Wakes those that have something to do where they are, one after another. Where several have and there are workers for them, they
     /// are jobs of the crew. Where all rest nothing is asked of them but that.
-    #[inline(always)]
+    // Inlined into the whole frame, the compiler asks Checksum's switches one by one: 584 instructions an empty frame in place of 430.
+    #[inline(never)]
     fn step_in_place<R: Threads + Sync, G: Gate>(
         &mut self,
         rt: &R,
