@@ -32,8 +32,10 @@ fn shelved<'a>(
 /// The files of a book, each by the name of its part.
 fn given_parts(alloc: Global, book: &Book<'_>) -> Result<Vec<GivenFile>, AllocError> {
     let mut files = Vec::new(alloc);
-    for (place, file) in book.files.as_slice().iter().enumerate() {
-        let given = given_file(alloc, place, file.name, file.bytes.as_slice())?;
+    let mut number: u32 = 0;
+    for file in book.files.as_slice() {
+        number = number.saturating_add(1);
+        let given = given_file(alloc, number, file.name, file.bytes.as_slice())?;
         files.push(given)?;
     }
     Ok(files)

@@ -35,16 +35,15 @@ fn push_holding(file: &[u8], words: &mut Vec<u8>) -> Result<(), AllocError> {
     }
 }
 
-/// The FILE in a place, from 0, by its name and what it holds.
+/// The FILE of a number, from 1, by its name and what it holds.
 pub fn given_file(
     alloc: Global,
-    place: usize,
+    number: u32,
     name: &[u8],
     file: &[u8],
 ) -> Result<GivenFile, AllocError> {
     let mut words = Vec::from_slice(alloc, name)?;
     push_holding(file, &mut words)?;
-    let number = (place as u32).saturating_add(1);
     Ok(GivenFile { number, words })
 }
 
@@ -54,11 +53,13 @@ pub(crate) fn given_files<R: Files + AllocGlobal>(
     paths: &[&str],
 ) -> Result<Vec<GivenFile>, AllocError> {
     let mut files = Vec::new(rt.alloc());
-    for (place, path) in paths.iter().enumerate() {
+    let mut number: u32 = 0;
+    for path in paths {
+        number = number.saturating_add(1);
         let name = path.as_bytes();
         let given = match read_again(rt, path) {
-            Ok(Some(file)) => given_file(rt.alloc(), place, name, file.as_slice())?,
-            _ => given_file(rt.alloc(), place, name, &[])?,
+            Ok(Some(file)) => given_file(rt.alloc(), number, name, file.as_slice())?,
+            _ => given_file(rt.alloc(), number, name, &[])?,
         };
         files.push(given)?;
     }
