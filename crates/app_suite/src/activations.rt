@@ -19,8 +19,7 @@ use crate::hs_slot::HsSlot;
 use crate::md_slot::MdSlot;
 use active_tables::Tables;
 use bus_pipes::{Outbox, push_event};
-use commands::named;
-use packet_forms::Name;
+use packet_forms::{Name, named};
 use table_files::TableKind;
 
 /// What becomes of a line that names a file.

@@ -10,5 +10,5 @@ mod verdicts;
 
 pub use commanded::{Command, Commanded, Reason, Terms};
 pub use counting::{note_accepted, note_refused, start_counts};
-pub use step::{handle_all, named};
+pub use step::handle_all;
 pub use verdicts::{CodeRow, Verdict};

@@ -1,7 +1,6 @@
 //! The packets of a wakeup, in order.
 ghost use Rattle.std.specs.Prelude.{◌≡◌, ◌+◌, ◌*◌, ◌≤◌, ◌<◌, ℕ, List, [], ◌∷◌, ◌++◌, length, true};
 ghost use Rattle.std.specs.List.{AllPass};
-ghost use Rattle.packet_forms.specs.Names.{is_name_text, name_of};
 ghost use Rattle.bus_pipes.specs.Held.{adding};
 ghost use Rattle.bus_pipes.specs.Counted.{is_item_counted};
 ghost use Rattle.packet_forms.specs.Packets.{payload_of};
@@ -15,7 +14,7 @@ use crate::commanded::{Command, Commanded, Reason};
 use crate::counting::{note_accepted, note_refused};
 use crate::verdicts::{Verdict, is_length_allowed, row_of};
 use bus_pipes::{Counts, Out, Outbox, push_event};
-use packet_forms::{Name, Packet};
+use packet_forms::Packet;
 
 /// Handles the packets of a wakeup, at most 16, in order: each is judged, answered and counted. What is sent goes to `out`, which is
 /// empty, and what is left beside it to `left`.
@@ -125,15 +124,4 @@ fn judge<R: Copy + Drop, S: Commanded<R>>(packet: &Packet) -> Verdict<()>
         return Verdict::Refused(3);
     }
     Verdict::Accepted(code, ())
-}
-
-/// The name with this text.
-pub fn named(text: &str) -> Name
-    requires { is_name_text text.now ≡ true }
-    ensures { result ≡ name_of text.now }
-{
-    match Name::from_text(text) {
-        Some(name) => name,
-        None => unreachable!(),
-    }
 }

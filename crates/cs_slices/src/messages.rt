@@ -3,8 +3,8 @@ ghost use Rattle.std.specs.Prelude.{◌≡◌};
 ghost use Rattle.packet_forms.specs.Names.{is_name_text};
 ghost use Rattle.cs_slices.specs.Messages.{cs_name, event_number, event_kind};
 
-use commands::{CodeRow, named};
-use packet_forms::Name;
+use commands::CodeRow;
+use packet_forms::{Name, named};
 
 /// The type of an event that tells an error.
 const ERROR: u16 = 3;

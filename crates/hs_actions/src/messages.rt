@@ -4,7 +4,7 @@ ghost use Rattle.packet_forms.specs.Names.{is_name_text};
 ghost use Rattle.hs_actions.specs.Messages.{hs_name, event_base, event_place, event_kind};
 
 use crate::action::Source;
-use packet_forms::Name;
+use packet_forms::{Name, named};
 
 /// The type of an event that tells an error.
 const ERROR: u16 = 3;
@@ -62,8 +62,5 @@ impl Event {
 pub fn hs_name() -> Name
     ensures { result ≡ hs_name }
 {
-    match Name::from_text("HS") {
-        Some(name) => name,
-        None => unreachable!(),
-    }
+    named("HS")
 }

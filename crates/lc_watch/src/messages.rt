@@ -3,8 +3,8 @@ ghost use Rattle.std.specs.Prelude.{◌≡◌};
 ghost use Rattle.packet_forms.specs.Names.{is_name_text};
 ghost use Rattle.lc_watch.specs.Messages.{lc_name, event_number, event_kind};
 
-use commands::{CodeRow, named};
-use packet_forms::Name;
+use commands::CodeRow;
+use packet_forms::{Name, named};
 
 /// The code of the command that starts a relative sequence.
 pub(crate) const START_RTS: u8 = 4;

@@ -3,8 +3,8 @@ ghost use Rattle.std.specs.Prelude.{◌≡◌};
 ghost use Rattle.packet_forms.specs.Names.{is_name_text};
 ghost use Rattle.md_dwell.specs.Messages.{md_name};
 
-use commands::{CodeRow, named};
-use packet_forms::Name;
+use commands::CodeRow;
+use packet_forms::{Name, named};
 
 /// No-op, reset counters, start, stop, jam.
 pub(crate) const CODES: [CodeRow; 5] = [

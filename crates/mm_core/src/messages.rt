@@ -3,8 +3,8 @@ ghost use Rattle.std.specs.Prelude.{◌≡◌};
 ghost use Rattle.packet_forms.specs.Names.{is_name_text};
 ghost use Rattle.mm_core.specs.Messages.{mm_name};
 
-use commands::{CodeRow, named};
-use packet_forms::Name;
+use commands::CodeRow;
+use packet_forms::{Name, named};
 
 /// No-op, reset counters, peek, poke, load, load of a file, fill, EEPROM enable and disable, and dump.
 pub(crate) const CODES: [CodeRow; 10] = [

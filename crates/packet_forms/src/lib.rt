@@ -19,7 +19,7 @@ pub use build::{COMMAND_PAYLOAD, TELEMETRY_PAYLOAD, command, event, telemetry};
 pub use byte_list::ByteList;
 pub use crc::crc16;
 pub use hex::place_hex;
-pub use name::{Counter, Name};
+pub use name::{Counter, Name, named};
 pub use numbers::{be16, be32};
 pub use packet::{PACKET_BYTES, Packet, PacketFault};
 pub use pieces::{are_zeros, behind, front, place};

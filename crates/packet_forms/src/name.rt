@@ -80,6 +80,17 @@ impl Name {
     }
 }
 
+/// The name with this text, which is known to be one.
+pub fn named(text: &str) -> Name
+    requires { is_name_text text.now ≡ true }
+    ensures { result ≡ name_of text.now }
+{
+    match Name::from_text(text) {
+        Some(name) => name,
+        None => unreachable!(),
+    }
+}
+
 /// The bytes before the first zero byte, or all where none is zero.
 fn text_part(bytes: &[u8]) -> &[u8]
     ensures { result.now ≡ name_text bytes.now }

@@ -3,8 +3,8 @@ ghost use Rattle.std.specs.Prelude.{◌≡◌};
 ghost use Rattle.packet_forms.specs.Names.{is_name_text};
 ghost use Rattle.sc_sequences.specs.Messages.{sc_name, event_number, event_kind};
 
-use commands::{CodeRow, named};
-use packet_forms::Name;
+use commands::CodeRow;
+use packet_forms::{Name, named};
 
 /// The types of events: information, and an error.
 const INFORMATION: u16 = 2;

@@ -10,7 +10,7 @@ use crate::listed::Listed;
 use crate::steady::Steady;
 use crate::subject::Subject;
 use fsw_outside::NoMemory;
-use packet_forms::Name;
+use packet_forms::{Name, named};
 use std::alloc::Global;
 
 /// One of the three simulated applications.
@@ -49,17 +49,6 @@ impl Subject for Own {
             Own::Hanging(subject) => subject.restart(),
             Own::Listed(subject) => subject.restart(),
         }
-    }
-}
-
-/// The name with this text.
-fn named(text: &str) -> Name
-    requires { is_name_text text.now ≡ true }
-    ensures { result ≡ name_of text.now }
-{
-    match Name::from_text(text) {
-        Some(name) => name,
-        None => unreachable!(),
     }
 }
 
