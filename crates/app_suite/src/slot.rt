@@ -104,7 +104,7 @@ impl<S> Slot<S> {
             return;
         }
         *stays = false;
-        self.go_on(reads, next, out, beside);
+        self.step_aside(reads, next, out, beside);
     }
 
     /// Whether a wakeup would leave the state as it is and give nothing: the application is held, or has nothing to do.
@@ -124,7 +124,7 @@ impl<S> Slot<S> {
 
     /// Leaves the state behind a wakeup in `next`.
     #[inline(never)]
-    fn go_on<X>(
+    fn step_aside<X>(
         &self,
         reads: &Reads<'_, '_, '_>,
         next: &mut Box<S>,

@@ -6,11 +6,11 @@ ghost use Rattle.app_suite.specs.Jobs.{jobs_of};
 
 use crate::cut::Cut;
 use crate::kind::FrameKind;
-use crate::lists::{all_in_order, deliver_in_order};
 use crate::yielded::Yield;
 use active_tables::Tables;
 use app_suite::{
-    CsSlot, Holds, HsSlot, LcSlot, Left, MdSlot, MmSlot, Naming, ScSlot, hand_over, naming_of, tell,
+    CsSlot, Holds, HsSlot, LcSlot, Left, MdSlot, MmSlot, Naming, ScSlot, deliver_all, hand_over,
+    in_order, naming_of, tell,
 };
 use bus_pipes::{Batch, Bus, Drops, Outbox, PipeName};
 use crew_board::Crew;
@@ -509,7 +509,7 @@ impl<'f> Bench<'f> {
             return;
         }
         self.bus.deliver(input.sends(), &mut self.drops);
-        deliver_in_order(
+        deliver_all(
             &mut self.bus,
             &self.activations,
             &self.hs,
@@ -642,7 +642,7 @@ impl<'f> Bench<'f> {
         if lines.is_nothing() {
             return Ok(());
         }
-        let lists = all_in_order(
+        let lists = in_order(
             &self.activations,
             &self.hs,
             &self.cs,
@@ -670,7 +670,7 @@ impl<'f> Bench<'f> {
         if !self.resets && self.gave_nothing() {
             return;
         }
-        let lists = all_in_order(
+        let lists = in_order(
             &self.activations,
             &self.hs,
             &self.cs,

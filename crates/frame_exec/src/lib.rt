@@ -5,7 +5,6 @@ mod bench;
 mod cut;
 mod in_place;
 mod kind;
-mod lists;
 mod opening;
 mod steps;
 mod yielded;

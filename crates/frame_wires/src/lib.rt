@@ -3,6 +3,4 @@
 
 mod sending;
 
-pub use sending::{
-    deliver_lists, has_reset, put_behind, put_frame, stamp_all, take_unless, upset_all,
-};
+pub use sending::{deliver_lists, has_reset, put_frame, stamp_all, take_unless, upset_all};

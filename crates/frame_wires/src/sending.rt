@@ -57,17 +57,6 @@ pub fn stamp_all(log: &mut Log, out: &mut Outbox)
     }
 }
 
-/// Puts items behind others.
-pub fn put_behind(out: &mut Outbox, items: &[Out])
-    requires { length out.old.items + length items.now ≤ out.old.room }
-    ensures after { out.new.items ≡ out.old.items ++ items.now }
-    ensures room { out.new.room ≡ out.old.room }
-{
-    'items: for item in items {
-        out.push(*item);
-    }
-}
-
 /// Whether an item asks for a processor reset.
 fn is_reset(item: &Out) -> bool
     ensures { result ≡ is_reset item.now }

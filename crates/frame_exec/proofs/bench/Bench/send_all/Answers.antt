@@ -50,18 +50,18 @@ returns c =
       sent = stamped.sent;
       made = stamped.made;
       resets = stamped.resets ∙ c.asks_for_reset-self.ensures;
-      pipes = offers_two old.bus c.deliver.new.self _ c.args.input.now.sends packets offered_first c.deliver_in_order.ensures.after ∙ sym (ap (after_offers old.bus) none);
+      pipes = offers_two old.bus c.deliver.new.self _ c.args.input.now.sends packets offered_first c.deliver_all.ensures.after ∙ sym (ap (after_offers old.bus) none);
       drops = drops_two old.bus c.deliver.new.self c.args.self.now.drops c.deliver.new.drops _ c.args.input.now.sends packets c.requires.none offered_first
           (c.deliver.ensures.drops ∙ ap (λ (held : Held Dropped). adding held (drops_from c.stamp.new.self.bus c.sends.result.now)) stamped.drops
-          ∙ ap (λ (p : Pipes). adding old.drops (drops_from p c.sends.result.now)) stamped.pipes ∙ ap (λ (packets : List (List ℕ)). adding old.drops (drops_from old.bus packets)) sends) c.deliver_in_order.ensures.drops ∙ sym (ap (drops_from old.bus) none);
+          ∙ ap (λ (p : Pipes). adding old.drops (drops_from p c.sends.result.now)) stamped.pipes ∙ ap (λ (packets : List (List ℕ)). adding old.drops (drops_from old.bus packets)) sends) c.deliver_all.ensures.drops ∙ sym (ap (drops_from old.bus) none);
       memory = stamped.memory;
     }
 
 -- the pipes that are there stay the same
-watched_is : (c : goal.After-deliver_in_order) → c.stamp.new.self.bus.watched ≡ c.deliver_in_order.new.bus.watched
+watched_is : (c : goal.After-deliver_all) → c.stamp.new.self.bus.watched ≡ c.deliver_all.new.bus.watched
 watched_is c =
     let first = ap (λ (p : Pipes). p.watched) c.deliver.ensures.after ∙ watched_after c.stamp.new.self.bus c.sends.result.now in
-    let second = ap (λ (p : Pipes). p.watched) c.deliver_in_order.ensures.after ∙ watched_after c.deliver.new.self _ in
+    let second = ap (λ (p : Pipes). p.watched) c.deliver_all.ensures.after ∙ watched_after c.deliver.new.self _ in
     sym (second ∙ first)
 
 pub invariant_of-self-2-clause-manned : goal.invariant_of-self-2-clause-manned
@@ -74,8 +74,8 @@ invariant_of-self-2-clause-there c = c.stamp.new.self.there ∙ watched_is c
 seven_long : (a b c d e f g : List Out) → length (a ++ (b ++ (c ++ (d ++ (e ++ (f ++ (g ++ []))))))) ≡ length a + (length b + (length c + (length d + (length e + (length f + (length g + 0))))))
 seven_long a b c d e f g = simp length-append
 
-pub deliver_in_order-requires : goal.deliver_in_order-requires
-deliver_in_order-requires c =
+pub deliver_all-requires : goal.deliver_all-requires
+deliver_all-requires c =
     let old = c.args.self.now in
     let can = c.requires.can in
     let sum = seven_long old.activations.items old.hs.out.items old.cs.out.items old.sc.out.items old.mm.out.items old.md.out.items old.lc.slot.out.items in
