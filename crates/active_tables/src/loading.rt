@@ -55,7 +55,7 @@ pub(crate) fn put_segments(place: &mut Segments, payload: &[u8]) -> Option<Entry
 }
 
 /// Puts an application monitor table in a place, unless its entries have a fault.
-pub(crate) fn put_apps(place: &mut AppMon, payload: &[u8]) -> Option<EntryFault>
+pub(crate) fn put_application_monitors(place: &mut AppMon, payload: &[u8]) -> Option<EntryFault>
     requires { length payload.now ≡ 768 }
     ensures table { place.new ≡ where_well (apps.rows_of payload.now) place.old (apps.rows_fault_of payload.now) }
     ensures fault { result ≡ apps.rows_fault_of payload.now }
@@ -65,7 +65,7 @@ pub(crate) fn put_apps(place: &mut AppMon, payload: &[u8]) -> Option<EntryFault>
 }
 
 /// Puts an event monitor table in a place, unless its entries have a fault.
-pub(crate) fn put_events(place: &mut EventMon, payload: &[u8]) -> Option<EntryFault>
+pub(crate) fn put_event_monitors(place: &mut EventMon, payload: &[u8]) -> Option<EntryFault>
     requires { length payload.now ≡ 384 }
     ensures table { place.new ≡ where_well (events.rows_of payload.now) place.old (events.rows_fault_of payload.now) }
     ensures fault { result ≡ events.rows_fault_of payload.now }
@@ -75,7 +75,7 @@ pub(crate) fn put_events(place: &mut EventMon, payload: &[u8]) -> Option<EntryFa
 }
 
 /// Puts an execution counter table in a place, unless its entries have a fault.
-pub(crate) fn put_counts(place: &mut ExeCount, payload: &[u8]) -> Option<EntryFault>
+pub(crate) fn put_counters(place: &mut ExeCount, payload: &[u8]) -> Option<EntryFault>
     requires { length payload.now ≡ 704 }
     ensures table { place.new ≡ where_well (counters.rows_of payload.now) place.old (counters.rows_fault_of payload.now) }
     ensures fault { result ≡ counters.rows_fault_of payload.now }
@@ -85,7 +85,7 @@ pub(crate) fn put_counts(place: &mut ExeCount, payload: &[u8]) -> Option<EntryFa
 }
 
 /// Puts a message action table in a place, unless its entries have a fault.
-pub(crate) fn put_acts(place: &mut MsgActs, payload: &[u8]) -> Option<EntryFault>
+pub(crate) fn put_message_actions(place: &mut MsgActs, payload: &[u8]) -> Option<EntryFault>
     requires { length payload.now ≡ 544 }
     ensures table { place.new ≡ where_well (actions.rows_of payload.now) place.old (actions.rows_fault_of payload.now) }
     ensures fault { result ≡ actions.rows_fault_of payload.now }
@@ -95,7 +95,7 @@ pub(crate) fn put_acts(place: &mut MsgActs, payload: &[u8]) -> Option<EntryFault
 }
 
 /// Puts a watchpoint table in a place, unless its entries have a fault.
-pub(crate) fn put_watch(place: &mut Wdt, payload: &[u8]) -> Option<EntryFault>
+pub(crate) fn put_watchpoints(place: &mut Wdt, payload: &[u8]) -> Option<EntryFault>
     requires { length payload.now ≡ 512 }
     ensures table { place.new ≡ where_well (watchpoints.rows_of payload.now) place.old (watchpoints.rows_fault_of payload.now) }
     ensures fault { result ≡ watchpoints.rows_fault_of payload.now }
@@ -105,7 +105,7 @@ pub(crate) fn put_watch(place: &mut Wdt, payload: &[u8]) -> Option<EntryFault>
 }
 
 /// Puts an actionpoint table in a place, unless its entries have a fault.
-pub(crate) fn put_actions(place: &mut Adt, payload: &[u8]) -> Option<EntryFault>
+pub(crate) fn put_actionpoints(place: &mut Adt, payload: &[u8]) -> Option<EntryFault>
     requires { length payload.now ≡ 640 }
     ensures table { place.new ≡ where_well (actionpoints.rows_of payload.now) place.old (actionpoints.rows_fault_of payload.now) }
     ensures fault { result ≡ actionpoints.rows_fault_of payload.now }

@@ -46,7 +46,7 @@ fn draw_together<R: Threads + Sync, S: Scratch, T: Task<Work = S>, G: Gate>(
 
 /// The first row takes the chosen jobs in order: nobody else draws.
 #[inline(always)]
-pub(crate) fn take_all<S: Scratch, T: Task<Work = S>, G: Gate>(
+pub(crate) fn draw_alone<S: Scratch, T: Task<Work = S>, G: Gate>(
     tasks: &[T],
     chosen: &[u32],
     gate: &G,

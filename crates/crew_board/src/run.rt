@@ -5,7 +5,7 @@ ghost use Rattle.crew_board.specs.Work.{AreDone, AreDraws, StayBut};
 ghost use Rattle.crew_board.specs.Rows.{FitsJobs, draws_of, first_scratches};
 ghost use Rattle.crew_board.specs.Ways.{AreLeftOf};
 
-use crate::claim::{share_jobs, take_all};
+use crate::claim::{draw_alone, share_jobs};
 use crate::results::collect_results;
 use crate::row::Row;
 use crate::task::{Scratch, Task};
@@ -71,7 +71,7 @@ pub(crate) fn run_jobs<R: Threads + Sync, S: Scratch, T: Task<Work = S>, G: Gate
 {
     let used = most.min(rows.len()).min(chosen.len());
     if used <= 1 {
-        take_all(tasks, chosen, gate, rows);
+        draw_alone(tasks, chosen, gate, rows);
         return Way::Shared;
     }
     run_together(rt, alloc, used, tasks, chosen, gate, rows)

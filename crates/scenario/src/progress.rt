@@ -5,7 +5,7 @@ use crate::frame::FrameInput;
 use crate::reason::Reason;
 use crate::regions::RegionList;
 use crate::sentence::{
-    Place, Sentence, Verb, behind_send, bytes_sent, line_says, may_stand, tick_says,
+    Place, Sentence, Verb, behind_send, line_says, may_stand, read_send, tick_says,
 };
 use fsw_outside::NoMemory;
 use memory_window::{Map, is_mapped};
@@ -211,15 +211,15 @@ impl Progress {
         if !self.may_send(line, takes) {
             return false;
         }
-        let Some(count) = bytes_sent(rest, places) else {
+        let Some(count) = read_send(rest, places) else {
             return false;
         };
-        self.send_bytes(&places[..count], takes)
+        self.pass_packet(&places[..count], takes)
     }
 
     /// Passes a line that sends the packet of these bytes and takes so many of the text's, and answers whether they are one. Where
     /// they aren't nothing changes.
-    fn send_bytes(&mut self, bytes: &[u8], takes: u32) -> bool
+    fn pass_packet(&mut self, bytes: &[u8], takes: u32) -> bool
         requires hidden { self.old.shown ≡ false }
         requires room { items_in self.old.frame.value < 64 }
         requires some { 0 < takes }

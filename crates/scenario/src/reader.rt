@@ -198,7 +198,7 @@ impl Reader {
             };
         }
         if self.progress.pass_send(line, takes, &mut self.places) {
-            return self.go_on();
+            return self.close_line();
         }
         match self
             .progress
@@ -303,7 +303,7 @@ impl Reader {
     }
 
     /// Answers what comes behind a line that was passed and gives no item.
-    fn go_on(&mut self) -> Item
+    fn close_line(&mut self) -> Item
         ensures line { self.new.line.value ≡ [] }
         ensures others { self.new ≡ record self.old { line = self.new.line; whole = false } }
         ensures answer { result ≡ end_answer self.old.finished self.old.progress.place self.old.progress.lines }

@@ -231,7 +231,7 @@ fn say_send(bytes: &[u8], said: &mut Option<Sentence>) -> Result<(), Reason>
 
 /// How many bytes the digits write that come behind `send` and end with their line, where they write any: they stand in the first
 /// of the places then, and are said where they are a packet.
-pub(crate) fn bytes_sent(rest: &[u8], places: &mut [u8; PACKET_BYTES]) -> Option<usize>
+pub(crate) fn read_send(rest: &[u8], places: &mut [u8; PACKET_BYTES]) -> Option<usize>
     ensures said { IfSome result (λ count. packet_of (take count places.new) ≡ Ok (take count places.new) → as_said (send_line (words rest.now)) ≡ Ok (Some (Sentence.Send (take count places.new)))) }
     ensures few { IfSome result (λ count. count ≤ PACKET_BYTES) }
 {

@@ -4,7 +4,7 @@ use Rattle.scenario.specs.Texts.{reads}
 use Rattle.scenario.proofs.StandingLemmas.{stands_begun, at_the_end, at_bad}
 use Rattle.scenario.proofs.NextLemmas.{LooksGood, same_line, kept_follows, kept_hidden, good_header, good_frame, good_last, good_stop}
 use Rattle.scenario.proofs.reader.Reader.next.Goals as goal
-use Rattle.scenario.proofs.reader.Reader.next.Goals.{After-pass, After-pass_tick, After-go_on}
+use Rattle.scenario.proofs.reader.Reader.next.Goals.{After-pass, After-pass_tick, After-close_line}
 
 pub returns-then-not-has_line-clause-last : goal.returns-then-not-has_line-clause-last
 returns-then-not-has_line-clause-last c = λ _ t gave s.
@@ -58,17 +58,17 @@ returns-in-Err-clause-bad c = λ line reason t gave _ s e.
     let m = stands_begun c.args.self.now (record c.args.self.now { progress = c.begin.new.self }) refl refl refl c.begin.ensures.follows c.begin.ensures.hidden t gave s in
     (at_bad _ t gave c.in-Err.reason m (sym c.if-not-has_line.ensures) (λ old f. sym (c.in-Err.ensures.value old f) ∙ ap (reads old) (same_line _ _ _ _ (c.bytes-line.ensures.value ∙ c.deref.ensures) c.takes-takes.ensures.value))).stop
 
-send_looks_good : (c : After-go_on) → (let x : Type 0 = LooksGood (record c.args.self.now { progress = c.begin.new.self }) c.go_on.new.self (Some (says.Send (c.pass_send.ensures.passes c.if-pass_send.true).packet)) c.go_on.result in x)
+send_looks_good : (c : After-close_line) → (let x : Type 0 = LooksGood (record c.args.self.now { progress = c.begin.new.self }) c.close_line.new.self (Some (says.Send (c.pass_send.ensures.passes c.if-pass_send.true).packet)) c.close_line.result in x)
 send_looks_good c =
     let sent = c.pass_send.ensures.passes c.if-pass_send.true in
     record {
       passes = record {
-        line = c.go_on.ensures.line;
-        whole = ap (λ r. r.whole) c.go_on.ensures.others;
-        finished = ap (λ r. r.finished) c.go_on.ensures.others;
-        follows = λ old line f. rw (ap (λ r. r.progress) c.go_on.ensures.others) (rw (← c.takes-takes.ensures.value) (sent.follows old line f));
-        keeps = rw (ap (λ r. r.progress) c.go_on.ensures.others) sent.keeps;
-        answer = c.go_on.ensures.answer ∙ rw (ap (λ r. r.progress) c.go_on.ensures.others) refl;
+        line = c.close_line.ensures.line;
+        whole = ap (λ r. r.whole) c.close_line.ensures.others;
+        finished = ap (λ r. r.finished) c.close_line.ensures.others;
+        follows = λ old line f. rw (ap (λ r. r.progress) c.close_line.ensures.others) (rw (← c.takes-takes.ensures.value) (sent.follows old line f));
+        keeps = rw (ap (λ r. r.progress) c.close_line.ensures.others) sent.keeps;
+        answer = c.close_line.ensures.answer ∙ rw (ap (λ r. r.progress) c.close_line.ensures.others) refl;
       };
       hidden = c.begin.ensures.hidden;
       some = sym c.if-not-has_line.ensures;

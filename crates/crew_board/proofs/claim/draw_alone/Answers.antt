@@ -3,7 +3,7 @@ use Rattle.crew_board.specs.declared.row.Row.{Row}
 use Rattle.crew_board.specs.Rows.{first_scratches}
 use Rattle.crew_board.specs.Work.{AreDone}
 use Rattle.crew_board.proofs.Rows.{one_shared, shared_with_idle}
-use Rattle.crew_board.proofs.claim.take_all.Goals as goal
+use Rattle.crew_board.proofs.claim.draw_alone.Goals as goal
 
 pub returns-clause-shared : goal.returns-clause-shared
 returns-clause-shared g c =
