@@ -48,7 +48,7 @@ packet_words v p =
 
 -- what was sent: a command, or telemetry
 abbrev pub sent_words : Vocabulary → List ℕ → List ℕ
-sent_words v p = if is_command p then codes "sent: " ++ packet_words v p else packet_words v p
+sent_words v p = if is_command p then codes "sent on board: " ++ packet_words v p else packet_words v p
 
 abbrev pub cause_words : Bool → List ℕ
 cause_words full = if full then codes " is full, dropped: " else codes " holds as many packets of this id as it may, dropped: "
@@ -61,7 +61,7 @@ drop_words v lost = codes "pipe " ++ pipe_text lost.pipe ++ cause_words lost.ful
 abbrev pub item_words : Vocabulary → LineItem → List ℕ
 item_words v (items.Packet p) = sent_words v p
 item_words v (items.Drop lost) = drop_words v lost
-item_words v items.Reset = codes "HS asks for a processor reset"
+item_words v items.Reset = codes "HS asks for a processor reset: all applications start anew behind this frame"
 item_words v (items.Restart name) = codes "HS asks to restart " ++ name_text name
 item_words v (items.Delete name) = codes "HS asks to delete " ++ name_text name
 

@@ -15,8 +15,8 @@ pub fn worked_sentences()
         ≡ Ok (codes "frame 1: NAV: unknown event 2047 of type 2 (event 2047)") }
     ensures peek { sentence (Some 1000) (codes "2 pkt 088AC000000E000003EA00000800001010000000AB")
         ≡ Ok (codes "time 1002: mm.peek time=1002 count=0 width=8 address=0x00001010 value=0x000000AB") }
-    ensures stored { sentence None (codes "7 pkt 1888C000000602330800001080") ≡ Ok (codes "frame 7: sent: mm.peek width=8 address=0x00001080") }
-    ensures reset { sentence None (codes "9 reset") ≡ Ok (codes "frame 9: HS asks for a processor reset") }
+    ensures stored { sentence None (codes "7 pkt 1888C000000602330800001080") ≡ Ok (codes "frame 7: sent on board: mm.peek width=8 address=0x00001080") }
+    ensures reset { sentence None (codes "9 reset") ≡ Ok (codes "frame 9: HS asks for a processor reset: all applications start anew behind this frame") }
     ensures restart { sentence None (codes "9 restart LOAD") ≡ Ok (codes "frame 9: HS asks to restart LOAD") }
     ensures delete { sentence None (codes "9 delete LOAD") ≡ Ok (codes "frame 9: HS asks to delete LOAD") }
     ensures full { sentence (Some 4294000000) (codes "4294967295 drop MM full 1888C000000100AE")

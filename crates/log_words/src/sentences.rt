@@ -57,7 +57,9 @@ fn push_item(vocabulary: &Vocabulary, item: &LineItem, out: &mut Vec<u8>) -> Res
     match item {
         LineItem::Packet(packet) => push_sent(vocabulary, packet, out),
         LineItem::Drop(dropped) => push_drop(vocabulary, dropped, out),
-        LineItem::Reset => out.extend_from_slice(b"HS asks for a processor reset"),
+        LineItem::Reset => out.extend_from_slice(
+            b"HS asks for a processor reset: all applications start anew behind this frame",
+        ),
         LineItem::Restart(name) => push_named(b"HS asks to restart ", name, out),
         LineItem::Delete(name) => push_named(b"HS asks to delete ", name, out),
     }
@@ -71,13 +73,13 @@ fn push_named(text: &[u8], name: &Name, out: &mut Vec<u8>) -> Result<(), AllocEr
     out.extend_from_slice(name.text().as_bytes())
 }
 
-/// Appends what was sent: telecommands are those of sequences and message actions.
+/// Appends what was sent: telecommands are those of sequences, message actions and actionpoints.
 fn push_sent(vocabulary: &Vocabulary, packet: &Packet, out: &mut Vec<u8>) -> Result<(), AllocError>
     requires { IsGood vocabulary.now }
     ensures { OnOk result (out.new.items ≡ out.old.items ++ sent_words vocabulary.now packet.now) }
 {
     if packet.is_command() {
-        out.extend_from_slice(b"sent: ")?;
+        out.extend_from_slice(b"sent on board: ")?;
     }
     show_packet(vocabulary, packet, out)
 }
