@@ -3,6 +3,7 @@
 use crate::second_looks::read_again;
 use input_words::GivenFile;
 use packet_forms::{behind, front};
+use row_forms::{push_decimal, push_hex};
 use std::alloc::{AllocError, Global};
 use std::rt::Files;
 use std::str::from_utf8;
@@ -23,6 +24,14 @@ pub fn table_name(file: &[u8]) -> &str {
     from_utf8(front(field, size)).unwrap_or("")
 }
 
+/// Appends the address to which bytes are to be loaded, and how many they are.
+fn push_load(at: u32, count: usize, words: &mut Vec<u8>) -> Result<(), AllocError> {
+    words.extend_from_slice(b", bytes to be loaded: address=0x")?;
+    push_hex(&at.to_be_bytes(), words)?;
+    words.extend_from_slice(b" length=")?;
+    push_decimal(count as u32, words)
+}
+
 /// Appends what a file holds, as far as its headers say it.
 fn push_holding(file: &[u8], words: &mut Vec<u8>) -> Result<(), AllocError> {
     match read_file(file) {
@@ -30,7 +39,7 @@ fn push_holding(file: &[u8], words: &mut Vec<u8>) -> Result<(), AllocError> {
             words.extend_from_slice(b", ")?;
             words.extend_from_slice(table_name(file).as_bytes())
         }
-        Ok(FileImage::Load { .. }) => words.extend_from_slice(b", a file to be loaded"),
+        Ok(FileImage::Load { at, bytes }) => push_load(at, bytes.len(), words),
         Err(_) => Ok(()),
     }
 }

@@ -15,7 +15,7 @@ frames_said n = codes "\n" ++ things_said n (codes "frame")
 
 -- how many lines there were
 abbrev pub lines_said : ℕ → List ℕ
-lines_said n = codes ", " ++ (things_said n (codes "line") ++ codes "\n")
+lines_said n = codes ", " ++ (things_said n (codes "line") ++ codes " of the log\n")
 
 -- the first lines of a summary
 abbrev pub head_said : ℕ → ℕ → List ℕ

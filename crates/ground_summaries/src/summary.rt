@@ -56,7 +56,7 @@ fn push_lines(out: &mut Vec<u8>, lines: u64) -> Result<(), AllocError>
 {
     out.extend_from_slice(b", ")?;
     push_count(out, lines, "line")?;
-    out.extend_from_slice(b"\n")
+    out.extend_from_slice(b" of the log\n")
 }
 
 /// The summary of a log of so many frames, behind an empty line.
