@@ -35,7 +35,7 @@ fn holding_of(file: &[u8]) -> Holding {
 }
 
 /// The path behind symbolic links, where there is a file.
-fn place_of<R: Files + AllocGlobal>(rt: &R, path: &str) -> Result<String, AllocError> {
+fn path_of_file<R: Files + AllocGlobal>(rt: &R, path: &str) -> Result<String, AllocError> {
     if !is_stream(path) {
         if let Ok(place) = fs::canonicalize(rt, path) {
             return Ok(place.into_string());
@@ -70,7 +70,7 @@ pub(crate) fn seen_file<'a, R: Files + AllocGlobal>(
     file: &[u8],
     is_taken: bool,
 ) -> Result<SeenFile<'a>, AllocError> {
-    let place = place_of(rt, path)?;
+    let place = path_of_file(rt, path)?;
     seen_at(rt.alloc(), input_name(path), place, file, is_taken)
 }
 

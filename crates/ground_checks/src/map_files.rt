@@ -3,7 +3,7 @@
 ghost use Rattle.std.specs.Prelude.{◌+◌, ◌<◌, ◌^◌, length};
 
 use crate::book_checks::{is_book, tell_unread_book};
-use crate::map_texts::{MapFault, scenario_map};
+use crate::map_texts::{MapFault, UNENDED, scenario_map};
 use crate::scenario_names::{Known, known_of};
 use ground_faults::key_in_plan;
 use ground_files::{Status, get, input_name, tell_no_memory, tell_unread};
@@ -20,9 +20,6 @@ use timed_plans::schedule_plan;
 
 /// The most bytes of a text: lines are counted in 32 bits.
 pub(crate) const MOST_TEXT: usize = 4_294_967_294;
-
-/// The reason of a text that ends too early.
-const UNENDED: u8 = 7;
 
 /// Why a text that isn't a book gives no map.
 #[derive(Clone, Copy, Debug, PartialEq, Eq)]

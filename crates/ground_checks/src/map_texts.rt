@@ -9,6 +9,9 @@ use packet_forms::behind;
 use scenario::{Item, Reader};
 use std::alloc::Global;
 
+/// The reason of a text that ends too early (docs/SCENARIO.md).
+pub(crate) const UNENDED: u8 = 7;
+
 /// Why a text gives no map.
 #[derive(Clone, Copy, Debug, PartialEq, Eq)]
 pub enum MapFault {
@@ -35,7 +38,10 @@ fn read_header(reader: &mut Reader, text: &[u8]) -> Result<(), MapFault>
                     rest = behind(rest, taken);
                 }
             }
-            Item::End => return Err(MapFault::Line { line: 0, reason: 7 }),
+            Item::End => return Err(MapFault::Line {
+                line: 0,
+                reason: UNENDED,
+            }),
             Item::Bad { line, reason } => return Err(MapFault::Line { line, reason }),
         }
     }

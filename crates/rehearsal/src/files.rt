@@ -15,6 +15,9 @@ use table_files::{AddFault, Files};
 /// How many bytes a file may have.
 const MOST_BYTES: usize = 65_700;
 
+/// The reason of a file that has more (docs/FILES.md).
+const TOO_LONG: u8 = 9;
+
 /// Why a file wasn't read whole.
 #[derive(Clone, Copy, Debug, PartialEq, Eq)]
 pub enum Unread {
@@ -149,7 +152,7 @@ fn take_file<S: Shelf>(
     let bytes = match read_file(alloc, shelf, name) {
         Ok(bytes) => bytes,
         Err(Unread::Failed) => return Err(Stop::Failed),
-        Err(Unread::TooLong) => return Err(Stop::Refused { reason: 9 }),
+        Err(Unread::TooLong) => return Err(Stop::Refused { reason: TOO_LONG }),
         Err(Unread::NoMemory) => return Err(Stop::NoMemory),
     };
     match files.add(bytes) {

@@ -22,6 +22,9 @@ use std::thread::Threads;
 use subjects::{Crowd, Subject};
 use table_files::Files;
 
+/// How many reasons to refuse a file come before those of its entries (docs/FILES.md).
+const HEADER_REASONS: u8 = 10;
+
 /// Takes the FILEs in, and runs the scenario of the file that is named, or the generated one, beside the crowd where there is
 /// one.
 fn carry_out<R: Threads + Sync, C: Subject + Send, S: Shelf, O: Sink, G: Gate>(
@@ -59,7 +62,7 @@ fn carry_out<R: Threads + Sync, C: Subject + Send, S: Shelf, O: Sink, G: Gate>(
     let tables = match Tables::load(&files) {
         Ok(tables) => tables,
         Err(fault) => {
-            return Report::file_refused(fault.file, fault.entry, fault.reason + 10);
+            return Report::file_refused(fault.file, fault.entry, fault.reason + HEADER_REASONS);
         }
     };
     let workers = plan.workers();

@@ -9,6 +9,9 @@ use row_forms::{push_decimal, push_hex};
 use std::alloc::AllocError;
 use table_files::{EntryFault, TableKind};
 
+/// How many reasons to refuse a file come before those of its entries (docs/FILES.md).
+const HEADER_REASONS: u32 = 10;
+
 /// Appends why an entry of a table's payload is refused, as `application monitors, entry 4: action 15 is over 11 (reason 12)`. The number
 /// of the reason is that of docs/FILES.md.
 #[tactic(auto, unfolding(crate::specs::Told::fault_told))]
@@ -41,7 +44,7 @@ fn push_behind(reason: u8, out: &mut Vec<u8>) -> Result<(), AllocError>
     ensures { OnOk result (out.new.items ≡ out.old.items ++ behind_told reason) }
 {
     out.extend_from_slice(b" (reason ")?;
-    push_decimal(u32::from(reason) + 10, out)?;
+    push_decimal(u32::from(reason) + HEADER_REASONS, out)?;
     out.extend_from_slice(b")")
 }
 
