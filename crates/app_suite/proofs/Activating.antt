@@ -40,7 +40,7 @@ use Rattle.sc_tables.specs.Relative.{rts_of, rts_fault_of}
 use Rattle.sc_sequences.specs.Sequences.{Sequence, is_running, at_place, with_at, ats_place, rts_place}
 use Rattle.sc_sequences.specs.Turns.{Sequences}
 use Rattle.sc_sequences.specs.Histories.{Activation as ScActivation, ScEntry, Beginning, activation_at, with_loaded, sequences_of, tables_after as sc_tables_after}
-use Rattle.sc_sequences.specs.State.{Stands as ScStands, place_of, runs_in, activation_of as sc_activation}
+use Rattle.sc_sequences.specs.State.{Stands as ScStands, sequence_place, runs_in, activation_of as sc_activation}
 use Rattle.sc_sequences.specs.declared.state.Sc.{Sc}
 use Rattle.sc_sequences.proofs.Loaded.{tables_activated as sequences_activated}
 use Rattle.sc_sequences.proofs.Waking.{sequences_more}
@@ -212,7 +212,7 @@ sc_by : (begin : Beginning) (history : List ScEntry) (sc : Sc) (made : Option Sc
 sc_by begin history sc (Some a) given stands = given a refl
 sc_by begin history sc None given stands = subst (λ (h : List ScEntry). ScStands begin h sc) (sym (append-nil history)) stands
 
-pub sc_goes : (begin : Beginning) (history : List ScEntry) (kind : TableKind) (sequences : List (List TimedCommand)) (sc : Sc) → runs_in (sequences_of begin history).all (place_of kind) ≡ false → ScStands begin history sc
+pub sc_goes : (begin : Beginning) (history : List ScEntry) (kind : TableKind) (sequences : List (List TimedCommand)) (sc : Sc) → runs_in (sequences_of begin history).all (sequence_place kind) ≡ false → ScStands begin history sc
     → ScStands begin (history ++ sc_activated kind sequences) sc
 sc_goes begin history kind sequences sc rests stands =
     sc_by begin history sc (sc_activation kind sequences) (λ a is. kind_activated begin history kind sequences a sc is rests stands) stands

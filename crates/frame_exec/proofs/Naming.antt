@@ -18,7 +18,7 @@ use Rattle.table_files.specs.Kinds.{IsKnown}
 use Rattle.table_files.specs.declared.kinds.TableKind.{TableKind}
 use Rattle.cs_slices.specs.State.{Stands as CsStands}
 use Rattle.sc_sequences.specs.Histories.{Beginning, ScEntry, sequences_of}
-use Rattle.sc_sequences.specs.State.{Stands as ScStands, IsReady as ScIsReady, place_of, runs_in, activation_of as sc_activation}
+use Rattle.sc_sequences.specs.State.{Stands as ScStands, IsReady as ScIsReady, sequence_place, runs_in, activation_of as sc_activation}
 use Rattle.sc_sequences.specs.declared.state.Sc.{Sc}
 use Rattle.mm_core.specs.declared.state.Mm.{Mm}
 use Rattle.md_dwell.specs.State.{Stands as MdStands, AllGiven}
@@ -53,7 +53,7 @@ pub record KeepsRest (old new : Bench) : Type 0 where
 
 -- no sequence of this kind runs in a state of SC
 abbrev Rests : TableKind → Sc → Type 0
-Rests kind sc = (begin : Beginning) (history : List ScEntry) → ScStands begin history sc → runs_in (sequences_of begin history).all (place_of kind) ≡ false
+Rests kind sc = (begin : Beginning) (history : List ScEntry) → ScStands begin history sc → runs_in (sequences_of begin history).all (sequence_place kind) ≡ false
 
 -- A table of this kind became active.
 module _ (old new : Bench) (kind : TableKind) (payload : List ℕ) (known : IsKnown kind) (can : can_activate kind ≡ true) (rests : Rests kind old.sc.state.value) (tables : new.tables.set ≡ with_table old.tables.set kind payload)
@@ -128,7 +128,7 @@ named_none b n is = record {
 
 -- a line named a file whose table doesn't become active
 pub named_other : (b : Bench) (n : ℕ) (kind : TableKind) (naming : Naming) → kind_at b.tables.files n ≡ Some kind → naming ≢ Accepted
-    → ((begin : Beginning) (history : List ScEntry) → ScStands begin history b.sc.state.value → naming ≡ naming_of (runs_in (sequences_of begin history).all (place_of kind)) kind) → NamesFile n b b
+    → ((begin : Beginning) (history : List ScEntry) → ScStands begin history b.sc.state.value → naming ≡ naming_of (runs_in (sequences_of begin history).all (sequence_place kind)) kind) → NamesFile n b b
 named_other b n kind naming is other by = record {
   goes = record { waits = refl; epoch = refl; number = refl; failed = refl; files = refl };
   memory = refl;
@@ -190,7 +190,7 @@ ready_told b events drops jobs there room ready = record { sc = ready.sc; md = r
 
 -- which sequences run is the same behind lines that name files, and so is what becomes of further ones
 runs_stay : (setup : Setup) (s : State) (numbers : List ℕ) (kind : TableKind) → runs_at (fold (after_activation setup) s numbers) kind ≡ runs_at s kind
-runs_stay setup s numbers kind = activations_keep (λ (t : State). runs_at t kind) setup s numbers (λ t k tables. runs_kept (sc_begun (active_in t)) t.sc (sc_activation k tables.sc) (place_of kind))
+runs_stay setup s numbers kind = activations_keep (λ (t : State). runs_at t kind) setup s numbers (λ t k tables. runs_kept (sc_begun (active_in t)) t.sc (sc_activation k tables.sc) (sequence_place kind))
 
 naming_stays : (setup : Setup) (s : State) (numbers : List ℕ) (kind : Option TableKind) → naming_at (fold (after_activation setup) s numbers) kind ≡ naming_at s kind
 naming_stays setup s numbers None = refl

@@ -12,7 +12,7 @@ use Rattle.memory_window.specs.Landing.{land}
 use Rattle.memory_window.specs.declared.regions.Region.{Region}
 use Rattle.memory_window.specs.declared.operations.MemOp.{MemOp}
 use Rattle.sc_sequences.specs.Histories.{ScEntry, sequences_of}
-use Rattle.sc_sequences.specs.State.{place_of, runs_in}
+use Rattle.sc_sequences.specs.State.{sequence_place, runs_in}
 use Rattle.mm_core.specs.Step.{Input as MmInput, mm_operations}
 use Rattle.hs_monitors.specs.Histories.{HsEntry}
 use Rattle.hs_monitors.specs.Step.{resets_made, resets_maximum}
@@ -70,7 +70,7 @@ active_in s = record { first = s.first; now = s.tables; began = s.began; resets 
 
 -- whether the table of this kind is a sequence that runs
 abbrev pub runs_at : State → TableKind → Bool
-runs_at s kind = runs_in (sequences_of (sc_begun (active_in s)) s.sc).all (place_of kind)
+runs_at s kind = runs_in (sequences_of (sc_begun (active_in s)) s.sc).all (sequence_place kind)
 
 -- what becomes of a line that names a file of this kind, or no table
 abbrev pub naming_at : State → Option TableKind → Naming

@@ -135,7 +135,7 @@ impl Shelf for MemShelf {
         self.mark = self.faults;
         self.openings = self.openings.saturating_add(1);
         self.reading = None;
-        self.last = place_of(&self.files, name);
+        self.last = file_place(&self.files, name);
         let fails = is_listed_call(&self.fails, self.calls);
         self.calls = self.calls.saturating_add(1);
         match self.last {
@@ -184,7 +184,7 @@ impl Shelf for MemShelf {
 }
 
 /// The place of the first file of this name.
-fn place_of(files: &[StoredFile], name: &str) -> Option<usize>
+fn file_place(files: &[StoredFile], name: &str) -> Option<usize>
     ensures { IsPlaceOf files.now name.now result }
 {
     for (place, file) in files.iter().enumerate() {

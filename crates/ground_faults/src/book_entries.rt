@@ -99,7 +99,7 @@ struct LinePlace {
 }
 
 /// Where a line of a text stands, behind which another one stands.
-fn place_of(text: &[u8], line: &Line<'_>) -> LinePlace {
+fn entry_place(text: &[u8], line: &Line<'_>) -> LinePlace {
     let size = line.bytes.len();
     let behind = line.rest.len().saturating_add(1).saturating_add(size);
     LinePlace {
@@ -125,7 +125,7 @@ fn tell_refused<R: Eprint + AllocGlobal>(
     };
     tell_part_entry(rt, name, part, said.line, said.payload.as_slice(), refused)?;
     match said.line {
-        Some(line) => Ok(Some(place_of(text, &line))),
+        Some(line) => Ok(Some(entry_place(text, &line))),
         None => Ok(None),
     }
 }

@@ -1,6 +1,6 @@
 //! Outputs by the names that the words give: standard output where none is named, or `-` is.
 
-use crate::part_files::{PartFile, place_of};
+use crate::part_files::{PartFile, real_path};
 use crate::stream_names::{is_stream, output_name};
 use std::fs;
 use std::io::{self, Printer, Write};
@@ -99,7 +99,7 @@ pub fn would_replace<R: Files + AllocGlobal>(rt: &R, output: Option<&str>, input
     if !is_file {
         return false;
     }
-    match (place_of(rt, path), place_of(rt, input)) {
+    match (real_path(rt, path), real_path(rt, input)) {
         (Ok(place), Ok(read)) => place.as_str() == read.as_str(),
         _ => false,
     }

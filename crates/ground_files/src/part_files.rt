@@ -17,7 +17,7 @@ pub struct PartFile<'a, R: Files> {
 }
 
 /// The path behind symbolic links, where there is a file.
-pub fn place_of<R: Files + AllocGlobal>(rt: &R, path: &str) -> io::Result<String> {
+pub fn real_path<R: Files + AllocGlobal>(rt: &R, path: &str) -> io::Result<String> {
     match fs::canonicalize(rt, path) {
         Ok(place) => Ok(place.into_string()),
         Err(_) => Ok(String::from_str(rt.alloc(), path)?),
@@ -45,7 +45,7 @@ fn make_part<R: Files + AllocGlobal>(rt: &R, place: &str) -> io::Result<(String,
 impl<'a, R: Files + AllocGlobal> PartFile<'a, R> {
     /// Begins a file, which is then written by what is given beside.
     pub fn begin(rt: &'a R, path: &str) -> io::Result<(PartFile<'a, R>, R::File)> {
-        let place = place_of(rt, path)?;
+        let place = real_path(rt, path)?;
         if let Ok(known) = fs::metadata(rt, path) {
             if !known.is_file() {
                 let file = OpenOptions::new().write(true).open(rt, path)?;

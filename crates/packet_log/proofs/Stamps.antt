@@ -13,20 +13,20 @@ use Rattle.packet_forms.specs.Built.{with_sequence}
 use Rattle.bus_pipes.specs.Counted.{counted_ids, is_counted}
 use Rattle.bus_pipes.specs.Pipes.{count_of_id}
 use Rattle.bus_pipes.proofs.Deliveries.{count_of_both}
-use Rattle.packet_log.specs.Counts.{place_of, count_of, stamped}
+use Rattle.packet_log.specs.Counts.{count_place, count_of, stamped}
 use Rattle.packet_log.specs.Standing.{Stands}
 
 passes_equal : (a b : ℕ) → (a == b) ≡ true → a ≡ b
 passes_equal a b h = grind (arith, nat_tests)
 
 -- a place is within the table
-pub place_within : (id k : ℕ) → place_of id ≡ Some k → k < 14
-unfolding place_of
+pub place_within : (id k : ℕ) → count_place id ≡ Some k → k < 14
+unfolding count_place
 place_within id k h = (position-Some (λ (counted : ℕ). counted == id) counted_ids k 0 h).0
 
 -- and has its id there
-place_has : (id k : ℕ) → place_of id ≡ Some k → get_or counted_ids k 0 ≡ id
-unfolding place_of
+place_has : (id k : ℕ) → count_place id ≡ Some k → get_or counted_ids k 0 ≡ id
+unfolding count_place
 place_has id k h = passes_equal _ _ (position-Some (λ (counted : ℕ). counted == id) counted_ids k 0 h).1
 
 no_place : (b : Bool) (n : ℕ) → cond b (Some n) None ≡ None → b ≡ false
@@ -45,8 +45,8 @@ none_passes p xs some none =
     true_false (p (get_or xs found.0 found.1)) (ap p found.3 ∙ found.4) fails
 
 -- an id that gets counts has a place
-pub place_there : (id : ℕ) → is_counted id ≡ true → (place_of id ≡ None → ⊥)
-unfolding place_of is_counted
+pub place_there : (id : ℕ) → is_counted id ≡ true → (count_place id ≡ None → ⊥)
+unfolding count_place is_counted
 place_there id h none = none_passes (λ (counted : ℕ). counted == id) counted_ids h none
 
 pub count_none : (id : ℕ) → count_of [] id ≡ 0
@@ -76,13 +76,13 @@ count_other made p id other =
     let none : count_of_id id (p ∷ []) ≡ 0 = count_one p id ∙ ap (λ (b : Bool). cond b 1 0) (ne_eqb (message_id p) id other) in
     omega arith
 
-same_place : (a b k : ℕ) → place_of a ≡ Some k → place_of b ≡ Some k → a ≡ b
+same_place : (a b k : ℕ) → count_place a ≡ Some k → count_place b ≡ Some k → a ≡ b
 same_place a b k h i = sym (place_has a k h) ∙ place_has b k i
 
 same_some : (j k : ℕ) → Some j ≡ Some k → j ≡ k
 same_some j k h = cc
 
-one_each : (made : List (List ℕ)) (counts : List ℕ) (p : List ℕ) (k : ℕ) → Stands made counts → place_of (message_id p) ≡ Some k → (id j : ℕ) → place_of id ≡ Some j → get_or (set counts k ((get_or counts k 0 + 1) % 16384)) j 0 ≡ count_of (made ++ p ∷ []) id
+one_each : (made : List (List ℕ)) (counts : List ℕ) (p : List ℕ) (k : ℕ) → Stands made counts → count_place (message_id p) ≡ Some k → (id j : ℕ) → count_place id ≡ Some j → get_or (set counts k ((get_or counts k 0 + 1) % 16384)) j 0 ≡ count_of (made ++ p ∷ []) id
 one_each made counts p k s at id j h = elim (eqb_tells j k) [
   | inl same ↦
       let within : k < length counts = rw s.whole (place_within (message_id p) k at) in
@@ -94,18 +94,18 @@ one_each made counts p k s at id j h = elim (eqb_tells j k) [
   | inr other ↦
       get_or-set_other counts k j ((get_or counts k 0 + 1) % 16384) 0 other.1
       ∙ s.each id j h
-      ∙ sym (count_other made p id (λ e. other.1 (same_some j k (sym h ∙ ap place_of (sym e) ∙ at))))
+      ∙ sym (count_other made p id (λ e. other.1 (same_some j k (sym h ∙ ap count_place (sym e) ∙ at))))
 ]
 
 -- one packet more
-pub one_stamped : (made : List (List ℕ)) (counts : List ℕ) (p : List ℕ) (k : ℕ) → Stands made counts → place_of (message_id p) ≡ Some k → Stands (made ++ p ∷ []) (set counts k ((get_or counts k 0 + 1) % 16384))
+pub one_stamped : (made : List (List ℕ)) (counts : List ℕ) (p : List ℕ) (k : ℕ) → Stands made counts → count_place (message_id p) ≡ Some k → Stands (made ++ p ∷ []) (set counts k ((get_or counts k 0 + 1) % 16384))
 one_stamped made counts p k s at = record {
   whole = length-set counts k _ ∙ s.whole;
   each = λ id j h. one_each made counts p k s at id j h;
 }
 
 -- the packet with the count of its place
-pub stamped_by : (made : List (List ℕ)) (counts : List ℕ) (p : List ℕ) (k : ℕ) → Stands made counts → place_of (message_id p) ≡ Some k → with_sequence (get_or counts k 0) p ≡ stamped made p
+pub stamped_by : (made : List (List ℕ)) (counts : List ℕ) (p : List ℕ) (k : ℕ) → Stands made counts → count_place (message_id p) ≡ Some k → with_sequence (get_or counts k 0) p ≡ stamped made p
 unfolding stamped
 stamped_by made counts p k s at = ap (λ (n : ℕ). with_sequence n p) (s.each (message_id p) k at)
 

@@ -6,8 +6,8 @@ use Rattle.bus_pipes.specs.Pipes.{count_of_id}
 use Rattle.bus_pipes.specs.Counted.{counted_ids}
 
 -- the place of an id in the table of counts
-unfoldable pub place_of : ℕ → Option ℕ
-place_of id = position (λ counted. counted == id) counted_ids
+unfoldable pub count_place : ℕ → Option ℕ
+count_place id = position (λ counted. counted == id) counted_ids
 
 -- how many of these packets have an id, modulo 16,384
 unfoldable pub count_of : List (List ℕ) → ℕ → ℕ

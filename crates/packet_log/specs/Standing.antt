@@ -1,7 +1,7 @@
 -- When a log stands for the packets that were stamped.
 use Rattle.std.specs.Prelude.{◌≡◌, ◌<◌, ◌≤◌, ℕ, List, length, slice_index, Some}
 use Rattle.packet_log.specs.declared.block.TheConstants.{BLOCK_BYTES, BLOCK_ENDS}
-use Rattle.packet_log.specs.Counts.{place_of, count_of}
+use Rattle.packet_log.specs.Counts.{count_place, count_of}
 
 -- each count is below 16,384
 pub record AreSmall (counts : List ℕ) : Type 0 where
@@ -10,7 +10,7 @@ pub record AreSmall (counts : List ℕ) : Type 0 where
 -- the counts, by the places of their ids, are those of the packets that were stamped
 pub record Stands (made : List (List ℕ)) (counts : List ℕ) : Type 0 where
   pub whole : length counts ≡ 14
-  pub each : (id k : ℕ) → place_of id ≡ Some k → slice_index counts k ≡ count_of made id
+  pub each : (id k : ℕ) → count_place id ≡ Some k → slice_index counts k ≡ count_of made id
 
 -- what a block holds is within what was reserved for it, and the sink took no more than there is
 pub record IsRoomy (size capacity taken ends ends_capacity : ℕ) : Type 0 where

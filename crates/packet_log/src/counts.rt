@@ -6,7 +6,7 @@ ghost use Rattle.fsw_outside.specs.Causes.{HasCause};
 ghost use Rattle.fsw_outside.specs.Written.{WritesAll};
 ghost use Rattle.packet_forms.specs.Packets.{message_id};
 ghost use Rattle.bus_pipes.specs.Counted.{is_counted, is_item_counted};
-ghost use Rattle.packet_log.specs.Counts.{place_of, count_of, stamped};
+ghost use Rattle.packet_log.specs.Counts.{count_place, count_of, stamped};
 ghost use Rattle.packet_log.specs.Sent.{makes, as_sent};
 ghost use Rattle.packet_log.specs.Standing.{Stands};
 
@@ -109,7 +109,7 @@ impl Log {
         ensures value { (made : List (List ℕ)) → Stands made self.old → result ≡ count_of made id }
         ensures stands { (made : List (List ℕ)) (packet : List ℕ) → message_id packet ≡ id → Stands made self.old → Stands (made ++ packet ∷ []) self.new }
     {
-        let place = place_of(id);
+        let place = count_place(id);
         let count = self.counts[place];
         self.counts[place] = (count + 1) % 16384;
         count
@@ -126,9 +126,9 @@ impl Log {
 }
 
 /// The place of an id that gets sequence counts.
-fn place_of(id: u16) -> usize
+fn count_place(id: u16) -> usize
     requires { is_counted id ≡ true }
-    ensures place { place_of id ≡ Some result }
+    ensures place { count_place id ≡ Some result }
     ensures bound { result < 14 }
 {
     match find_place(id) {
@@ -138,9 +138,9 @@ fn place_of(id: u16) -> usize
 }
 
 /// The place of an id in the table of counts, if it stands there.
-#[tactic(auto, unfolding(crate::specs::Counts::place_of))]
+#[tactic(auto, unfolding(crate::specs::Counts::count_place))]
 fn find_place(id: u16) -> Option<usize>
-    ensures { result ≡ place_of id }
+    ensures { result ≡ count_place id }
 {
     COUNTED_IDS.iter().position(|counted| *counted == id)
 }

@@ -14,7 +14,7 @@ use Rattle.sc_sequences.specs.Turns.{Sequences}
 use Rattle.sc_sequences.specs.Histories.{ScEntry, Beginning, Activation, activation_at, with_loaded, basis_in, packets_in, sequences_of, tables_after}
 use Rattle.sc_sequences.specs.Step.{sc_heard}
 use Rattle.sc_sequences.specs.Cursors.{cursor_in}
-use Rattle.sc_sequences.specs.State.{CursorStands, CursorsStand, DutyStands, Stands, IsReady, place_of, runs_in, activation_of}
+use Rattle.sc_sequences.specs.State.{CursorStands, CursorsStand, DutyStands, Stands, IsReady, sequence_place, runs_in, activation_of}
 use Rattle.sc_sequences.specs.declared.cursors.Cursor.{Cursor}
 use Rattle.sc_sequences.specs.declared.state.Sc.{Sc}
 use Rattle.sc_sequences.proofs.Waking.{sequences_more}
@@ -78,8 +78,8 @@ activated_stands begin history a sc rests stood =
 
 -- an activation by the kind of the sequence
 pub kind_activated : (begin : Beginning) (history : List ScEntry) (kind : TableKind) (tables : List (List TimedCommand)) (a : Activation) (sc : Sc) → activation_of kind tables ≡ Some a
-    → runs_in (sequences_of begin history).all (place_of kind) ≡ false → Stands begin history sc → Stands begin (history ++ Activated a ∷ []) sc
-kind_activated begin history kind tables a sc is rests stood = by_place (place_of kind) is rests
+    → runs_in (sequences_of begin history).all (sequence_place kind) ≡ false → Stands begin history sc → Stands begin (history ++ Activated a ∷ []) sc
+kind_activated begin history kind tables a sc is rests stood = by_place (sequence_place kind) is rests
   where
     same : (x : Activation) → ◌≡◌ {A = Option Activation} (Some x) (Some a) → x ≡ a
     same x e = cc

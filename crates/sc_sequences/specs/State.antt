@@ -53,18 +53,18 @@ unfoldable pub is_idle_on : Beginning → List ScEntry → List (List ℕ) → �
 is_idle_on begin history commands now = (length commands == 0) && not (is_some (next_place now (sequences_of begin history).all))
 
 -- The place of the sequence of a kind, none of a kind that isn't one.
-abbrev pub place_of : TableKind → Option ℕ
-place_of AppMon = None
-place_of EventMon = None
-place_of ExeCount = None
-place_of MsgActs = None
-place_of (Ats n) = ats_place n
-place_of (Rts n) = rts_place n
-place_of (Dwell n) = None
-place_of Eeprom = None
-place_of Memory = None
-place_of Wdt = None
-place_of Adt = None
+abbrev pub sequence_place : TableKind → Option ℕ
+sequence_place AppMon = None
+sequence_place EventMon = None
+sequence_place ExeCount = None
+sequence_place MsgActs = None
+sequence_place (Ats n) = ats_place n
+sequence_place (Rts n) = rts_place n
+sequence_place (Dwell n) = None
+sequence_place Eeprom = None
+sequence_place Memory = None
+sequence_place Wdt = None
+sequence_place Adt = None
 
 -- Whether the sequence of a kind runs that stands in this place.
 abbrev pub runs_in : List Sequence → Option ℕ → Bool
@@ -73,4 +73,4 @@ runs_in all (Some place) = is_running (at_place all place)
 
 -- The activation of the sequence of a kind with its commands in these tables; none of a kind that isn't one.
 abbrev pub activation_of : TableKind → List (List TimedCommand) → Option Activation
-activation_of kind tables = option_map (λ place. activation_at place (commands_in tables place)) (place_of kind)
+activation_of kind tables = option_map (λ place. activation_at place (commands_in tables place)) (sequence_place kind)

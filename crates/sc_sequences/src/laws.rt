@@ -15,7 +15,7 @@ ghost use Rattle.sc_sequences.specs.Sequences.{Sequence, is_running, at_place, h
 ghost use Rattle.sc_sequences.specs.Orders.{after_orders};
 ghost use Rattle.sc_sequences.specs.Turns.{Sequences, next_place, turns};
 ghost use Rattle.sc_sequences.specs.Laws.{departures, right_packet, stored_in, LeavesNoneBefore, AreTimed, AreTablesTimed, AreEntriesTimed, ComesFirst};
-ghost use Rattle.sc_sequences.specs.State.{Stands, IsReady, place_of, runs_in, activation_of};
+ghost use Rattle.sc_sequences.specs.State.{Stands, IsReady, sequence_place, runs_in, activation_of};
 ghost use Rattle.table_files.specs.declared.kinds.TableKind.{TableKind};
 ghost use Rattle.table_files.specs.declared.kinds.TableKind.TheVariants.{Ats, Rts, Dwell};
 ghost use Rattle.sc_tables.specs.Commands.{TimedCommand, commands_in};
@@ -198,7 +198,7 @@ pub fn left_behind_leaves_first()
 pub fn activation_law()
     ensures stands { (begin : Beginning) (history : List ScEntry) (a : Activation) (sc : Sc) → is_running (at_place (sequences_of begin history).all a.place) ≡ false → Stands begin history sc → Stands begin (history ++ Activated a ∷ []) sc }
     ensures kind { (begin : Beginning) (history : List ScEntry) (kind : TableKind) (tables : List (List TimedCommand)) (a : Activation) (sc : Sc) → activation_of kind tables ≡ Some a
-        → runs_in (sequences_of begin history).all (place_of kind) ≡ false → Stands begin history sc → Stands begin (history ++ Activated a ∷ []) sc }
+        → runs_in (sequences_of begin history).all (sequence_place kind) ≡ false → Stands begin history sc → Stands begin (history ++ Activated a ∷ []) sc }
     ensures ready { (tables : List (List TimedCommand)) (place : ℕ) (commands : List TimedCommand) (sc : Sc) → ((begin : Beginning) (history : List ScEntry) → Stands begin history sc → is_running (at_place (sequences_of begin history).all place) ≡ false)
         → IsReady tables sc → IsReady (slice_set tables place commands) sc }
 {}
@@ -213,15 +213,15 @@ pub fn running_sequences_are_in_force()
 
 /// A sequence runs from its start until its last command left, and no other does; the first relative one from the start on.
 pub fn running_rows()
-    ensures before { runs_in (sequences_of (begun one_in_first) []).all (place_of (Ats 1)) ≡ false }
-    ensures started { runs_in (sequences_of (begun one_in_first) (start_heard ∷ [])).all (place_of (Ats 1)) ≡ true }
-    ensures waits { runs_in (sequences_of (begun one_in_first) (start_heard ∷ Woken (at_second 1 []) ∷ [])).all (place_of (Ats 1)) ≡ true }
-    ensures over { runs_in (sequences_of (begun one_in_first) (start_heard ∷ Woken (at_second 2 []) ∷ [])).all (place_of (Ats 1)) ≡ false }
-    ensures other { runs_in (sequences_of (begun one_in_first) (start_heard ∷ [])).all (place_of (Ats 2)) ≡ false }
-    ensures relative { runs_in (sequences_of (begun one_in_first) (start_heard ∷ [])).all (place_of (Rts 1)) ≡ false }
-    ensures first { runs_in (sequences_of (begun (with_rts 1 (timed 1 mm_noop ∷ []) no_tables)) []).all (place_of (Rts 1)) ≡ true }
-    ensures second { runs_in (sequences_of (begun (with_rts 1 (timed 1 mm_noop ∷ []) no_tables)) []).all (place_of (Rts 2)) ≡ false }
-    ensures none { place_of (Dwell 1) ≡ None }
+    ensures before { runs_in (sequences_of (begun one_in_first) []).all (sequence_place (Ats 1)) ≡ false }
+    ensures started { runs_in (sequences_of (begun one_in_first) (start_heard ∷ [])).all (sequence_place (Ats 1)) ≡ true }
+    ensures waits { runs_in (sequences_of (begun one_in_first) (start_heard ∷ Woken (at_second 1 []) ∷ [])).all (sequence_place (Ats 1)) ≡ true }
+    ensures over { runs_in (sequences_of (begun one_in_first) (start_heard ∷ Woken (at_second 2 []) ∷ [])).all (sequence_place (Ats 1)) ≡ false }
+    ensures other { runs_in (sequences_of (begun one_in_first) (start_heard ∷ [])).all (sequence_place (Ats 2)) ≡ false }
+    ensures relative { runs_in (sequences_of (begun one_in_first) (start_heard ∷ [])).all (sequence_place (Rts 1)) ≡ false }
+    ensures first { runs_in (sequences_of (begun (with_rts 1 (timed 1 mm_noop ∷ []) no_tables)) []).all (sequence_place (Rts 1)) ≡ true }
+    ensures second { runs_in (sequences_of (begun (with_rts 1 (timed 1 mm_noop ∷ []) no_tables)) []).all (sequence_place (Rts 2)) ≡ false }
+    ensures none { sequence_place (Dwell 1) ≡ None }
     ensures taken { activation_of (Rts 64) (with_rts 64 (timed 1 mm_noop ∷ []) no_tables) ≡ Some (activation_at 65 (timed 1 mm_noop ∷ [])) }
 {}
 

@@ -2,7 +2,7 @@
 ghost use Rattle.std.specs.Prelude.{◌≡◌, ◌≤◌, ◌<◌, List, IfSome};
 ghost use Rattle.sc_tables.specs.Commands.{TimedCommand};
 ghost use Rattle.sc_sequences.specs.Sequences.{Sequence, ats_place, rts_place, is_relative, running_ats, is_running, at_place};
-ghost use Rattle.sc_sequences.specs.State.{CursorsStand, place_of};
+ghost use Rattle.sc_sequences.specs.State.{CursorsStand, sequence_place};
 
 use crate::cursors::Cursors;
 use table_files::TableKind;
@@ -30,8 +30,8 @@ pub(crate) fn rts_place(number: u16) -> Option<usize>
 }
 
 /// The place of the sequence of a kind; none of a kind that isn't one.
-pub(crate) fn place_of(kind: TableKind) -> Option<usize>
-    ensures place { result ≡ place_of kind }
+pub(crate) fn sequence_place(kind: TableKind) -> Option<usize>
+    ensures place { result ≡ sequence_place kind }
     ensures within { IfSome result (λ place. place < 66) }
 {
     match kind {

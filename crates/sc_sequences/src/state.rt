@@ -3,10 +3,10 @@ ghost use Rattle.std.specs.Prelude.{◌≡◌, ℕ, true, List, [], ◌∷◌, �
 ghost use Rattle.histories.specs.Entries.Entry.{Woken};
 ghost use Rattle.sc_sequences.specs.Histories.{Input, ScEntry, Beginning, begun_at, sequences_of};
 ghost use Rattle.sc_sequences.specs.Step.{sc_items};
-ghost use Rattle.sc_sequences.specs.State.{Stands, IsReady, is_idle_on, place_of, runs_in};
+ghost use Rattle.sc_sequences.specs.State.{Stands, IsReady, is_idle_on, sequence_place, runs_in};
 
 use crate::duty::Duty;
-use crate::places::{is_running, place_of};
+use crate::places::{is_running, sequence_place};
 use bus_pipes::Counts;
 use commands::start_counts;
 use packet_forms::Packet;
@@ -35,9 +35,9 @@ impl Sc {
 
     /// Whether the sequence of this kind runs: a command of it is left. No table of another kind runs.
     pub fn runs(&self, kind: TableKind) -> bool
-        ensures { (begin : Beginning) (history : List ScEntry) → Stands begin history self.now → result ≡ runs_in (sequences_of begin history).all (place_of kind) }
+        ensures { (begin : Beginning) (history : List ScEntry) → Stands begin history self.now → result ≡ runs_in (sequences_of begin history).all (sequence_place kind) }
     {
-        let Some(place) = place_of(kind) else {
+        let Some(place) = sequence_place(kind) else {
             return false;
         };
         is_running(&self.duty.cursors, place)

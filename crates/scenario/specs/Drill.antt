@@ -28,12 +28,12 @@ pub record Draws : Type 0 where
 
 unfoldable pub draws_of : ℕ → Draws
 draws_of x =
-    let xa = drawn x in
-    let xb = drawn xa in
-    let xc = drawn_behind xb in
-    let xd = drawn xc in
-    let xe = drawn xd in
-    record { a = upper xa; b = upper xb; c = upper xc; d = upper xd; e = upper xe; x = xe }
+    let at_a = drawn x in
+    let at_b = drawn at_a in
+    let at_c = drawn_behind at_b in
+    let at_d = drawn at_c in
+    let at_e = drawn at_d in
+    record { a = upper at_a; b = upper at_b; c = upper at_c; d = upper at_d; e = upper at_e; x = at_e }
 
 -- a counter for the name LOAD
 unfoldable pub counter_line : ℕ → List ℕ

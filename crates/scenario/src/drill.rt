@@ -172,18 +172,18 @@ fn draws_of(x: u32) -> Draws
     ensures e { result.e ≡ (draws_of x).e }
     ensures x { result.x ≡ (draws_of x).x }
 {
-    let xa = drawn(x);
-    let xb = drawn(xa);
-    let xc = drawn_behind(xb);
-    let xd = drawn(xc);
-    let xe = drawn(xd);
+    let at_a = drawn(x);
+    let at_b = drawn(at_a);
+    let at_c = drawn_behind(at_b);
+    let at_d = drawn(at_c);
+    let at_e = drawn(at_d);
     Draws {
-        a: upper(xa),
-        b: upper(xb),
-        c: upper(xc),
-        d: upper(xd),
-        e: upper(xe),
-        x: xe,
+        a: upper(at_a),
+        b: upper(at_b),
+        c: upper(at_c),
+        d: upper(at_d),
+        e: upper(at_e),
+        x: at_e,
     }
 }
 

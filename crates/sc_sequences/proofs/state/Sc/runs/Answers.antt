@@ -7,4 +7,4 @@ pub returns : goal.returns
 unfolding Stands
 returns c = λ begin history stood.
     let all = (sequences_of begin history).all in
-    c.is_running.ensures (tables_after begin history) all stood.duty.cursors ∙ sym (ap (runs_in all) (sym c.place_of.ensures.place ∙ c.in-Some.is))
+    c.is_running.ensures (tables_after begin history) all stood.duty.cursors ∙ sym (ap (runs_in all) (sym c.sequence_place.ensures.place ∙ c.in-Some.is))

@@ -2,7 +2,7 @@ use Rattle.std.proofs.Common.{arith, ◌≡◌, true, string_bytes}
 use Rattle.std.specs.Prelude.{bytes_eq}
 use Rattle.std.proofs.lemmas.Grind.{common_steps}
 use Rattle.fsw_outside.proofs.Shelves.{place_found}
-use Rattle.fsw_outside.proofs.mem_shelf.place_of.Goals as goal
+use Rattle.fsw_outside.proofs.mem_shelf.file_place.Goals as goal
 
 pub returns-then-eq : goal.returns-then-eq
 returns-then-eq c =

@@ -1,7 +1,7 @@
 use Rattle.std.proofs.Common.{◌≡◌, drop}
 use Rattle.fsw_outside.specs.Files.{file_named}
 use Rattle.fsw_outside.specs.Memory.{stored_files}
-use Rattle.fsw_outside.proofs.mem_shelf.place_of.Given as goal
+use Rattle.fsw_outside.proofs.mem_shelf.file_place.Given as goal
 
 -- no file before this one has the name
 abbrev pub invariant-loop-place : goal.invariant-loop-place

@@ -1,6 +1,6 @@
 use Rattle.std.proofs.Common.{◌∙◌, sym}
 use Rattle.packet_log.proofs.Stamps.{place_there, place_within}
-use Rattle.packet_log.proofs.counts.place_of.Goals as goal
+use Rattle.packet_log.proofs.counts.count_place.Goals as goal
 
 pub unreachable-requires : goal.unreachable-requires
 unreachable-requires c = place_there c.args.id c.requires (sym c.find_place.ensures ∙ c.in-None.is)
