@@ -95,8 +95,10 @@ pub fn hand_over(
     md: &mut MdSlot,
 )
     requires { IsKnown kind }
-    ensures takes { TakesTable kind tables.now.set hs.old.state.value hs.new.state.value cs.old.state.value cs.new.state.value md.old.state.value md.new.state.value }
-    ensures given { (regions : List Region) → TablesGiven regions tables.now.set.dwells → AllGiven regions md.old.state.value → AllGiven regions md.new.state.value }
+    ensures takes { TakesTable kind tables.now.set hs.old.state.value hs.new.state.value
+        cs.old.state.value cs.new.state.value md.old.state.value md.new.state.value }
+    ensures given { (regions : List Region) → TablesGiven regions tables.now.set.dwells
+        → AllGiven regions md.old.state.value → AllGiven regions md.new.state.value }
 {
     hs.state.activate(tables.hs(), kind);
     hand_over_segments(tables, kind, cs);
@@ -105,7 +107,9 @@ pub fn hand_over(
 
 /// The same of CS's tables.
 fn hand_over_segments(tables: &Tables<'_>, kind: TableKind, cs: &mut CsSlot)
-    ensures { (first : TablePair) (history : List CsEntry) → CsStands first history cs.old.state.value → CsStands first (history ++ cs_activated kind tables.now.set) cs.new.state.value }
+    ensures { (first : TablePair) (history : List CsEntry)
+        → CsStands first history cs.old.state.value
+        → CsStands first (history ++ cs_activated kind tables.now.set) cs.new.state.value }
 {
     match kind {
         TableKind::Eeprom => cs.state.activate(tables.eeprom(), tables.memory(), 1),
@@ -126,8 +130,11 @@ fn hand_over_segments(tables: &Tables<'_>, kind: TableKind, cs: &mut CsSlot)
 #[tactic(auto, using(active_tables::proofs::GivenTables::given_at))]
 fn hand_over_dwells(tables: &Tables<'_>, kind: TableKind, md: &mut MdSlot)
     requires { IsKnown kind }
-    ensures dwells { (first : List DwellTable) (history : List MdEntry) → MdStands first history md.old.state.value → MdStands first (history ++ md_activated kind tables.now.set.dwells) md.new.state.value }
-    ensures given { (regions : List Region) → TablesGiven regions tables.now.set.dwells → AllGiven regions md.old.state.value → AllGiven regions md.new.state.value }
+    ensures dwells { (first : List DwellTable) (history : List MdEntry)
+        → MdStands first history md.old.state.value
+        → MdStands first (history ++ md_activated kind tables.now.set.dwells) md.new.state.value }
+    ensures given { (regions : List Region) → TablesGiven regions tables.now.set.dwells
+        → AllGiven regions md.old.state.value → AllGiven regions md.new.state.value }
 {
     if let TableKind::Dwell(n) = kind {
         let dwells = &tables.dwells()[..];

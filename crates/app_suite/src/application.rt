@@ -35,9 +35,14 @@ pub trait Application<X> {
 
     /// Whether a wakeup on these packets would leave the state as it is and give nothing.
     fn is_idle(&self, reads: &Reads<'_, '_, '_>, commands: &[Packet]) -> bool
-        ensures stands { (setup : Setup) (history : List Input) → result ≡ true → belongs setup reads.now → stands setup history self.now → stands setup (history ++ input reads.now commands.now ∷ []) self.now }
-        ensures items { (setup : Setup) (history : List Input) → result ≡ true → belongs setup reads.now → stands setup history self.now → items setup history (input reads.now commands.now) ≡ [] }
-        ensures fills { (beside : X) → result ≡ true → is_clear beside → fills reads.now commands.now beside };
+        ensures stands { (setup : Setup) (history : List Input) → result ≡ true
+            → belongs setup reads.now → stands setup history self.now
+            → stands setup (history ++ input reads.now commands.now ∷ []) self.now }
+        ensures items { (setup : Setup) (history : List Input) → result ≡ true
+            → belongs setup reads.now → stands setup history self.now
+            → items setup history (input reads.now commands.now) ≡ [] }
+        ensures fills { (beside : X) → result ≡ true → is_clear beside
+            → fills reads.now commands.now beside };
 
     /// Wakes the application on the packets of its pipe, at most 16. What it sends goes to `out`, which is empty.
     fn advance(
@@ -52,8 +57,12 @@ pub trait Application<X> {
         requires room { most ≤ out.old.room }
         requires can { can_step reads.now self.old }
         requires clear { is_clear beside.old }
-        ensures stands { (setup : Setup) (history : List Input) → belongs setup reads.now → stands setup history self.old → stands setup (history ++ input reads.now commands.now ∷ []) self.new }
-        ensures items { (setup : Setup) (history : List Input) → belongs setup reads.now → stands setup history self.old → out.new.items ≡ items setup history (input reads.now commands.now) }
+        ensures stands { (setup : Setup) (history : List Input) → belongs setup reads.now
+            → stands setup history self.old → stands setup (history ++ input reads.now commands.now
+            ∷ []) self.new }
+        ensures items { (setup : Setup) (history : List Input) → belongs setup reads.now
+            → stands setup history self.old → out.new.items
+            ≡ items setup history (input reads.now commands.now) }
         ensures can { can_step reads.now self.new }
         ensures sendable { AreSendable most out.new.items }
         ensures room { out.new.room ≡ out.old.room }

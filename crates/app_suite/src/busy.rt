@@ -27,8 +27,10 @@ fn settle(
     requires room { array_vec_len busy.old < 6 }
     ensures jobs { crew.new.jobs ≡ crew.old.jobs }
     ensures results { length crew.new.results ≡ length crew.old.results }
-    ensures others { (k : ℕ) (left : Left) → k ≢ job → slice_index_or crew.new.results k left ≡ slice_index_or crew.old.results k left }
-    ensures settled { (busy.new.items ≡ busy.old.items ++ job ∷ []) ⊎ ((busy.new.items ≡ busy.old.items) × IsLeftRight jobs.now crew.new.results job) }
+    ensures others { (k : ℕ) (left : Left) → k ≢ job
+        → slice_index_or crew.new.results k left ≡ slice_index_or crew.old.results k left }
+    ensures settled { (busy.new.items ≡ busy.old.items ++ job ∷ [])
+        ⊎ ((busy.new.items ≡ busy.old.items) × IsLeftRight jobs.now crew.new.results job) }
 {
     let wakeup = &jobs[job as usize];
     if !wakeup.rests() {
@@ -46,7 +48,8 @@ pub(crate) fn settle_all(crew: &mut Crew<Left>, jobs: &[Wakeup<'_, '_, '_, '_, '
     ensures jobs { crew.new.jobs ≡ crew.old.jobs }
     ensures results { length crew.new.results ≡ length crew.old.results }
     ensures busy { AreDraws (length jobs.now) result.items }
-    ensures settled { (job : ℕ) → job < length jobs.now → times job result.items ≡ 0 → IsLeftRight jobs.now crew.new.results job }
+    ensures settled { (job : ℕ) → job < length jobs.now → times job result.items ≡ 0
+        → IsLeftRight jobs.now crew.new.results job }
 {
     let mut busy = JobNumbers::new();
     for job in 0..jobs.len() as u32 {

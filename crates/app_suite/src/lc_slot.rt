@@ -96,8 +96,10 @@ impl LcSlot {
         requires there { self.old.there ≡ bus.old.watched }
         ensures there { self.new.there ≡ self.old.there }
         ensures state { self.new.slot.state ≡ self.old.slot.state }
-        ensures takes { HasTaken (not bus.old.watched) bus.old.lc self.new.slot.held self.new.slot.commands self.new.slot.out.items }
-        ensures telemetry { not bus.old.watched ≡ false → self.new.telemetry.items ≡ bus.old.lc_tlm }
+        ensures takes { HasTaken (not bus.old.watched) bus.old.lc self.new.slot.held
+            self.new.slot.commands self.new.slot.out.items }
+        ensures telemetry { not bus.old.watched ≡ false
+            → self.new.telemetry.items ≡ bus.old.lc_tlm }
         ensures pipes { bus.new ≡ without_limits bus.old }
     {
         if !bus.is_watched() {
@@ -114,7 +116,9 @@ impl LcSlot {
         requires job { 5 < length crew.old.results }
         requires empty { self.old.slot.out.items ≡ [] }
         ensures there { self.new.there ≡ self.old.there }
-        ensures from { (left : Left) × (slice_index_or crew.old.results 5 left ≡ left) × (self.new.slot.state.value ≡ next_of left.stays left.lc.value self.old.slot.state.value) × (self.new.slot.out.items ≡ left.out.items) }
+        ensures from { (left : Left) × (slice_index_or crew.old.results 5 left ≡ left)
+            × (self.new.slot.state.value ≡ next_of left.stays left.lc.value
+            self.old.slot.state.value) × (self.new.slot.out.items ≡ left.out.items) }
         ensures jobs { crew.new.jobs ≡ crew.old.jobs }
         ensures none { result ≡ true → self.new.slot.out.items ≡ [] }
     {

@@ -64,7 +64,8 @@ impl<S> Slot<S> {
     pub fn take(&mut self, bus: &mut Bus, pipe: PipeName, held: bool)
         requires { depth_of pipe ≤ 16 }
         ensures state { self.new.state ≡ self.old.state }
-        ensures takes { HasTaken held (packets_in pipe bus.old) self.new.held self.new.commands self.new.out.items }
+        ensures takes { HasTaken held (packets_in pipe bus.old) self.new.held self.new.commands
+            self.new.out.items }
         ensures pipes { bus.new ≡ taken pipe held bus.old }
     {
         self.held = held;
@@ -92,7 +93,10 @@ impl<S> Slot<S> {
         requires empty { out.old.items ≡ [] }
         requires can { S.can_step reads.now self.now.state.value }
         requires clear { S.is_clear beside.old }
-        ensures wakes { (setup : S.Setup) → S.belongs setup reads.now → IsWoken (S.stands setup) (S.items setup) self.now.held (S.input reads.now self.now.commands) self.now.state.value (next_of stays.new next.new.value self.now.state.value) out.new.items }
+        ensures wakes { (setup : S.Setup) → S.belongs setup reads.now
+            → IsWoken (S.stands setup) (S.items setup) self.now.held
+            (S.input reads.now self.now.commands) self.now.state.value
+            (next_of stays.new next.new.value self.now.state.value) out.new.items }
         ensures can { S.can_step reads.now (next_of stays.new next.new.value self.now.state.value) }
         ensures sendable { AreSendable S.most out.new.items }
         ensures held { self.now.held ≡ true → S.is_clear beside.new }
@@ -112,8 +116,11 @@ impl<S> Slot<S> {
     pub fn rests<X>(&self, reads: &Reads<'_, '_, '_>) -> bool
     where
         S: Application<X>,
-        ensures woken { (setup : S.Setup) → result ≡ true → S.belongs setup reads.now → IsWoken (S.stands setup) (S.items setup) self.now.held (S.input reads.now self.now.commands) self.now.state.value self.now.state.value [] }
-        ensures fills { (beside : X) → result ≡ true → self.now.held ≡ false → S.is_clear beside → S.fills reads.now self.now.commands beside }
+        ensures woken { (setup : S.Setup) → result ≡ true → S.belongs setup reads.now
+            → IsWoken (S.stands setup) (S.items setup) self.now.held
+            (S.input reads.now self.now.commands) self.now.state.value self.now.state.value [] }
+        ensures fills { (beside : X) → result ≡ true → self.now.held ≡ false → S.is_clear beside
+            → S.fills reads.now self.now.commands beside }
         ensures here { result ≡ false → self.now.held ≡ false }
     {
         if self.held {
@@ -137,8 +144,12 @@ impl<S> Slot<S> {
         requires empty { out.old.items ≡ [] }
         requires can { S.can_step reads.now self.now.state.value }
         requires clear { S.is_clear beside.old }
-        ensures state { (setup : S.Setup) (history : List S.Input) → S.belongs setup reads.now → S.stands setup history self.now.state.value → S.stands setup (history ++ S.input reads.now self.now.commands ∷ []) next.new.value }
-        ensures items { (setup : S.Setup) (history : List S.Input) → S.belongs setup reads.now → S.stands setup history self.now.state.value → out.new.items ≡ S.items setup history (S.input reads.now self.now.commands) }
+        ensures state { (setup : S.Setup) (history : List S.Input) → S.belongs setup reads.now
+            → S.stands setup history self.now.state.value
+            → S.stands setup (history ++ S.input reads.now self.now.commands ∷ []) next.new.value }
+        ensures items { (setup : S.Setup) (history : List S.Input) → S.belongs setup reads.now
+            → S.stands setup history self.now.state.value
+            → out.new.items ≡ S.items setup history (S.input reads.now self.now.commands) }
         ensures can { S.can_step reads.now next.new.value }
         ensures sendable { AreSendable S.most out.new.items }
         ensures fills { S.fills reads.now self.now.commands beside.new }
@@ -155,8 +166,11 @@ impl<S> Slot<S> {
         S: Next,
         requires job { job < length crew.old.results }
         requires empty { self.old.out.items ≡ [] }
-        ensures from { (left : Left) × (slice_index_or crew.old.results job left ≡ left) × (self.new.state.value ≡ next_of left.stays (S.next left) self.old.state.value) × (self.new.out.items ≡ left.out.items) }
-        ensures others { (k : ℕ) (d : Left) → k ≢ job → slice_index_or crew.new.results k d ≡ slice_index_or crew.old.results k d }
+        ensures from { (left : Left) × (slice_index_or crew.old.results job left ≡ left)
+            × (self.new.state.value ≡ next_of left.stays (S.next left) self.old.state.value)
+            × (self.new.out.items ≡ left.out.items) }
+        ensures others { (k : ℕ) (d : Left) → k ≢ job
+            → slice_index_or crew.new.results k d ≡ slice_index_or crew.old.results k d }
         ensures count { length crew.new.results ≡ length crew.old.results }
         ensures jobs { crew.new.jobs ≡ crew.old.jobs }
         ensures none { result ≡ true → self.new.out.items ≡ [] }

@@ -20,7 +20,8 @@ use fsw_outside::Sink;
 /// The files of a book that are written into a folder have the bytes of those that are on the shelf: first its files in the order of their
 /// parts, then the scenario; behind these stands the manifest.
 pub fn built_files_are_shelved()
-    ensures { (b : BookMade) → map (λ (f : Built). f.bytes) (built_said b) ≡ files_in_book b ++ (b.scenario ∷ manifest_said b ∷ []) }
+    ensures { (b : BookMade) → map (λ (f : Built). f.bytes) (built_said b) ≡ files_in_book b
+        ++ (b.scenario ∷ manifest_said b ∷ []) }
 {}
 
 /// Over a shelf with a book, words that ask for the book write the whole log of its scenario with its files, where these can be run and
@@ -37,5 +38,6 @@ pub fn shelved_books_are_rehearsed<O: Sink>()
 /// What is on the shelf of a book of two files, and what the words for its rehearsal ask for.
 pub fn worked_book()
     ensures stored { stored_in_book two_files ≡ three_stored }
-    ensures asked { accepted_words (codes "--" ∷ scenario_name ∷ names_in_book two_files) ≡ Some all_asked }
+    ensures asked { accepted_words (codes "--" ∷ scenario_name ∷ names_in_book two_files)
+        ≡ Some all_asked }
 {}

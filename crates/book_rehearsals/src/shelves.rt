@@ -37,7 +37,8 @@ pub(crate) fn shelve_files(
     requires empty { content_of shelf.old ≡ never_opened [] }
     requires well { fault_count shelf.old ≡ 0 }
     requires closed { IsFalse (has_open_file shelf.old) }
-    ensures files { OnOk result (HasFiles words.old (scenario.now ∷ map file_bytes files.now) shelf.new words.new) }
+    ensures files { OnOk result (HasFiles words.old (scenario.now
+        ∷ map file_bytes files.now) shelf.new words.new) }
     ensures few { 1 + length files.now < 2 ^ 64 }
 {
     shelve_file(0, scenario, shelf, words)?;

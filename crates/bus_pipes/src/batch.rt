@@ -70,7 +70,8 @@ impl Batch {
 /// Writes packets over those from place `from` on.
 fn copy_over(places: &mut [Packet], from: usize, packets: &[Packet])
     requires { from + length packets.now ≤ length places.old }
-    ensures written { take (from + length packets.now) places.new ≡ take from places.old ++ packets.now }
+    ensures written { take (from + length packets.now) places.new ≡ take from places.old
+        ++ packets.now }
     ensures size { length places.new ≡ length places.old }
 {
     'packets: for i in 0..packets.len() {

@@ -72,7 +72,8 @@ fn make_telemetry(item: &mut Out, mid: u16, secs: u32, payload: &[u8])
 /// Puts a packet that a pipe refused behind the others.
 pub(crate) fn push_drop(drops: &mut Drops, pipe: PipeName, full: bool, packet: &Packet)
     requires { length drops.old.items < drops.old.room }
-    ensures after { drops.new ≡ adding drops.old (record { pipe = pipe; full = full; packet = packet.now } ∷ []) }
+    ensures after { drops.new ≡ adding drops.old
+        (record { pipe = pipe; full = full; packet = packet.now } ∷ []) }
     ensures size { length drops.new.items ≡ length drops.old.items + 1 }
     ensures room { drops.new.room ≡ drops.old.room }
 {

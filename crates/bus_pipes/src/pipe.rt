@@ -45,7 +45,8 @@ impl Pipe {
     #[tactic(auto, unfolding(crate::specs::Pipes::offered))]
     pub fn offer(&mut self, packet: &Packet) -> Offer
         ensures answer { result ≡ offered self.old packet.now }
-        ensures after { self.new ≡ record self.old { packets = held_after self.old.packets packet.now (offered self.old packet.now) } }
+        ensures after { self.new ≡ record self.old
+            { packets = held_after self.old.packets packet.now (offered self.old packet.now) } }
     {
         if self.is_at_limit(packet.mid()) {
             return Offer::Limit;

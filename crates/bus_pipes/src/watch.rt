@@ -30,7 +30,8 @@ impl WatchPipes {
     /// Two empty pipes, where they are to be there.
     pub(crate) fn open(alloc: Global, there: bool) -> Result<Option<WatchPipes>, NoMemory>
         ensures there { IfOk result (λ watch. is_some watch ≡ there) }
-        ensures empty { IfOk result (λ watch. (commands_of watch ≡ []) × (telemetry_of watch ≡ [])) }
+        ensures empty { IfOk result (λ watch. (commands_of watch ≡ [])
+            × (telemetry_of watch ≡ [])) }
         ensures sized { IfOk result IsWatchSized }
     {
         if !there {
@@ -69,8 +70,14 @@ pub(crate) fn holds_no_telemetry(watch: &Option<WatchPipes>) -> bool
 pub(crate) fn offer_command(watch: &mut Option<WatchPipes>, packet: &Packet) -> Offer
     requires there { is_some watch.old ≡ true }
     requires sized { IsWatchSized watch.old }
-    ensures answer { result ≡ offered (record { packets = commands_of watch.old; depth = depth_of Lc; limit = depth_of Lc }) packet.now }
-    ensures commands { commands_of watch.new ≡ held_after (commands_of watch.old) packet.now (offered (record { packets = commands_of watch.old; depth = depth_of Lc; limit = depth_of Lc }) packet.now) }
+    ensures answer { result ≡ offered (record
+        { packets = commands_of watch.old; depth = depth_of Lc; limit = depth_of Lc }) packet.now }
+    ensures commands { commands_of watch.new ≡ held_after (commands_of watch.old) packet.now
+        (offered (record {
+          packets = commands_of watch.old;
+          depth = depth_of Lc;
+          limit = depth_of Lc;
+        }) packet.now) }
     ensures telemetry { telemetry_of watch.new ≡ telemetry_of watch.old }
     ensures stays { is_some watch.new ≡ is_some watch.old }
     ensures sized { IsWatchSized watch.new }
@@ -85,8 +92,17 @@ pub(crate) fn offer_command(watch: &mut Option<WatchPipes>, packet: &Packet) -> 
 pub(crate) fn offer_telemetry(watch: &mut Option<WatchPipes>, packet: &Packet) -> Offer
     requires there { is_some watch.old ≡ true }
     requires sized { IsWatchSized watch.old }
-    ensures answer { result ≡ offered (record { packets = telemetry_of watch.old; depth = depth_of LcTlm; limit = depth_of LcTlm }) packet.now }
-    ensures telemetry { telemetry_of watch.new ≡ held_after (telemetry_of watch.old) packet.now (offered (record { packets = telemetry_of watch.old; depth = depth_of LcTlm; limit = depth_of LcTlm }) packet.now) }
+    ensures answer { result ≡ offered (record
+        { packets = telemetry_of watch.old; depth = depth_of LcTlm; limit = depth_of LcTlm })
+        packet.now }
+    ensures telemetry { telemetry_of watch.new
+        ≡ held_after (telemetry_of watch.old) packet.now
+        (offered (record {
+          packets = telemetry_of watch.old;
+          depth = depth_of LcTlm;
+          limit
+              = depth_of LcTlm;
+        }) packet.now) }
     ensures commands { commands_of watch.new ≡ commands_of watch.old }
     ensures stays { is_some watch.new ≡ is_some watch.old }
     ensures sized { IsWatchSized watch.new }

@@ -8,18 +8,21 @@ ghost use Rattle.calendar_dates.specs.Instants.{gap_to, instant_said, second_sai
 
 /// The day behind a date is a date, up to 2199-12-31, and its number is one more.
 pub fn days_follow()
-    ensures dates { (d : Date) → is_date d ≡ true → (next_day d).year ≤ 2199 → is_date (next_day d) ≡ true }
+    ensures dates { (d : Date) → is_date d ≡ true → (next_day d).year ≤ 2199
+        → is_date (next_day d) ≡ true }
     ensures numbers { (d : Date) → is_date d ≡ true → day_number (next_day d) ≡ day_number d + 1 }
 {}
 
 /// No two dates have one number.
 pub fn dates_have_their_numbers()
-    ensures { (d e : Date) → is_date d ≡ true → is_date e ≡ true → day_number d ≡ day_number e → d ≡ e }
+    ensures { (d e : Date) → is_date d ≡ true → is_date e ≡ true → day_number d ≡ day_number e
+        → d ≡ e }
 {}
 
 /// A time of day comes first at most a day behind an instant, and no second of a day later.
 pub fn times_come_first()
-    ensures { (instant time : ℕ) → time < 86400 → ((instant + gap_to instant time) % 86400 ≡ time) × (gap_to instant time < 86400) }
+    ensures { (instant time : ℕ) → time < 86400 → ((instant + gap_to instant time) % 86400 ≡ time)
+        × (gap_to instant time < 86400) }
 {}
 
 /// Days by their dates, and dates that there aren't.

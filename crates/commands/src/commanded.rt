@@ -80,12 +80,16 @@ pub trait Commanded<R: Copy> {
 
     /// The application's own refusal of a command.
     fn refusal(&self, instruction: &Self::Instruction, reads: R, now: u32) -> Option<Self::Refusal>
-        ensures refusal { (turn : Turn) (orders : List Self.Instruction) (left : Self.Left) → belongs turn reads now → stands turn orders self.now left → result ≡ refuses (basis turn) orders instruction.now }
+        ensures refusal { (turn : Turn) (orders : List Self.Instruction) (left : Self.Left)
+            → belongs turn reads now → stands turn orders self.now left
+            → result ≡ refuses (basis turn) orders instruction.now }
         ensures passes { result ≡ None → can_obey reads self.now instruction.now };
 
     /// The housekeeping packet.
     fn housekeeping(&self, counts: Counts, reads: R, now: u32) -> Packet
-        ensures packet { (turn : Turn) (orders : List Self.Instruction) (left : Self.Left) → belongs turn reads now → stands turn orders self.now left → result ≡ answers.housekeeping turn counts orders }
+        ensures packet { (turn : Turn) (orders : List Self.Instruction) (left : Self.Left)
+            → belongs turn reads now → stands turn orders self.now left
+            → result ≡ answers.housekeeping turn counts orders }
         ensures counted { is_item_counted (outs.Made result) ≡ true };
 
     /// Does what an accepted command asks for, and puts what stands before its event behind the items.
@@ -100,10 +104,16 @@ pub trait Commanded<R: Copy> {
         requires can { can_obey reads self.old instruction.now }
         requires safe { (n : ℕ) × (n < 16) × is_safe reads n self.old left.old }
         requires room { length out.old.items + most ≤ out.old.room }
-        ensures stands { (turn : Turn) (orders : List Self.Instruction) → belongs turn reads now → stands turn orders self.old left.old → stands turn (orders ++ instruction.now ∷ []) self.new left.new }
-        ensures items { (turn : Turn) (orders : List Self.Instruction) → belongs turn reads now → stands turn orders self.old left.old → out.new ≡ adding out.old (answers.replies turn orders instruction.now) }
-        ensures safe { (n : ℕ) → n < 16 → is_safe reads n self.old left.old → is_safe reads (n + 1) self.new left.new }
-        ensures counted { AllPass is_item_counted out.old.items → AllPass is_item_counted out.new.items }
+        ensures stands { (turn : Turn) (orders : List Self.Instruction) → belongs turn reads now
+            → stands turn orders self.old left.old
+            → stands turn (orders ++ instruction.now ∷ []) self.new left.new }
+        ensures items { (turn : Turn) (orders : List Self.Instruction) → belongs turn reads now
+            → stands turn orders self.old left.old
+            → out.new ≡ adding out.old (answers.replies turn orders instruction.now) }
+        ensures safe { (n : ℕ) → n < 16 → is_safe reads n self.old left.old
+            → is_safe reads (n + 1) self.new left.new }
+        ensures counted { AllPass is_item_counted out.old.items
+            → AllPass is_item_counted out.new.items }
         ensures few { length out.new.items ≤ length out.old.items + most }
         ensures room { out.new.room ≡ out.old.room };
 

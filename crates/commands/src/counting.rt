@@ -18,7 +18,8 @@ pub fn start_counts() -> Counts
 
 /// Counts one more accepted command: code 1 sets both counts to 0 and isn't counted.
 pub fn note_accepted<I>(counts: &mut Counts, code: u8)
-    ensures { (verdicts : List (Verdict I)) (instruction : I) → counts.old ≡ counts_of verdicts → counts.new ≡ counts_of (verdicts ++ Accepted code instruction ∷ []) }
+    ensures { (verdicts : List (Verdict I)) (instruction : I) → counts.old ≡ counts_of verdicts
+        → counts.new ≡ counts_of (verdicts ++ Accepted code instruction ∷ []) }
 {
     if code == 1 {
         *counts = start_counts();
@@ -29,7 +30,8 @@ pub fn note_accepted<I>(counts: &mut Counts, code: u8)
 
 /// Counts one more refused command.
 pub fn note_refused<I>(counts: &mut Counts)
-    ensures { (verdicts : List (Verdict I)) (reason : ℕ) → counts.old ≡ counts_of verdicts → counts.new ≡ counts_of (verdicts ++ Refused reason ∷ []) }
+    ensures { (verdicts : List (Verdict I)) (reason : ℕ) → counts.old ≡ counts_of verdicts
+        → counts.new ≡ counts_of (verdicts ++ Refused reason ∷ []) }
 {
     counts.errors = counts.errors.wrapping_add(1);
 }

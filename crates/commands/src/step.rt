@@ -31,12 +31,21 @@ pub fn handle_all<R: Copy + Drop, S: Commanded<R>>(
     requires safe { S.is_safe reads 0 state.old left.old }
     requires empty { out.old.items ≡ [] }
     requires room { (1 + S.most) * 16 ≤ out.old.room }
-    ensures counts { (turn : S.Turn) → S.belongs turn reads now → S.stands turn [] state.old left.old → counts.old ≡ counts_of (S.answers.earlier turn)
-        → counts.new ≡ counts_of (S.answers.earlier turn ++ verdicts_on (protocol_of S.Instruction.language S.Refusal.number S.refuses) (S.basis turn) packets.now) }
-    ensures stands { (turn : S.Turn) → S.belongs turn reads now → S.stands turn [] state.old left.old
-        → S.stands turn (orders_in (verdicts_on (protocol_of S.Instruction.language S.Refusal.number S.refuses) (S.basis turn) packets.now)) state.new left.new }
-    ensures items { (turn : S.Turn) → S.belongs turn reads now → S.stands turn [] state.old left.old → counts.old ≡ counts_of (S.answers.earlier turn)
-        → out.new ≡ adding out.old (command_items S.answers S.Instruction.language.name turn (verdicts_on (protocol_of S.Instruction.language S.Refusal.number S.refuses) (S.basis turn) packets.now)) }
+    ensures counts { (turn : S.Turn) → S.belongs turn reads now
+        → S.stands turn [] state.old left.old → counts.old ≡ counts_of (S.answers.earlier turn)
+        → counts.new ≡ counts_of (S.answers.earlier turn
+        ++ verdicts_on (protocol_of S.Instruction.language S.Refusal.number S.refuses)
+        (S.basis turn) packets.now) }
+    ensures stands { (turn : S.Turn) → S.belongs turn reads now
+        → S.stands turn [] state.old left.old
+        → S.stands turn (orders_in (verdicts_on
+        (protocol_of S.Instruction.language S.Refusal.number S.refuses)
+        (S.basis turn) packets.now)) state.new left.new }
+    ensures items { (turn : S.Turn) → S.belongs turn reads now → S.stands turn [] state.old left.old
+        → counts.old ≡ counts_of (S.answers.earlier turn)
+        → out.new ≡ adding out.old (command_items S.answers S.Instruction.language.name turn
+        (verdicts_on (protocol_of S.Instruction.language S.Refusal.number S.refuses)
+        (S.basis turn) packets.now)) }
     ensures safe { S.is_safe reads (length packets.now) state.new left.new }
     ensures counted { AllPass is_item_counted out.new.items }
     ensures few { length out.new.items ≤ (1 + S.most) * length packets.now }
@@ -60,14 +69,27 @@ fn handle<R: Copy + Drop, S: Commanded<R>>(
 )
     requires safe { (n : ℕ) × (n < 16) × S.is_safe reads n state.old left.old }
     requires room { length out.old.items + (1 + S.most) ≤ out.old.room }
-    ensures counts { (turn : S.Turn) (heard : List (Verdict S.Instruction)) → S.belongs turn reads now → S.stands turn (orders_in heard) state.old left.old → counts.old ≡ counts_of (S.answers.earlier turn ++ heard)
-        → counts.new ≡ counts_of ((S.answers.earlier turn ++ heard) ++ verdict_at (protocol_of S.Instruction.language S.Refusal.number S.refuses) (S.basis turn) (orders_in heard) packet.now ∷ []) }
-    ensures stands { (turn : S.Turn) (heard : List (Verdict S.Instruction)) → S.belongs turn reads now → S.stands turn (orders_in heard) state.old left.old
-        → S.stands turn (orders_in (heard ++ verdict_at (protocol_of S.Instruction.language S.Refusal.number S.refuses) (S.basis turn) (orders_in heard) packet.now ∷ [])) state.new left.new }
-    ensures items { (turn : S.Turn) (heard : List (Verdict S.Instruction)) → S.belongs turn reads now → S.stands turn (orders_in heard) state.old left.old → counts.old ≡ counts_of (S.answers.earlier turn ++ heard)
-        → out.new ≡ adding out.old (packet_items S.answers S.Instruction.language.name turn heard (verdict_at (protocol_of S.Instruction.language S.Refusal.number S.refuses) (S.basis turn) (orders_in heard) packet.now)) }
-    ensures safe { (n : ℕ) → n < 16 → S.is_safe reads n state.old left.old → S.is_safe reads (n + 1) state.new left.new }
-    ensures counted { AllPass is_item_counted out.old.items → AllPass is_item_counted out.new.items }
+    ensures counts { (turn : S.Turn) (heard : List (Verdict S.Instruction))
+        → S.belongs turn reads now → S.stands turn (orders_in heard) state.old left.old
+        → counts.old ≡ counts_of (S.answers.earlier turn ++ heard)
+        → counts.new ≡ counts_of ((S.answers.earlier turn ++ heard)
+        ++ verdict_at (protocol_of S.Instruction.language S.Refusal.number S.refuses)
+        (S.basis turn) (orders_in heard) packet.now ∷ []) }
+    ensures stands { (turn : S.Turn) (heard : List (Verdict S.Instruction))
+        → S.belongs turn reads now → S.stands turn (orders_in heard) state.old left.old
+        → S.stands turn (orders_in (heard ++ verdict_at
+        (protocol_of S.Instruction.language S.Refusal.number S.refuses) (S.basis turn)
+        (orders_in heard) packet.now ∷ [])) state.new left.new }
+    ensures items { (turn : S.Turn) (heard : List (Verdict S.Instruction))
+        → S.belongs turn reads now → S.stands turn (orders_in heard) state.old left.old
+        → counts.old ≡ counts_of (S.answers.earlier turn ++ heard)
+        → out.new ≡ adding out.old (packet_items S.answers S.Instruction.language.name turn heard
+        (verdict_at (protocol_of S.Instruction.language S.Refusal.number S.refuses)
+        (S.basis turn) (orders_in heard) packet.now)) }
+    ensures safe { (n : ℕ) → n < 16 → S.is_safe reads n state.old left.old
+        → S.is_safe reads (n + 1) state.new left.new }
+    ensures counted { AllPass is_item_counted out.old.items
+        → AllPass is_item_counted out.new.items }
     ensures few { length out.new.items ≤ length out.old.items + (1 + S.most) }
     ensures room { out.new.room ≡ out.old.room }
 {
@@ -102,8 +124,11 @@ fn handle<R: Copy + Drop, S: Commanded<R>>(
 #[tactic(auto, unfolding(crate::specs::Verdicts::verdict_at))]
 fn judge<R: Copy + Drop, S: Commanded<R>>(packet: &Packet) -> Verdict<()>
     ensures verdict { (basis : S.Basis) (orders : List S.Instruction)
-        → verdict_at (protocol_of S.Instruction.language S.Refusal.number S.refuses) basis orders packet.now ≡ verdict_by_form (protocol_of S.Instruction.language S.Refusal.number S.refuses) basis orders (payload_of packet.now) result }
-    ensures allowed { (code : ℕ) (form : Unit {0}) → result ≡ Verdict.Accepted code form → is_allowed (row_of S.Instruction.language.codes code) (payload_of packet.now) ≡ true }
+        → verdict_at (protocol_of S.Instruction.language S.Refusal.number S.refuses) basis orders
+        packet.now ≡ verdict_by_form (protocol_of S.Instruction.language S.Refusal.number
+        S.refuses) basis orders (payload_of packet.now) result }
+    ensures allowed { (code : ℕ) (form : Unit {0}) → result ≡ Verdict.Accepted code form
+        → is_allowed (row_of S.Instruction.language.codes code) (payload_of packet.now) ≡ true }
 {
     let terms = S::Instruction::terms();
     let id = packet.mid();

@@ -101,7 +101,8 @@ impl<S: Scratch> Crew<S> {
     ) -> Way
         requires { length tasks.now ≡ self.old.jobs }
         ensures jobs { self.new.jobs ≡ self.old.jobs }
-        ensures results { (length self.new.results ≡ self.old.jobs) × ((job : ℕ) → job < self.old.jobs → IsRight T.leaves tasks.now self.new.results job) }
+        ensures results { (length self.new.results ≡ self.old.jobs)
+            × ((job : ℕ) → job < self.old.jobs → IsRight T.leaves tasks.now self.new.results job) }
         ensures draws { AreLeft result self.old.jobs (length self.old.drawn) self.new.drawn }
         ensures workers { length self.new.drawn ≡ length self.old.drawn }
     {
@@ -120,7 +121,8 @@ impl<S: Scratch> Crew<S> {
         requires workers { 0 < workers }
         requires tasks { length tasks.now ≡ self.old.jobs }
         ensures jobs { self.new.jobs ≡ self.old.jobs }
-        ensures results { (length self.new.results ≡ self.old.jobs) × ((job : ℕ) → job < self.old.jobs → IsRight T.leaves tasks.now self.new.results job) }
+        ensures results { (length self.new.results ≡ self.old.jobs)
+            × ((job : ℕ) → job < self.old.jobs → IsRight T.leaves tasks.now self.new.results job) }
         ensures draws { AreLeft result self.old.jobs (length self.old.drawn) self.new.drawn }
         ensures workers { length self.new.drawn ≡ length self.old.drawn }
     {
@@ -152,9 +154,12 @@ impl<S: Scratch> Crew<S> {
         requires tasks { length tasks.now ≡ self.old.jobs }
         requires chosen { AreDraws self.old.jobs chosen.now }
         ensures jobs { self.new.jobs ≡ self.old.jobs }
-        ensures results { (length self.new.results ≡ self.old.jobs) × AreDone T.leaves tasks.now self.new.results chosen.now }
-        ensures others { 0 < length self.old.results → StayBut chosen.now self.old.results self.new.results }
-        ensures draws { AreLeftOf result self.old.jobs chosen.now (length self.old.drawn) self.new.drawn }
+        ensures results { (length self.new.results ≡ self.old.jobs)
+            × AreDone T.leaves tasks.now self.new.results chosen.now }
+        ensures others { 0 < length self.old.results
+            → StayBut chosen.now self.old.results self.new.results }
+        ensures draws { AreLeftOf result self.old.jobs chosen.now
+            (length self.old.drawn) self.new.drawn }
         ensures workers { length self.new.drawn ≡ length self.old.drawn }
     {
         let way = run_jobs(

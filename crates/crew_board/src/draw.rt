@@ -86,11 +86,15 @@ pub(crate) fn draw_all<R: Threads + Sync, S: Scratch, T: Task<Work = S>, G: Gate
         rows,
         1,
         &|_: usize, part: &mut [Row<S>]|
-            requires { (word.now.key ≡ length chosen.now) × (word.now.table_id.words ≡ 1) × (length chosen.now ≤ 64) × AreDraws (length tasks.now) chosen.now × (length part.old ≡ 1) × All (FitsJobs (length tasks.now)) part.old × All (HasSeat word.now.table_id seated) part.old }
+            requires { (word.now.key ≡ length chosen.now) × (word.now.table_id.words ≡ 1)
+                × (length chosen.now ≤ 64) × AreDraws (length tasks.now) chosen.now
+                × (length part.old ≡ 1) × All (FitsJobs (length tasks.now)) part.old
+                × All (HasSeat word.now.table_id seated) part.old }
             ensures one { length part.new ≡ 1 }
             ensures worked { All (IsWorked T.leaves tasks.entry.now) part.new }
             ensures ended { All (HasEnded word.entry.now.table_id chosen.entry.now) part.new }
-            ensures others { StayBut chosen.entry.now (first_scratches part.old) (first_scratches part.new) }
+            ensures others { StayBut chosen.entry.now (first_scratches part.old)
+                (first_scratches part.new) }
         { draw_part(word, tasks, chosen, gate, part) },
     );
 }

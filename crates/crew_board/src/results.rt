@@ -11,10 +11,12 @@ use std::mem;
 
 /// Puts the scratches of some jobs in each other's place.
 fn exchange<S, T: Task<Work = S>>(tasks: &[T], results: &mut [S], from: &mut [S], jobs: &[u32])
-    requires places { (length results.old ≡ length tasks.now) × (length from.old ≡ length tasks.now) }
+    requires places { (length results.old ≡ length tasks.now)
+        × (length from.old ≡ length tasks.now) }
     requires draws { AreDraws (length tasks.now) jobs.now }
     requires done { AreDone T.leaves tasks.now from.old jobs.now }
-    ensures places { (length results.new ≡ length tasks.now) × (length from.new ≡ length tasks.now) }
+    ensures places { (length results.new ≡ length tasks.now)
+        × (length from.new ≡ length tasks.now) }
     ensures done { AreDone T.leaves tasks.now results.new jobs.now }
     ensures kept { StayRight T.leaves tasks.now results.old results.new }
     ensures others { StayBut jobs.now results.old results.new }
@@ -31,7 +33,8 @@ fn take_over<S, T: Task<Work = S>>(tasks: &[T], first: &mut Row<S>, row: &mut Ro
     requires fits { FitsJobs (length tasks.now) first.old }
     requires worked { IsWorked T.leaves tasks.now row.old }
     ensures fits { FitsJobs (length tasks.now) first.new × FitsJobs (length tasks.now) row.new }
-    ensures drawn { (first.new.drawn.items ≡ first.old.drawn.items) × (row.new.drawn.items ≡ row.old.drawn.items) }
+    ensures drawn { (first.new.drawn.items ≡ first.old.drawn.items)
+        × (row.new.drawn.items ≡ row.old.drawn.items) }
     ensures done { AreDone T.leaves tasks.now first.new.scratches.items row.old.drawn.items }
     ensures kept { StayRight T.leaves tasks.now first.old.scratches.items first.new.scratches.items }
     ensures others { StayBut row.old.drawn.items first.old.scratches.items first.new.scratches.items }
@@ -48,12 +51,16 @@ fn take_over<S, T: Task<Work = S>>(tasks: &[T], first: &mut Row<S>, row: &mut Ro
 fn take_over_all<S, T: Task<Work = S>>(tasks: &[T], first: &mut Row<S>, rows: &mut [Row<S>])
     requires fits { FitsJobs (length tasks.now) first.old }
     requires worked { All (IsWorked T.leaves tasks.now) rows.old }
-    ensures fits { FitsJobs (length tasks.now) first.new × All (FitsJobs (length tasks.now)) rows.new }
+    ensures fits { FitsJobs (length tasks.now) first.new
+        × All (FitsJobs (length tasks.now)) rows.new }
     ensures len { length rows.new ≡ length rows.old }
-    ensures drawn { (first.new.drawn.items ≡ first.old.drawn.items) × (draws_of rows.new ≡ draws_of rows.old) }
+    ensures drawn { (first.new.drawn.items ≡ first.old.drawn.items)
+        × (draws_of rows.new ≡ draws_of rows.old) }
     ensures done { All (AreDone T.leaves tasks.now first.new.scratches.items) (draws_of rows.old) }
     ensures kept { StayRight T.leaves tasks.now first.old.scratches.items first.new.scratches.items }
-    ensures others { (job : ℕ) (s : S) → times_in job (draws_of rows.old) ≡ 0 → slice_index_or first.new.scratches.items job s ≡ slice_index_or first.old.scratches.items job s }
+    ensures others { (job : ℕ) (s : S) → times_in job (draws_of rows.old) ≡ 0
+        → slice_index_or first.new.scratches.items job s
+        ≡ slice_index_or first.old.scratches.items job s }
 {
     for row in rows.iter_mut() {
         take_over(tasks, first, row);
@@ -67,8 +74,11 @@ pub(crate) fn collect_results<S, T: Task<Work = S>>(tasks: &[T], rows: &mut [Row
     ensures fits { All (FitsJobs (length tasks.now)) rows.new }
     ensures len { length rows.new ≡ length rows.old }
     ensures draws { draws_of rows.new ≡ draws_of rows.old }
-    ensures done { (job : ℕ) → StandsIn job (draws_of rows.old) → IsRight T.leaves tasks.now (first_scratches rows.new) job }
-    ensures others { (job : ℕ) (s : S) → times_in job (draws_of rows.old) ≡ 0 → slice_index_or (first_scratches rows.new) job s ≡ slice_index_or (first_scratches rows.old) job s }
+    ensures done { (job : ℕ) → StandsIn job (draws_of rows.old)
+        → IsRight T.leaves tasks.now (first_scratches rows.new) job }
+    ensures others { (job : ℕ) (s : S) → times_in job (draws_of rows.old) ≡ 0
+        → slice_index_or (first_scratches rows.new) job s
+        ≡ slice_index_or (first_scratches rows.old) job s }
 {
     let Some((first, others)) = rows.split_first_mut() else {
         unreachable!()

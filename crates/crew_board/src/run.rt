@@ -34,7 +34,8 @@ fn run_together<R: Threads + Sync, S: Scratch, T: Task<Work = S>, G: Gate>(
     ensures fits { All (FitsJobs (length tasks.now)) rows.new }
     ensures done { AreDone T.leaves tasks.now (first_scratches rows.new) chosen.now }
     ensures others { StayBut chosen.now (first_scratches rows.old) (first_scratches rows.new) }
-    ensures draws { AreLeftOf result (length tasks.now) chosen.now (length rows.old) (draws_of rows.new) }
+    ensures draws { AreLeftOf result (length tasks.now) chosen.now (length rows.old)
+        (draws_of rows.new) }
 {
     match share_jobs(rt, alloc, used, tasks, chosen, gate, rows) {
         Way::Shared => {
@@ -67,7 +68,8 @@ pub(crate) fn run_jobs<R: Threads + Sync, S: Scratch, T: Task<Work = S>, G: Gate
     ensures fits { All (FitsJobs (length tasks.now)) rows.new }
     ensures done { AreDone T.leaves tasks.now (first_scratches rows.new) chosen.now }
     ensures others { StayBut chosen.now (first_scratches rows.old) (first_scratches rows.new) }
-    ensures draws { AreLeftOf result (length tasks.now) chosen.now (length rows.old) (draws_of rows.new) }
+    ensures draws { AreLeftOf result (length tasks.now) chosen.now (length rows.old)
+        (draws_of rows.new) }
 {
     let used = most.min(rows.len()).min(chosen.len());
     if used <= 1 {

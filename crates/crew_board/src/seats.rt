@@ -17,11 +17,13 @@ pub(crate) fn deal<S, T: Task<Work = S>>(
     first: &mut Seated,
     rows: &mut [Row<S>],
 )
-    requires board { (word.now.key ≡ length chosen.now) × (word.now.table_id.words ≡ 1) × (first.old.table_id ≡ word.now.table_id) }
+    requires board { (word.now.key ≡ length chosen.now) × (word.now.table_id.words ≡ 1)
+        × (first.old.table_id ≡ word.now.table_id) }
     requires first { first.old.me ≡ (started, []) }
     requires few { (length chosen.now ≤ 64) × (length rows.old ≤ 16) }
     requires fits { All (FitsJobs (length tasks.now)) rows.old }
-    ensures first { (first.new.table_id ≡ first.old.table_id) × (first.new.me ≡ (split_off (length rows.old) [], [])) }
+    ensures first { (first.new.table_id ≡ first.old.table_id)
+        × (first.new.me ≡ (split_off (length rows.old) [], [])) }
     ensures len { length rows.new ≡ length rows.old }
     ensures fits { All (FitsJobs (length tasks.now)) rows.new }
     ensures seats { All (HasSeat word.now.table_id seated) rows.new }
@@ -42,7 +44,8 @@ fn collect_one<S, T: Task<Work = S>>(
     first: &mut Seated,
     row: &mut Row<S>,
 )
-    requires board { (word.now.key ≡ length chosen.now) × (word.now.table_id.words ≡ 1) × (first.old.table_id ≡ word.now.table_id) × (first.old.me.1 ≡ []) }
+    requires board { (word.now.key ≡ length chosen.now) × (word.now.table_id.words ≡ 1)
+        × (first.old.table_id ≡ word.now.table_id) × (first.old.me.1 ≡ []) }
     requires first { first.old.me.0.first ≡ true }
     requires ended { HasEnded word.now.table_id chosen.now row.old }
     requires worked { IsWorked T.leaves tasks.now row.old }
@@ -68,11 +71,13 @@ pub(crate) fn collect<S, T: Task<Work = S>>(
     first: &mut Seated,
     rows: &mut [Row<S>],
 )
-    requires board { (word.now.key ≡ length chosen.now) × (word.now.table_id.words ≡ 1) × (first.old.table_id ≡ word.now.table_id) }
+    requires board { (word.now.key ≡ length chosen.now) × (word.now.table_id.words ≡ 1)
+        × (first.old.table_id ≡ word.now.table_id) }
     requires first { first.old.me ≡ (split_off (length rows.old) [], []) }
     requires ended { All (HasEnded word.now.table_id chosen.now) rows.old }
     requires worked { All (IsWorked T.leaves tasks.now) rows.old }
-    ensures first { (first.new.table_id ≡ first.old.table_id) × (first.new.me.0.first ≡ true) × (first.new.me.0.split ≡ length rows.old) }
+    ensures first { (first.new.table_id ≡ first.old.table_id) × (first.new.me.0.first ≡ true)
+        × (first.new.me.0.split ≡ length rows.old) }
     ensures lists { AreEnds chosen.now (draws_of rows.old) first.new.me.0.lists }
     ensures len { length rows.new ≡ length rows.old }
     ensures worked { All (IsWorked T.leaves tasks.now) rows.new }

@@ -22,7 +22,8 @@ pub(crate) fn perform<S: Scratch, T: Task<Work = S>, G: Gate>(
     ensures worked { IsWorked T.leaves tasks.now row.new }
     ensures drawn { row.new.drawn.items ≡ row.old.drawn.items ++ job ∷ [] }
     ensures seat { row.new.seat ≡ row.old.seat }
-    ensures others { (k : ℕ) (s : S) → k ≢ job → slice_index_or row.new.scratches.items k s ≡ slice_index_or row.old.scratches.items k s }
+    ensures others { (k : ℕ) (s : S) → k ≢ job
+        → slice_index_or row.new.scratches.items k s ≡ slice_index_or row.old.scratches.items k s }
 {
     gate.enter(job);
     let at = job as usize;

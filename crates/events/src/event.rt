@@ -68,7 +68,8 @@ pub fn show_event(
     kind: u16,
     out: &mut Vec<u8>,
 ) -> Result<(), AllocError>
-    ensures { OnOk result (out.new.items ≡ out.old.items ++ event_said events.now application.now number kind) }
+    ensures { OnOk result (out.new.items ≡ out.old.items
+        ++ event_said events.now application.now number kind) }
 {
     out.extend_from_slice(application)?;
     push_sentence(

@@ -68,7 +68,8 @@ pub fn show_refusal(
     number: u16,
     out: &mut Vec<u8>,
 ) -> Result<(), AllocError>
-    ensures { OnOk result (out.new.items ≡ out.old.items ++ refusal_said events.now refusals.now application.now code number) }
+    ensures { OnOk result (out.new.items ≡ out.old.items
+        ++ refusal_said events.now refusals.now application.now code number) }
 {
     out.extend_from_slice(application)?;
     push_command(
@@ -102,7 +103,8 @@ fn push_reason(
     number: u16,
     out: &mut Vec<u8>,
 ) -> Result<(), AllocError>
-    ensures { OnOk result (out.new.items ≡ out.old.items ++ reason_said (text_of reason.entry) number) }
+    ensures { OnOk result (out.new.items ≡ out.old.items
+        ++ reason_said (text_of reason.entry) number) }
 {
     match reason {
         Some(reason) => {

@@ -18,26 +18,37 @@ ghost use Rattle.active_tables.specs.Tables.{is_loaded, lc_named};
 /// A run and its log without frames, and at one frame more.
 pub fn runs_go_on()
     ensures none { (setup : Setup) → log_of setup [] ≡ [] }
-    ensures more { (setup : Setup) (frames : List Frame) (frame : Frame) → log_of setup (frames ++ frame ∷ []) ≡ log_of setup frames ++ frame_lines setup frames frame }
+    ensures more { (setup : Setup) (frames : List Frame) (frame : Frame)
+        → log_of setup (frames ++ frame ∷ []) ≡ log_of setup frames
+        ++ frame_lines setup frames frame }
     ensures start { (setup : Setup) → run_of setup [] ≡ beginning setup }
-    ensures state { (setup : Setup) (frames : List Frame) (frame : Frame) → run_of setup (frames ++ frame ∷ []) ≡ after_frame setup (run_of setup frames) frame }
-    ensures number { (setup : Setup) (frames : List Frame) → (run_of setup frames).number ≡ length frames }
+    ensures state { (setup : Setup) (frames : List Frame) (frame : Frame)
+        → run_of setup (frames ++ frame ∷ []) ≡ after_frame setup (run_of setup frames) frame }
+    ensures number { (setup : Setup) (frames : List Frame)
+        → (run_of setup frames).number ≡ length frames }
 {}
 
 /// A run beside a crowd without frames, and at one frame more.
 pub fn courses_go_on()
-    ensures none { (setup : Setup) (subjects : List Simulated) → course_of setup subjects [] ≡ record { frames = []; subjects = subjects } }
-    ensures more { (setup : Setup) (subjects : List Simulated) (frames : List Frame) (frame : Frame) → course_of setup subjects (frames ++ frame ∷ []) ≡ gone_on setup (course_of setup subjects frames) frame }
-    ensures number { (setup : Setup) (subjects : List Simulated) (frames : List Frame) → length (course_of setup subjects frames).frames ≡ length frames }
+    ensures none { (setup : Setup) (subjects : List Simulated)
+        → course_of setup subjects [] ≡ record { frames = []; subjects = subjects } }
+    ensures more { (setup : Setup) (subjects : List Simulated) (frames : List Frame) (frame : Frame)
+        → course_of setup subjects (frames ++ frame ∷ [])
+        ≡ gone_on setup (course_of setup subjects frames) frame }
+    ensures number { (setup : Setup) (subjects : List Simulated) (frames : List Frame)
+        → length (course_of setup subjects frames).frames ≡ length frames }
 {}
 
 /// The subjects behind a frame are what its calls leave of those before it, and whatever frames follow, the subjects behind them are what a
 /// list of calls leaves: so by the laws of calls none that was deleted is in a later list.
 pub fn crowds_are_called()
-    ensures frame { (setup : Setup) (s : State) (frame : Frame) (subjects : List Simulated) → crowd_after setup s frame subjects
-        ≡ after_calls subjects (calls_in (resets_at setup (activated_at setup s frame) frame) (sent_at setup (activated_at setup s frame) frame)) }
+    ensures frame { (setup : Setup) (s : State) (frame : Frame) (subjects : List Simulated)
+        → crowd_after setup s frame subjects
+        ≡ after_calls subjects (calls_in (resets_at setup (activated_at setup s frame) frame)
+        (sent_at setup (activated_at setup s frame) frame)) }
     ensures later { (setup : Setup) (subjects : List Simulated) (frames more : List Frame)
-        → (calls : List Call) × ((course_of setup subjects (frames ++ more)).subjects ≡ after_calls (course_of setup subjects frames).subjects calls) }
+        → (calls : List Call) × ((course_of setup subjects (frames ++ more)).subjects
+        ≡ after_calls (course_of setup subjects frames).subjects calls) }
 {}
 
 /// Each kind of table that is known by a name has an application that loads it.
@@ -47,9 +58,12 @@ pub fn known_tables_are_loaded()
 
 /// The limit checker is there in a run exactly where a table of it is named. Where it isn't, its history stays empty, as no wakeup is its.
 pub fn limit_checker_is_there()
-    ensures there { (setup : Setup) (frames : List Frame) → (run_of setup frames).pipes.watched ≡ lc_named setup.files }
-    ensures away { (setup : Setup) (frames : List Frame) → lc_named setup.files ≡ false → (run_of setup frames).lc ≡ [] }
-    ensures silent { (setup : Setup) (s : State) (frame : Frame) → s.pipes.watched ≡ false → unless (is_away s) (lc_gives (lc_setup s.tables) s.lc (lc_input_at setup s)) ≡ [] }
+    ensures there { (setup : Setup) (frames : List Frame)
+        → (run_of setup frames).pipes.watched ≡ lc_named setup.files }
+    ensures away { (setup : Setup) (frames : List Frame) → lc_named setup.files ≡ false
+        → (run_of setup frames).lc ≡ [] }
+    ensures silent { (setup : Setup) (s : State) (frame : Frame) → s.pipes.watched ≡ false
+        → unless (is_away s) (lc_gives (lc_setup s.tables) s.lc (lc_input_at setup s)) ≡ [] }
 {}
 
 /// A run of two frames in which MM alone is woken, and the first of which sends it a no-op: its log is the event that answers it, byte by byte.

@@ -47,8 +47,10 @@ pub fn upset_all(ram: &mut Ram, upsets: &[Upset])
 /// Makes of the items what is sent, where they stand.
 pub fn stamp_all(log: &mut Log, out: &mut Outbox)
     requires counted { AllPass is_item_counted out.old.items }
-    ensures sent { (made : List (List ℕ)) → LogStands made log.old → out.new.items ≡ sent_of made out.old.items }
-    ensures stands { (made : List (List ℕ)) → LogStands made log.old → LogStands (made ++ flat_map makes out.old.items) log.new }
+    ensures sent { (made : List (List ℕ)) → LogStands made log.old
+        → out.new.items ≡ sent_of made out.old.items }
+    ensures stands { (made : List (List ℕ)) → LogStands made log.old
+        → LogStands (made ++ flat_map makes out.old.items) log.new }
     ensures few { length out.new.items ≡ length out.old.items }
     ensures room { out.new.room ≡ out.old.room }
 {
@@ -98,7 +100,8 @@ fn deliver_one(bus: &mut Bus, item: &Out, drops: &mut Drops)
 fn deliver_items(bus: &mut Bus, items: &[Out], drops: &mut Drops)
     requires { length drops.old.items + length items.now ≤ drops.old.room }
     ensures after { bus.new ≡ after_offers bus.old (flat_map packet_in items.now) }
-    ensures drops { drops.new ≡ adding drops.old (drops_from bus.old (flat_map packet_in items.now)) }
+    ensures drops { drops.new ≡ adding drops.old
+        (drops_from bus.old (flat_map packet_in items.now)) }
     ensures few { length drops.new.items ≤ length drops.old.items + length items.now }
     ensures room { drops.new.room ≡ drops.old.room }
 {
@@ -111,7 +114,8 @@ fn deliver_items(bus: &mut Bus, items: &[Out], drops: &mut Drops)
 pub fn deliver_lists(bus: &mut Bus, lists: &[&[Out]], drops: &mut Drops)
     requires { length drops.old.items + length (shown lists.now) ≤ drops.old.room }
     ensures after { bus.new ≡ after_offers bus.old (flat_map packet_in (shown lists.now)) }
-    ensures drops { drops.new ≡ adding drops.old (drops_from bus.old (flat_map packet_in (shown lists.now))) }
+    ensures drops { drops.new ≡ adding drops.old
+        (drops_from bus.old (flat_map packet_in (shown lists.now))) }
     ensures room { drops.new.room ≡ drops.old.room }
 {
     'lists: for list in lists {
@@ -128,7 +132,9 @@ fn put_items<O: Sink>(
     items: &[Out],
 ) -> Result<(), Failed>
     requires { length head.now ≤ 40 }
-    ensures puts { (frame : ℕ) → head.now ≡ decimal frame → Puts result (flat_map (item_line frame) items.now) block.old block.new (O.held sink.old) (O.held sink.new) }
+    ensures puts { (frame : ℕ) → head.now ≡ decimal frame
+        → Puts result (flat_map (item_line frame) items.now) block.old block.new (O.held sink.old)
+        (O.held sink.new) }
     ensures left { OnErr result (0 < length block.new.bytes) }
     ensures cause { HasCause (O.held sink.new) (O.faults sink.old) (O.faults sink.new) result }
 {
@@ -150,7 +156,9 @@ fn put_lists<O: Sink>(
     lists: &[&[Out]],
 ) -> Result<(), Failed>
     requires { length head.now ≤ 40 }
-    ensures puts { (frame : ℕ) → head.now ≡ decimal frame → Puts result (flat_map (item_line frame) (shown lists.now)) block.old block.new (O.held sink.old) (O.held sink.new) }
+    ensures puts { (frame : ℕ) → head.now ≡ decimal frame
+        → Puts result (flat_map (item_line frame) (shown lists.now)) block.old block.new
+        (O.held sink.old) (O.held sink.new) }
     ensures left { OnErr result (0 < length block.new.bytes) }
     ensures cause { HasCause (O.held sink.new) (O.faults sink.old) (O.faults sink.new) result }
 {
@@ -171,7 +179,9 @@ fn put_drops<O: Sink>(
     drops: &[Dropped],
 ) -> Result<(), Failed>
     requires { length head.now ≤ 40 }
-    ensures puts { (frame : ℕ) → head.now ≡ decimal frame → Puts result (flat_map (drop_line frame) drops.now) block.old block.new (O.held sink.old) (O.held sink.new) }
+    ensures puts { (frame : ℕ) → head.now ≡ decimal frame
+        → Puts result (flat_map (drop_line frame) drops.now) block.old block.new (O.held sink.old)
+        (O.held sink.new) }
     ensures left { OnErr result (0 < length block.new.bytes) }
     ensures cause { HasCause (O.held sink.new) (O.faults sink.old) (O.faults sink.new) result }
 {
@@ -194,7 +204,9 @@ pub fn put_frame<O: Sink>(
     lists: &[&[Out]],
     drops: &[Dropped],
 ) -> Result<(), Failed>
-    ensures puts { Puts result (flat_map (item_line number) (shown lists.now) ++ flat_map (drop_line number) drops.now) block.old block.new (O.held sink.old) (O.held sink.new) }
+    ensures puts { Puts result (flat_map (item_line number) (shown lists.now)
+        ++ flat_map (drop_line number) drops.now) block.old block.new (O.held sink.old)
+        (O.held sink.new) }
     ensures left { OnErr result (0 < length block.new.bytes) }
     ensures cause { HasCause (O.held sink.new) (O.faults sink.old) (O.faults sink.new) result }
 {

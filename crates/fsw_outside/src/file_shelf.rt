@@ -50,10 +50,13 @@ impl<'r, F: Files> Shelf for FileShelf<'r, F> {
 
     fn open(&mut self, name: &str) -> Result<(), Failed>
         ensures content { WhereTold {A = Content} None None (Opens name.now result) }
-        ensures cause { HasCause {A = Content} None (fault_count self.old) (fault_count self.new) result }
+        ensures cause { HasCause {A = Content} None (fault_count self.old)
+            (fault_count self.new) result }
         ensures is_open { has_open_file self.new ≡ is_ok result }
         ensures mark { marked_faults self.new ≡ fault_count self.old }
-        ensures counted { fault_count self.new ≡ (if is_ok result then fault_count self.old else min (fault_count self.old + 1) (2 ^ 64 - 1)) }
+        ensures counted { fault_count self.new
+            ≡ (if is_ok result then fault_count self.old
+            else min (fault_count self.old + 1) (2 ^ 64 - 1)) }
     {
         self.mark = self.faults;
         self.file = None;
@@ -74,12 +77,16 @@ impl<'r, F: Files> Shelf for FileShelf<'r, F> {
         requires room { 0 < length buf.old }
         ensures bound { IfOk result (λ n. n ≤ length buf.new) }
         ensures content { WhereTold {A = Content} None None (Reads result buf.new) }
-        ensures cause { HasCause {A = Content} None (fault_count self.old) (fault_count self.new) result }
+        ensures cause { HasCause {A = Content} None (fault_count self.old)
+            (fault_count self.new) result }
         ensures is_open { IsTrue (has_open_file self.new) }
         ensures mark { marked_faults self.new ≡ marked_faults self.old }
-        ensures counted { fault_count self.new ≡ (if is_ok result then fault_count self.old else min (fault_count self.old + 1) (2 ^ 64 - 1)) }
+        ensures counted { fault_count self.new
+            ≡ (if is_ok result then fault_count self.old
+            else min (fault_count self.old + 1) (2 ^ 64 - 1)) }
         // It gives what the file gives, where that one tells its bytes.
-        ensures handed_on { (file : F.File) × (after : F.File) × (open_file self.old ≡ Some file) × (open_file self.new ≡ Some after)
+        ensures handed_on { (file : F.File) × (after : F.File) × (open_file self.old ≡ Some file)
+            × (open_file self.new ≡ Some after)
             × ReadConsumes (F.File.remaining file) (F.File.remaining after) result buf.new }
     {
         let Some(file) = &mut self.file else {

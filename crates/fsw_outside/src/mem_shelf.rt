@@ -46,9 +46,11 @@ impl MemShelf {
 
     /// A shelf without files. The calls with the numbers in `fails` fail, counted from 0 over `open` and `next`.
     pub fn new(alloc: Global, fails: &[u32]) -> Result<MemShelf, NoMemory>
-        ensures content { IfOk result (λ shelf. content_of shelf ≡ record { files = []; rest = []; openings = 0; name = None }) }
+        ensures content { IfOk result (λ shelf. content_of shelf
+            ≡ record { files = []; rest = []; openings = 0; name = None }) }
         ensures fails { IfOk result (λ shelf. failing_calls shelf ≡ fails.now) }
-        ensures counts { IfOk result (λ shelf. (call_count shelf ≡ 0) × (fault_count shelf ≡ 0) × (marked_faults shelf ≡ 0)) }
+        ensures counts { IfOk result (λ shelf. (call_count shelf ≡ 0) × (fault_count shelf ≡ 0)
+            × (marked_faults shelf ≡ 0)) }
         ensures closed { IfOk result (λ shelf. IsFalse (has_open_file shelf)) }
         ensures most { IfOk result (λ shelf. most_bytes shelf ≡ 2 ^ 64 - 1) }
     {
@@ -70,9 +72,11 @@ impl MemShelf {
     /// As `new`, but a call hands out at most `most` bytes.
     pub fn short(alloc: Global, fails: &[u32], most: u32) -> Result<MemShelf, NoMemory>
         requires { 0 < most }
-        ensures content { IfOk result (λ shelf. content_of shelf ≡ record { files = []; rest = []; openings = 0; name = None }) }
+        ensures content { IfOk result (λ shelf. content_of shelf
+            ≡ record { files = []; rest = []; openings = 0; name = None }) }
         ensures fails { IfOk result (λ shelf. failing_calls shelf ≡ fails.now) }
-        ensures counts { IfOk result (λ shelf. (call_count shelf ≡ 0) × (fault_count shelf ≡ 0) × (marked_faults shelf ≡ 0)) }
+        ensures counts { IfOk result (λ shelf. (call_count shelf ≡ 0) × (fault_count shelf ≡ 0)
+            × (marked_faults shelf ≡ 0)) }
         ensures closed { IfOk result (λ shelf. IsFalse (has_open_file shelf)) }
         ensures most { IfOk result (λ shelf. most_bytes shelf ≡ most) }
     {
@@ -86,11 +90,13 @@ impl MemShelf {
         requires new_name { file_named (content_of self.old).files name.now ≡ None }
         requires closed { IsFalse (has_open_file self.old) }
         ensures added { OnOk result (content_of self.new ≡ record (content_of self.old) {
-          files = (content_of self.old).files ++ (record { name = name.now; bytes = bytes.now }) ∷ [];
+          files = (content_of self.old).files ++ (record { name = name.now; bytes = bytes.now })
+              ∷ [];
         }) }
         ensures unchanged { OnErr result (content_of self.new ≡ content_of self.old) }
         ensures fails { failing_calls self.new ≡ failing_calls self.old }
-        ensures counts { (call_count self.new ≡ call_count self.old) × (fault_count self.new ≡ fault_count self.old)
+        ensures counts { (call_count self.new ≡ call_count self.old)
+            × (fault_count self.new ≡ fault_count self.old)
             × (marked_faults self.new ≡ marked_faults self.old) }
         ensures closed { IsFalse (has_open_file self.new) }
         ensures most { most_bytes self.new ≡ most_bytes self.old }
@@ -121,8 +127,10 @@ impl Shelf for MemShelf {
     ghost nothing_left = { λ shelf content tells closed. told_rest (can_rise shelf.faults && can_rise shelf.openings) shelf.files.items shelf.reading shelf.openings shelf.last content tells closed };
 
     fn open(&mut self, name: &str) -> Result<(), Failed>
-        ensures content { WhereTold (told_content self.old) (told_content self.new) (Opens name.now result) }
-        ensures cause { HasCause (told_content self.new) (fault_count self.old) (fault_count self.new) result }
+        ensures content { WhereTold (told_content self.old) (told_content self.new)
+            (Opens name.now result) }
+        ensures cause { HasCause (told_content self.new) (fault_count self.old)
+            (fault_count self.new) result }
         ensures is_open { has_open_file self.new ≡ is_ok result }
         ensures mark { marked_faults self.new ≡ fault_count self.old }
         // It fails exactly where there is no such file or the call is listed.
@@ -154,13 +162,17 @@ impl Shelf for MemShelf {
         requires opened { IsTrue (has_open_file self.old) }
         requires room { 0 < length buf.old }
         ensures bound { IfOk result (λ n. n ≤ length buf.new) }
-        ensures content { WhereTold (told_content self.old) (told_content self.new) (Reads result buf.new) }
-        ensures cause { HasCause (told_content self.new) (fault_count self.old) (fault_count self.new) result }
+        ensures content { WhereTold (told_content self.old) (told_content self.new)
+            (Reads result buf.new) }
+        ensures cause { HasCause (told_content self.new) (fault_count self.old)
+            (fault_count self.new) result }
         ensures is_open { IsTrue (has_open_file self.new) }
         ensures mark { marked_faults self.new ≡ marked_faults self.old }
         // It fails exactly where the call is listed, and hands out as much as may be.
-        ensures exact { is_ok result ≡ not (is_listed (failing_calls self.old) (call_count self.old)) }
-        ensures many { IfOk result (λ n. n ≡ min (most_bytes self.old) (min (length (content_of self.old).rest) (length buf.old))) }
+        ensures exact { is_ok result ≡ not (is_listed (failing_calls self.old)
+            (call_count self.old)) }
+        ensures many { IfOk result (λ n. n ≡ min (most_bytes self.old)
+            (min (length (content_of self.old).rest) (length buf.old))) }
         ensures fails { failing_calls self.new ≡ failing_calls self.old }
         ensures calls { call_count self.new ≡ min (call_count self.old + 1) (2 ^ 64 - 1) }
         ensures most { most_bytes self.new ≡ most_bytes self.old }

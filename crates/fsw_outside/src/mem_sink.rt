@@ -92,13 +92,17 @@ impl Sink for MemSink {
     fn write(&mut self, piece: &[u8]) -> Result<usize, Failed>
         requires { 0 < length piece.now }
         ensures count { IfOk result (λ n. (0 < n) × (n ≤ length piece.now)) }
-        ensures content { WhereTold (told_bytes self.old) (told_bytes self.new) (Writes result piece.now) }
-        ensures tally { WhereTold (told_tally self.old) (told_tally self.new) (Adds result piece.now) }
-        ensures cause { HasCause (told_bytes self.new) (fault_count self.old) (fault_count self.new) result }
+        ensures content { WhereTold (told_bytes self.old) (told_bytes self.new)
+            (Writes result piece.now) }
+        ensures tally { WhereTold (told_tally self.old) (told_tally self.new)
+            (Adds result piece.now) }
+        ensures cause { HasCause (told_bytes self.new) (fault_count self.old)
+            (fault_count self.new) result }
         // It fails exactly where nothing fits or the call is listed, and takes as much as may be.
         ensures exact { is_ok result ≡ (nat_lt (length (held_bytes self.old)) (byte_room self.old)
             && not (is_listed (failing_calls self.old) (call_count self.old))) }
-        ensures many { IfOk result (λ n. n ≡ min (most_bytes self.old) (min (length piece.now) (byte_room self.old - length (held_bytes self.old)))) }
+        ensures many { IfOk result (λ n. n ≡ min (most_bytes self.old)
+            (min (length piece.now) (byte_room self.old - length (held_bytes self.old)))) }
         ensures room { byte_room self.new ≡ byte_room self.old }
         ensures fails { failing_calls self.new ≡ failing_calls self.old }
         ensures calls { call_count self.new ≡ min (call_count self.old + 1) (2 ^ 64 - 1) }

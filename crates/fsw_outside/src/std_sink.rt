@@ -43,10 +43,14 @@ impl<W: Write + Drop> Sink for StdSink<W> {
         ensures count { IfOk result (λ n. (0 < n) × (n ≤ length piece.now)) }
         ensures content { WhereTold {A = List ℕ} None None (Writes result piece.now) }
         ensures tally { WhereTold {A = Tally} None None (Adds result piece.now) }
-        ensures cause { HasCause {A = List ℕ} None (fault_count self.old) (fault_count self.new) result }
-        ensures counted { fault_count self.new ≡ (if is_ok result then fault_count self.old else min (fault_count self.old + 1) (2 ^ 64 - 1)) }
+        ensures cause { HasCause {A = List ℕ} None (fault_count self.old)
+            (fault_count self.new) result }
+        ensures counted { fault_count self.new
+            ≡ (if is_ok result then fault_count self.old
+            else min (fault_count self.old + 1) (2 ^ 64 - 1)) }
         // What it took stands in the writer, where that one tells its bytes.
-        ensures handed_on { IfOk result (λ n. Appends (W.contents (writer_of self.old)) (W.contents (writer_of self.new)) (take n piece.now)) }
+        ensures handed_on { IfOk result (λ n. Appends (W.contents (writer_of self.old))
+            (W.contents (writer_of self.new)) (take n piece.now)) }
     {
         let count = match self.writer.write(piece) {
             Ok(0) | Err(_) => {

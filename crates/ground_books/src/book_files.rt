@@ -31,7 +31,8 @@ fn whole_name(alloc: Global, name: &[u8], ending: &[u8]) -> Result<Vec<u8>, Allo
 
 /// Adds a file of this name.
 fn add_file(name: Vec<u8>, bytes: Vec<u8>, out: &mut Vec<BuiltFile>) -> Result<(), AllocError>
-    ensures { OnOk result (map built_seen out.new.items ≡ map built_seen out.old.items ++ (record { name = name.items; bytes = bytes.items }) ∷ []) }
+    ensures { OnOk result (map built_seen out.new.items ≡ map built_seen out.old.items
+        ++ (record { name = name.items; bytes = bytes.items }) ∷ []) }
 {
     out.push(BuiltFile { name, bytes })?;
     Ok(())
@@ -39,7 +40,8 @@ fn add_file(name: Vec<u8>, bytes: Vec<u8>, out: &mut Vec<BuiltFile>) -> Result<(
 
 /// Adds a file of the book.
 fn add_part(alloc: Global, file: BookFile<'_>, out: &mut Vec<BuiltFile>) -> Result<(), AllocError>
-    ensures { OnOk result (map built_seen out.new.items ≡ map built_seen out.old.items ++ file_built (file_made file.entry) ∷ []) }
+    ensures { OnOk result (map built_seen out.new.items ≡ map built_seen out.old.items
+        ++ file_built (file_made file.entry) ∷ []) }
 {
     let name = whole_name(alloc, file.name, ending_of(file.kind))?;
     add_file(name, file.bytes, out)
@@ -51,7 +53,8 @@ fn add_parts(
     files: Vec<BookFile<'_>>,
     out: &mut Vec<BuiltFile>,
 ) -> Result<(), AllocError>
-    ensures { OnOk result (map built_seen out.new.items ≡ map built_seen out.old.items ++ map file_built (map file_made files.entry.items)) }
+    ensures { OnOk result (map built_seen out.new.items ≡ map built_seen out.old.items
+        ++ map file_built (map file_made files.entry.items)) }
 {
     for file in files {
         add_part(alloc, file, out)?;
@@ -61,7 +64,8 @@ fn add_parts(
 
 /// The files of a book, the scenario and the manifest.
 fn files_of(alloc: Global, book: Book<'_>) -> Result<Vec<BuiltFile>, AllocError>
-    ensures { IfOk result (λ files. map built_seen files.items ≡ built_said (book_made book.entry)) }
+    ensures { IfOk result (λ files. map built_seen files.items
+        ≡ built_said (book_made book.entry)) }
 {
     let manifest = files_manifest(alloc, &book)?;
     let mut out = Vec::new(alloc);

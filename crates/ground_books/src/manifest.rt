@@ -62,7 +62,8 @@ fn push_crc(bytes: &[u8], out: &mut Vec<u8>) -> Result<(), AllocError>
 
 /// Appends a space and the CRC of bytes.
 fn put_check(bytes: &[u8], out: &mut Vec<u8>) -> Result<(), AllocError>
-    ensures { OnOk result (out.new.items ≡ out.old.items ++ field (hex (be16_bytes (crc_of 0 bytes.now)))) }
+    ensures { OnOk result (out.new.items ≡ out.old.items
+        ++ field (hex (be16_bytes (crc_of 0 bytes.now)))) }
 {
     out.push(b' ')?;
     push_crc(bytes, out)
@@ -70,7 +71,8 @@ fn put_check(bytes: &[u8], out: &mut Vec<u8>) -> Result<(), AllocError>
 
 /// Appends a space and the name of a file, and ends the line.
 fn put_name(name: &[u8], ending: &[u8], out: &mut Vec<u8>) -> Result<(), AllocError>
-    ensures { OnOk result (out.new.items ≡ out.old.items ++ (field (name.now ++ ending.now) ++ 10 ∷ [])) }
+    ensures { OnOk result (out.new.items ≡ out.old.items
+        ++ (field (name.now ++ ending.now) ++ 10 ∷ [])) }
 {
     put_field(name, out)?;
     out.extend_from_slice(ending)?;
@@ -86,7 +88,8 @@ fn put_entry(
     bytes: &[u8],
     out: &mut Vec<u8>,
 ) -> Result<(), AllocError>
-    ensures { OnOk result (out.new.items ≡ out.old.items ++ entry kind.now name.now ending.now bytes.now) }
+    ensures { OnOk result (out.new.items ≡ out.old.items
+        ++ entry kind.now name.now ending.now bytes.now) }
 {
     out.extend_from_slice(kind)?;
     put_field(name, out)?;
@@ -98,7 +101,9 @@ fn put_entry(
 
 /// Appends the line of a file.
 fn put_file(file: &BookFile<'_>, out: &mut Vec<u8>) -> Result<(), AllocError>
-    ensures { OnOk result (out.new.items ≡ out.old.items ++ entry (kind_word file.now.kind) file.now.name.now (ending_of file.now.kind) file.now.bytes.items) }
+    ensures { OnOk result (out.new.items ≡ out.old.items
+        ++ entry (kind_word file.now.kind) file.now.name.now
+        (ending_of file.now.kind) file.now.bytes.items) }
 {
     put_entry(
         kind_word(file.kind),

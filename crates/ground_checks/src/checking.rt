@@ -110,7 +110,8 @@ fn check_bytes<'a, R: Files + Eprint + AllocGlobal>(
 ) -> Result<Status, AllocError>
     ensures taken { IfOk result (λ status. status ≡ statuses.Done → is_book_text bytes.now ≡ false
         → fault_of (option_map (λ known. known.now) map.entry) bytes.now ≡ None) }
-    ensures refused { IfOk result (λ status. status ≡ statuses.FileRefused → is_book_text bytes.now ≡ false
+    ensures refused { IfOk result (λ status. status ≡ statuses.FileRefused
+        → is_book_text bytes.now ≡ false
         → fault_of (option_map (λ known. known.now) map.entry) bytes.now ≢ None) }
 {
     let name = input_name(path);

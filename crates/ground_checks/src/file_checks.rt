@@ -131,8 +131,10 @@ pub(crate) fn tell_file<R: Eprint + AllocGlobal>(
     placed: Option<PlacedText<'_>>,
     file: &[u8],
 ) -> Status
-    ensures taken { result ≡ Status.Done → fault_of (option_map (λ known. known.now) map.entry) file.now ≡ None }
-    ensures refused { result ≡ Status.FileRefused → fault_of (option_map (λ known. known.now) map.entry) file.now ≢ None }
+    ensures taken { result ≡ Status.Done → fault_of
+        (option_map (λ known. known.now) map.entry) file.now ≡ None }
+    ensures refused { result ≡ Status.FileRefused
+        → fault_of (option_map (λ known. known.now) map.entry) file.now ≢ None }
 {
     let Ok(faults) = find_faults(rt.alloc(), map, file) else {
         let _told = tell_no_memory(rt);

@@ -27,7 +27,8 @@ pub enum FoundFault {
 
 /// Faults of entries as faults of a file.
 fn as_found(alloc: Global, entries: &[EntryFault]) -> Result<Vec<FoundFault>, AllocError>
-    ensures { IfOk result (λ found. found.items ≡ map (λ fault. FoundFault.Entry fault) entries.now) }
+    ensures { IfOk result (λ found. found.items
+        ≡ map (λ fault. FoundFault.Entry fault) entries.now) }
 {
     let mut found = Vec::new(alloc);
     for fault in entries {
@@ -38,7 +39,8 @@ fn as_found(alloc: Global, entries: &[EntryFault]) -> Result<Vec<FoundFault>, Al
 
 /// Adds entries that memory refuses.
 fn add_reads(entries: &[u32], found: &mut Vec<FoundFault>) -> Result<(), AllocError>
-    ensures { OnOk result (found.new.items ≡ found.old.items ++ map (λ entry. FoundFault.Read entry) entries.now) }
+    ensures { OnOk result (found.new.items ≡ found.old.items
+        ++ map (λ entry. FoundFault.Read entry) entries.now) }
 {
     for entry in entries {
         found.push(FoundFault::Read(*entry))?;
@@ -55,7 +57,9 @@ fn table_faults(
 ) -> Result<Vec<FoundFault>, AllocError>
     requires headers { file_fault_of file.now ≡ None }
     requires small { length file.now ≤ 65700 }
-    ensures { IfOk result (λ found. first_if_any found.items ≡ fault_by None (entry_fault_in file.now) (read_refused (option_map (λ known. known.now) map.entry) file.now)) }
+    ensures { IfOk result (λ found. first_if_any found.items
+        ≡ fault_by None (entry_fault_in file.now)
+        (read_refused (option_map (λ known. known.now) map.entry) file.now)) }
 {
     let mut rest = Vec::new(alloc);
     rest.extend_from_slice(file)?;
@@ -86,7 +90,8 @@ pub fn find_faults(
     map: Option<&Map>,
     file: &[u8],
 ) -> Result<Vec<FoundFault>, AllocError>
-    ensures { IfOk result (λ found. first_if_any found.items ≡ fault_of (option_map (λ known. known.now) map.entry) file.now) }
+    ensures { IfOk result (λ found. first_if_any found.items
+        ≡ fault_of (option_map (λ known. known.now) map.entry) file.now) }
 {
     if file.len() > MOST_BYTES {
         return one_fault(alloc, FoundFault::Long);

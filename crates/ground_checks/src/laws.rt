@@ -12,11 +12,14 @@ ghost use Rattle.ground_checks.specs.Maps.{map_said};
 /// the memory of that map gives their reads too.
 pub fn checks_are_loading()
     ensures files { (files : List (List ℕ)) → AreFaultless None files ↔ AreLoaded files }
-    ensures reads { (regions : List Region) (files : List (List ℕ)) → AreFaultless (Some regions) files ↔ AreLoadedWith regions files }
+    ensures reads { (regions : List Region) (files : List (List ℕ))
+        → AreFaultless (Some regions) files ↔ AreLoadedWith regions files }
 {}
 
 /// The map of a scenario is that by which the program asks whether memory gives the reads of files.
 pub fn maps_are_headers()
-    ensures { (text : List ℕ) (regions : List Region) (files : List (List ℕ)) → map_said text ≡ Some regions
-        → refused_read files (reading (record { bytes = text; closed = true })).items ≡ region_fault regions files }
+    ensures { (text : List ℕ) (regions : List Region) (files : List (List ℕ))
+        → map_said text ≡ Some regions
+        → refused_read files (reading (record { bytes = text; closed = true })).items
+        ≡ region_fault regions files }
 {}

@@ -22,7 +22,8 @@ pub enum MapFault {
 
 /// Reads a text up to its header.
 fn read_header(reader: &mut Reader, text: &[u8]) -> Result<(), MapFault>
-    requires { Stands reader.old (record { bytes = []; closed = false }) [] × (is_finished reader.old ≡ false) }
+    requires { Stands reader.old (record { bytes = []; closed = false }) []
+        × (is_finished reader.old ≡ false) }
     ensures { OnOk result (HasGiven reader.new text.now) }
 {
     let mut rest = text;

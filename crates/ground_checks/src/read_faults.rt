@@ -72,7 +72,8 @@ pub(crate) fn clear_reads(
     kind: TableKind,
     file: &mut [u8],
 ) -> Result<Vec<u32>, AllocError>
-    ensures { length file.old ≤ 65700 → IfOk result (λ entries. first_if_any entries.items ≡ refused_in map.now file.old) }
+    ensures { length file.old ≤ 65700 → IfOk result (λ entries. first_if_any entries.items
+        ≡ refused_in map.now file.old) }
 {
     let mut entries = Vec::new(alloc);
     if let Some(entry) = first_refused(alloc, map, file)? {

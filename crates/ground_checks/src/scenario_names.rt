@@ -68,7 +68,8 @@ fn read_names(
     reader: &mut Reader,
     text: &[u8],
 ) -> Result<Option<Vec<Name>>, AllocError>
-    requires { Stands reader.old (record { bytes = []; closed = false }) [] × (is_finished reader.old ≡ false) }
+    requires { Stands reader.old (record { bytes = []; closed = false }) []
+        × (is_finished reader.old ≡ false) }
 {
     let mut names = Vec::new(alloc);
     let mut rest = text;

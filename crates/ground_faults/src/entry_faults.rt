@@ -201,7 +201,8 @@ fn clear_more(
     file: &mut Vec<u8>,
     faults: &mut Vec<EntryFault>,
 ) -> Result<(), AllocError>
-    ensures { OnOk result ((more : List EntryFault) × (faults.new.items ≡ faults.old.items ++ more)) }
+    ensures { OnOk result ((more : List EntryFault)
+        × (faults.new.items ≡ faults.old.items ++ more)) }
 {
     let mut clearing = first;
     let mut out: u32 = 0;
@@ -227,7 +228,8 @@ fn clear_more(
 /// their size. A command of an absolute sequence ends where its packet says, so that those behind a wrong number are found and none behind a
 /// packet that is no command; of a relative sequence the first fault alone is found, since all its faults are such.
 pub fn clear_faults(alloc: Global, file: &mut Vec<u8>) -> Result<Vec<EntryFault>, AllocError>
-    ensures first { IfOk result (λ faults. first_if_any faults.items ≡ entry_refused (refusal_of file.old.items)) }
+    ensures first { IfOk result (λ faults. first_if_any faults.items
+        ≡ entry_refused (refusal_of file.old.items)) }
     ensures same { IfOk result (λ faults. faults.items ≡ [] → file.new.items ≡ file.old.items) }
 {
     let mut faults = Vec::new(alloc);

@@ -90,7 +90,8 @@ pub fn status_made<R: Eprint>(
     settled: io::Result<()>,
     status: Status,
 ) -> Status
-    ensures { MatchResult settled (λ done. result ≡ status) (λ error. result ≡ statuses.WriteFailed) }
+    ensures { MatchResult settled (λ done. result ≡ status) (λ error. result
+        ≡ statuses.WriteFailed) }
 {
     match settled {
         Ok(()) => status,

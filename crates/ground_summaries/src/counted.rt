@@ -50,7 +50,8 @@ pub fn push_three(
     second: &str,
     third: &str,
 ) -> Result<(), AllocError>
-    ensures { OnOk result (out.new.items ≡ out.old.items ++ (first.now ++ (second.now ++ third.now))) }
+    ensures { OnOk result (out.new.items ≡ out.old.items
+        ++ (first.now ++ (second.now ++ third.now))) }
 {
     out.extend_from_slice(first.as_bytes())?;
     out.extend_from_slice(second.as_bytes())?;

@@ -37,7 +37,8 @@ impl LogTeller {
     pub fn new(epoch: Option<u32>) -> LogTeller
         ensures stands { Stands result [] [] [] }
         ensures epoch { result.epoch ≡ epoch }
-        ensures words { (e : Option ℕ) (line : LogLine) → sentence_of result.vocabulary e line ≡ sentence_of own_words e line }
+        ensures words { (e : Option ℕ) (line : LogLine)
+            → sentence_of result.vocabulary e line ≡ sentence_of own_words e line }
     {
         LogTeller {
             vocabulary: Vocabulary::of_applications(),
@@ -54,7 +55,8 @@ impl LogTeller {
     /// may be given next. After an error the teller is of no use.
     pub fn tell(&mut self, piece: &[u8], out: &mut Vec<u8>) -> Result<Told, AllocError>
         ensures told { (front text : List ℕ) → Stands self.old front text out.old.items
-            → IfOk result (λ told. Stands self.new front (text ++ take told.taken piece.now) out.new.items) }
+            → IfOk result (λ told. Stands self.new front (text
+            ++ take told.taken piece.now) out.new.items) }
         ensures taken { IfOk result (λ told. told.taken ≤ length piece.now) }
         ensures whole { IfOk result (λ told. told.fault ≡ None → told.taken ≡ length piece.now) }
         ensures some { IfOk result (λ told. 0 < length piece.now → 0 < told.taken) }
@@ -83,7 +85,8 @@ impl LogTeller {
     pub(crate) fn step(&mut self, piece: &[u8], out: &mut Vec<u8>) -> Result<Told, AllocError>
         requires { 0 < length piece.now }
         ensures told { (text : List ℕ) → ReaderStands self.old.reader text (log_said text)
-            → IfOk result (λ told. TellsOn self.old self.new text (take told.taken piece.now) out.old.items out.new.items) }
+            → IfOk result (λ told. TellsOn self.old self.new text
+            (take told.taken piece.now) out.old.items out.new.items) }
         ensures taken { IfOk result (λ told. told.taken ≤ length piece.now) }
         ensures some { IfOk result (λ told. 0 < told.taken) }
         ensures names { KeepsNames self.old self.new }
@@ -111,7 +114,8 @@ impl LogTeller {
 
     /// Says that no more comes: the fault of a last line that has no LF.
     pub fn finish(&self) -> Option<LogFault>
-        ensures { (front text out : List ℕ) → Stands self.now front text out → result ≡ cut_in text }
+        ensures { (front text out : List ℕ) → Stands self.now front text out
+            → result ≡ cut_in text }
     {
         self.reader.finish()
     }

@@ -157,7 +157,8 @@ impl<L: Sink + Drop, W: Sink + Drop, F: FrameTeller + Drop> Sink for ToldLog<L, 
         ensures tally { WhereTold (told_while self.old.refusals (L.tally self.old.log))
             (told_while self.new.refusals (L.tally self.new.log)) (Adds result piece.now) }
         ensures cause { HasCause (told_while self.new.refusals (L.held self.new.log))
-            (L.faults self.old.log + self.old.refusals) (L.faults self.new.log + self.new.refusals) result }
+            (L.faults self.old.log + self.old.refusals) (L.faults self.new.log
+            + self.new.refusals) result }
         // Where it takes some, the log is as the log's own call of `write` leaves it, with the same bytes.
         ensures kept { OnOk result (self.new.refusals ≡ self.old.refusals) }
     {

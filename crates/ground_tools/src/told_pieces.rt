@@ -20,7 +20,8 @@ fn tell_line<F: FrameTeller>(
 ) -> Result<usize, AllocError>
     requires { 0 < length piece.now }
     ensures woven { (text : List ℕ) → ReaderStands teller.old.reader text (log_said text)
-        → IfOk result (λ taken. Weaves teller.old teller.new text (take taken piece.now) out.old.items out.new.items) }
+        → IfOk result (λ taken. Weaves teller.old teller.new text
+        (take taken piece.now) out.old.items out.new.items) }
     ensures taken { IfOk result (λ taken. taken ≤ length piece.now) }
     ensures some { IfOk result (λ taken. 0 < taken) }
 {

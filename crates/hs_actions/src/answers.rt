@@ -45,7 +45,8 @@ pub(crate) fn put_items(
 #[tactic(auto, unfolding(bus_pipes::specs::Held::adding))]
 fn put_reset(from: Source, went: bool, now: u32, out: &mut Outbox)
     requires room { length out.old.items + 2 ≤ out.old.room }
-    ensures items { out.new ≡ adding out.old (if went then event_out now from (event_place ResetAsked) ∷ outs.Reset ∷ []
+    ensures items { out.new ≡ adding out.old (if went
+        then event_out now from (event_place ResetAsked) ∷ outs.Reset ∷ []
         else event_out now from (event_place NoResetLeft) ∷ []) }
     ensures few { length out.new.items ≤ length out.old.items + 2 }
     ensures room { out.new.room ≡ out.old.room }
@@ -61,7 +62,8 @@ fn put_reset(from: Source, went: bool, now: u32, out: &mut Outbox)
 #[tactic(auto, unfolding(bus_pipes::specs::Held::adding))]
 fn put_restart(from: Source, name: Name, now: u32, out: &mut Outbox)
     requires room { length out.old.items + 2 ≤ out.old.room }
-    ensures items { out.new ≡ adding out.old (event_out now from (event_place RestartAsked) ∷ outs.Restart name ∷ []) }
+    ensures items { out.new ≡ adding out.old (event_out now from (event_place RestartAsked)
+        ∷ outs.Restart name ∷ []) }
     ensures few { length out.new.items ≤ length out.old.items + 2 }
     ensures room { out.new.room ≡ out.old.room }
 {
@@ -89,7 +91,8 @@ fn put_report(from: Source, name: Name, now: u32, out: &mut Outbox)
 fn put_message(from: Source, place: u16, acts: &MsgActs, went: bool, now: u32, out: &mut Outbox)
     requires place { place < 8 }
     requires room { length out.old.items + 2 ≤ out.old.room }
-    ensures items { out.new ≡ adding out.old (if went then message_items now from (entry_of (act_at acts.now place)) else []) }
+    ensures items { out.new ≡ adding out.old (if went
+        then message_items now from (entry_of (act_at acts.now place)) else []) }
     ensures few { length out.new.items ≤ length out.old.items + 2 }
     ensures room { out.new.room ≡ out.old.room }
 {

@@ -20,34 +20,52 @@ pub fn number_rows()
 
 /// The table of actions, row by row, for both monitors.
 pub fn action_rows()
-    ensures reset { performed 1001 (one_act 1) AppMonitor load_bytes (action_of 1) true ≡ outs.Made (hs_event 101 0xE9) ∷ outs.Reset ∷ [] }
-    ensures no_reset { performed 1001 (one_act 1) AppMonitor load_bytes (action_of 1) false ≡ outs.Made (hs_event 105 0xE9) ∷ [] }
-    ensures restart { performed 1001 (one_act 1) AppMonitor load_bytes (action_of 2) true ≡ outs.Made (hs_event 102 0xE9) ∷ outs.Restart load_bytes ∷ [] }
-    ensures report { performed 1001 (one_act 1) AppMonitor load_bytes (action_of 3) true ≡ outs.Made (hs_event 103 0xE9) ∷ [] }
-    ensures message { performed 1001 (one_act 1) AppMonitor load_bytes (action_of 4) true ≡ outs.Stored noop_bytes ∷ outs.Made (hs_event 104 0xE9) ∷ [] }
-    ensures quiet_message { performed 1001 (one_act 2) AppMonitor load_bytes (action_of 4) true ≡ outs.Stored noop_bytes ∷ [] }
+    ensures reset { performed 1001 (one_act 1) AppMonitor load_bytes (action_of 1) true
+        ≡ outs.Made (hs_event 101 0xE9) ∷ outs.Reset ∷ [] }
+    ensures no_reset { performed 1001 (one_act 1) AppMonitor load_bytes (action_of 1) false
+        ≡ outs.Made (hs_event 105 0xE9) ∷ [] }
+    ensures restart { performed 1001 (one_act 1) AppMonitor load_bytes (action_of 2) true
+        ≡ outs.Made (hs_event 102 0xE9) ∷ outs.Restart load_bytes ∷ [] }
+    ensures report { performed 1001 (one_act 1) AppMonitor load_bytes (action_of 3) true
+        ≡ outs.Made (hs_event 103 0xE9) ∷ [] }
+    ensures message { performed 1001 (one_act 1) AppMonitor load_bytes (action_of 4) true
+        ≡ outs.Stored noop_bytes ∷ outs.Made (hs_event 104 0xE9) ∷ [] }
+    ensures quiet_message { performed 1001 (one_act 2) AppMonitor load_bytes (action_of 4) true
+        ≡ outs.Stored noop_bytes ∷ [] }
     ensures no_message { performed 1001 (one_act 1) AppMonitor load_bytes (action_of 4) false ≡ [] }
-    ensures event_reset { performed 1001 (one_act 1) EventMonitor load_bytes (action_of 1) true ≡ outs.Made (hs_event 111 0xE9) ∷ outs.Reset ∷ [] }
-    ensures event_no_reset { performed 1001 (one_act 1) EventMonitor load_bytes (action_of 1) false ≡ outs.Made (hs_event 115 0xE9) ∷ [] }
-    ensures event_restart { performed 1001 (one_act 1) EventMonitor load_bytes (action_of 2) true ≡ outs.Made (hs_event 112 0xE9) ∷ outs.Restart load_bytes ∷ [] }
-    ensures event_report { performed 1001 (one_act 1) EventMonitor load_bytes (action_of 3) true ≡ outs.Made (hs_event 113 0xE9) ∷ outs.Delete load_bytes ∷ [] }
-    ensures event_message { performed 1001 (one_act 1) EventMonitor load_bytes (action_of 4) true ≡ outs.Stored noop_bytes ∷ outs.Made (hs_event 114 0xE9) ∷ [] }
+    ensures event_reset { performed 1001 (one_act 1) EventMonitor load_bytes (action_of 1) true
+        ≡ outs.Made (hs_event 111 0xE9) ∷ outs.Reset ∷ [] }
+    ensures event_no_reset { performed 1001 (one_act 1) EventMonitor load_bytes (action_of 1) false
+        ≡ outs.Made (hs_event 115 0xE9) ∷ [] }
+    ensures event_restart { performed 1001 (one_act 1) EventMonitor load_bytes (action_of 2) true
+        ≡ outs.Made (hs_event 112 0xE9) ∷ outs.Restart load_bytes ∷ [] }
+    ensures event_report { performed 1001 (one_act 1) EventMonitor load_bytes (action_of 3) true
+        ≡ outs.Made (hs_event 113 0xE9) ∷ outs.Delete load_bytes ∷ [] }
+    ensures event_message { performed 1001 (one_act 1) EventMonitor load_bytes (action_of 4) true
+        ≡ outs.Stored noop_bytes ∷ outs.Made (hs_event 114 0xE9) ∷ [] }
 {}
 
 /// A cooldown of 2 spaces message actions: with two attempts in each of the wakeups 1, 2 and 3 the first goes, and then the first of
 /// wakeup 3. A disabled one never goes.
 pub fn cooldown_rows()
-    ensures first { items_of 1001 (one_act 1) (past_after 2 []) (twice 1) ≡ outs.Stored noop_bytes ∷ outs.Made (hs_event 114 0xE9) ∷ [] }
+    ensures first { items_of 1001 (one_act 1) (past_after 2 []) (twice 1) ≡ outs.Stored noop_bytes
+        ∷ outs.Made (hs_event 114 0xE9) ∷ [] }
     ensures second { items_of 1002 (one_act 1) (past_after 3 (twice 1)) (twice 2) ≡ [] }
-    ensures third { items_of 1003 (one_act 1) (past_after 4 (twice 1 ++ twice 2)) (twice 3) ≡ outs.Stored noop_bytes ∷ outs.Made (hs_event 114 0xEB) ∷ [] }
+    ensures third { items_of 1003 (one_act 1) (past_after 4 (twice 1 ++ twice 2)) (twice 3)
+        ≡ outs.Stored noop_bytes ∷ outs.Made (hs_event 114 0xEB) ∷ [] }
     ensures disabled { items_of 1001 (one_act 0) (past_after 2 []) (twice 1) ≡ [] }
 {}
 
 /// Resets go up to the maximum: three of four, another once they are cleared, and none where the maximum was set to 2.
 pub fn reset_rows()
-    ensures three { items_of 1000 (one_act 1) (past_after 1 []) (reset_once ∷ reset_once ∷ reset_once ∷ reset_once ∷ []) ≡ outs.Made (hs_event 101 0xE8) ∷ outs.Reset ∷ outs.Made (hs_event 101 0xE8) ∷ outs.Reset ∷ outs.Made (hs_event 101 0xE8) ∷ outs.Reset ∷ outs.Made (hs_event 105 0xE8) ∷ [] }
-    ensures cleared { items_of 1000 (one_act 1) (past_after 1 (reset_once ∷ reset_once ∷ reset_once ∷ Clears ∷ [])) (reset_once ∷ []) ≡ outs.Made (hs_event 101 0xE8) ∷ outs.Reset ∷ [] }
-    ensures limited { items_of 1000 (one_act 1) (past_after 1 (reset_once ∷ reset_once ∷ Limits 2 ∷ [])) (reset_once ∷ []) ≡ outs.Made (hs_event 105 0xE8) ∷ [] }
+    ensures three { items_of 1000 (one_act 1) (past_after 1 []) (reset_once ∷ reset_once
+        ∷ reset_once ∷ reset_once ∷ []) ≡ outs.Made (hs_event 101 0xE8) ∷ outs.Reset
+        ∷ outs.Made (hs_event 101 0xE8) ∷ outs.Reset ∷ outs.Made (hs_event 101 0xE8) ∷ outs.Reset
+        ∷ outs.Made (hs_event 105 0xE8) ∷ [] }
+    ensures cleared { items_of 1000 (one_act 1) (past_after 1 (reset_once ∷ reset_once ∷ reset_once
+        ∷ Clears ∷ [])) (reset_once ∷ []) ≡ outs.Made (hs_event 101 0xE8) ∷ outs.Reset ∷ [] }
+    ensures limited { items_of 1000 (one_act 1) (past_after 1 (reset_once ∷ reset_once ∷ Limits 2
+        ∷ [])) (reset_once ∷ []) ≡ outs.Made (hs_event 105 0xE8) ∷ [] }
 {}
 
 /// The message actions by their numbers; the first and the last place of the table, each used alone; and a time with all its bytes.
@@ -76,7 +94,8 @@ pub fn cooldown_edge_rows()
     ensures long { items_of 1000 (act_in 0 258) (past_after 258 (twice 0)) (twice 257) ≡ [] }
     ensures over { items_of 1000 (act_in 0 258) (past_after 259 (twice 0)) (twice 258)
         ≡ outs.Stored noop_bytes ∷ outs.Made (hs_event 114 0xE8) ∷ [] }
-    ensures other { items_of 1000 (slice_set (act_in 0 9) 1 (act_at (act_in 1 9) 1)) (past_after 1 []) (heard_once 4 0
+    ensures other { items_of 1000 (slice_set (act_in 0 9) 1 (act_at (act_in 1 9) 1))
+        (past_after 1 []) (heard_once 4 0
         ∷ heard_once 5 0 ∷ [])
         ≡ outs.Stored noop_bytes ∷ outs.Made (hs_event 114 0xE8) ∷ outs.Stored noop_bytes
         ∷ outs.Made (hs_event 114 0xE8) ∷ [] }

@@ -41,21 +41,24 @@ impl Actions {
 
     /// Begins a wakeup: each cooldown that isn't 0 goes down by one.
     pub fn tick(&mut self)
-        ensures { (acts : List ActRow) (past : Past) → ActionsStand acts past self.old → ActionsStand acts (in_next_wakeup past) self.new }
+        ensures { (acts : List ActRow) (past : Past) → ActionsStand acts past self.old
+            → ActionsStand acts (in_next_wakeup past) self.new }
     {
         cool(&mut self.cooldowns);
     }
 
     /// Sets the maximum of resets.
     pub fn set_max(&mut self, n: u16)
-        ensures { (acts : List ActRow) (past : Past) → ActionsStand acts past self.old → ActionsStand acts (with_more past (Limits n ∷ [])) self.new }
+        ensures { (acts : List ActRow) (past : Past) → ActionsStand acts past self.old
+            → ActionsStand acts (with_more past (Limits n ∷ [])) self.new }
     {
         self.max = n;
     }
 
     /// Sets the resets made to 0.
     pub fn clear_resets(&mut self)
-        ensures { (acts : List ActRow) (past : Past) → ActionsStand acts past self.old → ActionsStand acts (with_more past (Clears ∷ [])) self.new }
+        ensures { (acts : List ActRow) (past : Past) → ActionsStand acts past self.old
+            → ActionsStand acts (with_more past (Clears ∷ [])) self.new }
     {
         self.made = 0;
     }
@@ -78,7 +81,8 @@ impl Actions {
     /// Whether any cooldown runs.
     #[inline(always)]
     pub fn is_cooling(&self) -> bool
-        ensures { (acts : List ActRow) (past : Past) → ActionsStand acts past self.now → result ≡ is_cooling acts past }
+        ensures { (acts : List ActRow) (past : Past) → ActionsStand acts past self.now
+            → result ≡ is_cooling acts past }
     {
         let mut any = false;
         for place in 0..8 {
@@ -102,11 +106,16 @@ impl Actions {
     )
         requires action { (1 ≤ number) × (number ≤ 11) }
         requires room { length out.old.items + 2 ≤ out.old.room }
-        ensures stands { (past : Past) (a : Attempt) → a.source ≡ from → a.name ≡ name → a.action ≡ action_of number → a.wakeup + 1 ≡ past.wakeups
-            → ActionsStand acts.now past self.old → ActionsStand acts.now (with_more past (Attempts a ∷ [])) self.new }
-        ensures items { (past : Past) (a : Attempt) → a.source ≡ from → a.name ≡ name → a.action ≡ action_of number → a.wakeup + 1 ≡ past.wakeups
-            → ActionsStand acts.now past self.old → out.new ≡ adding out.old (happening_items now acts.now past (Attempts a)) }
-        ensures counted { AllPass is_item_counted out.old.items → AllPass is_item_counted out.new.items }
+        ensures stands { (past : Past) (a : Attempt) → a.source ≡ from → a.name ≡ name
+            → a.action ≡ action_of number → a.wakeup + 1 ≡ past.wakeups
+            → ActionsStand acts.now past self.old
+            → ActionsStand acts.now (with_more past (Attempts a ∷ [])) self.new }
+        ensures items { (past : Past) (a : Attempt) → a.source ≡ from → a.name ≡ name
+            → a.action ≡ action_of number → a.wakeup + 1 ≡ past.wakeups
+            → ActionsStand acts.now past self.old
+            → out.new ≡ adding out.old (happening_items now acts.now past (Attempts a)) }
+        ensures counted { AllPass is_item_counted out.old.items
+            → AllPass is_item_counted out.new.items }
         ensures few { length out.new.items ≤ length out.old.items + 2 }
         ensures room { out.new.room ≡ out.old.room }
     {
@@ -118,8 +127,10 @@ impl Actions {
     /// Whether an attempt goes, and the state after it.
     fn attempt(&mut self, action: Action, acts: &MsgActs) -> bool
         requires { HasPlace action }
-        ensures stands { (past : Past) (a : Attempt) → a.action ≡ action → a.wakeup + 1 ≡ past.wakeups
-            → ActionsStand acts.now past self.old → ActionsStand acts.now (with_more past (Attempts a ∷ [])) self.new }
+        ensures stands { (past : Past) (a : Attempt) → a.action ≡ action
+            → a.wakeup + 1 ≡ past.wakeups
+            → ActionsStand acts.now past self.old
+            → ActionsStand acts.now (with_more past (Attempts a ∷ [])) self.new }
         ensures went { (past : Past) (a : Attempt) → a.action ≡ action → a.wakeup + 1 ≡ past.wakeups
             → ActionsStand acts.now past self.old → result ≡ goes_after acts.now past (Attempts a) }
     {
@@ -134,7 +145,8 @@ impl Actions {
     /// A reset goes where fewer were made than the maximum.
     fn reset(&mut self) -> bool
         ensures stands { (acts : List ActRow) (past : Past) (a : Attempt) → a.action ≡ Reset
-            → ActionsStand acts past self.old → ActionsStand acts (with_more past (Attempts a ∷ [])) self.new }
+            → ActionsStand acts past self.old
+            → ActionsStand acts (with_more past (Attempts a ∷ [])) self.new }
         ensures went { (acts : List ActRow) (past : Past) (a : Attempt) → a.action ≡ Reset
             → ActionsStand acts past self.old → result ≡ goes_after acts past (Attempts a) }
     {
@@ -148,9 +160,12 @@ impl Actions {
     /// A message action goes where its entry is used and no cooldown of it runs.
     fn send(&mut self, place: u16, acts: &MsgActs) -> bool
         requires { place < 8 }
-        ensures stands { (past : Past) (a : Attempt) → a.action ≡ Message place → a.wakeup + 1 ≡ past.wakeups
-            → ActionsStand acts.now past self.old → ActionsStand acts.now (with_more past (Attempts a ∷ [])) self.new }
-        ensures went { (past : Past) (a : Attempt) → a.action ≡ Message place → a.wakeup + 1 ≡ past.wakeups
+        ensures stands { (past : Past) (a : Attempt) → a.action ≡ Message place
+            → a.wakeup + 1 ≡ past.wakeups
+            → ActionsStand acts.now past self.old
+            → ActionsStand acts.now (with_more past (Attempts a ∷ [])) self.new }
+        ensures went { (past : Past) (a : Attempt) → a.action ≡ Message place
+            → a.wakeup + 1 ≡ past.wakeups
             → ActionsStand acts.now past self.old → result ≡ goes_after acts.now past (Attempts a) }
     {
         let Some(entry) = acts.entry(u32::from(place) + 1) else {
@@ -167,7 +182,8 @@ impl Actions {
 
 /// One wakeup less is left of each cooldown that isn't over.
 fn cool(cooldowns: &mut [u16; 8])
-    ensures { (place : ℕ) → place < 8 → get_or cooldowns.new place 0 ≡ get_or cooldowns.old place 0 - 1 }
+    ensures { (place : ℕ) → place < 8 → get_or cooldowns.new place 0
+        ≡ get_or cooldowns.old place 0 - 1 }
 {
     for place in 0..8 {
         cooldowns[place] = cooldowns[place].saturating_sub(1);

@@ -72,10 +72,15 @@ pub(crate) fn check_all(
     out: &mut Outbox,
 )
     requires room { length out.old.items + 64 ≤ out.old.room }
-    ensures stands { (checks : List (List Counter)) → places ≡ places_of tables.now.apps → EntriesStand tables.now.apps (λ place. checks) kept.old → EntriesStand tables.now.apps (λ place. checks ++ counters.now ∷ []) kept.new }
-    ensures performs { (checks : List (List Counter)) → places ≡ places_of tables.now.apps → EntriesStand tables.now.apps (λ place. checks) kept.old
-        → Performs tables.now.acts now (λ k. flat_map (app_attempt k (checks ++ counters.now ∷ [])) tables.now.apps) actions.old actions.new out.old out.new }
-    ensures counted { AllPass is_item_counted out.old.items → AllPass is_item_counted out.new.items }
+    ensures stands { (checks : List (List Counter)) → places ≡ places_of tables.now.apps
+        → EntriesStand tables.now.apps (λ place. checks) kept.old
+        → EntriesStand tables.now.apps (λ place. checks ++ counters.now ∷ []) kept.new }
+    ensures performs { (checks : List (List Counter)) → places ≡ places_of tables.now.apps
+        → EntriesStand tables.now.apps (λ place. checks) kept.old
+        → Performs tables.now.acts now (λ k. flat_map (app_attempt k (checks ++ counters.now
+        ∷ [])) tables.now.apps) actions.old actions.new out.old out.new }
+    ensures counted { AllPass is_item_counted out.old.items
+        → AllPass is_item_counted out.new.items }
     ensures few { length out.new.items ≤ length out.old.items + 64 }
     ensures room { out.new.room ≡ out.old.room }
 {
@@ -99,10 +104,16 @@ fn check_place(
 ) -> Watched
     requires place { place < 32 }
     requires room { length out.old.items + 2 ≤ out.old.room }
-    ensures stands { (checks : List (List Counter)) (e : AppEntry) → entry_of (row_at tables.now.apps place) ≡ Some e → EntryStands e checks watched → EntryStands e (checks ++ counters.now ∷ []) result }
-    ensures performs { (checks : List (List Counter)) → ((e : AppEntry) → entry_of (row_at tables.now.apps place) ≡ Some e → EntryStands e checks watched)
-        → Performs tables.now.acts now (λ k. app_attempt k (checks ++ counters.now ∷ []) (row_at tables.now.apps place)) actions.old actions.new out.old out.new }
-    ensures counted { AllPass is_item_counted out.old.items → AllPass is_item_counted out.new.items }
+    ensures stands { (checks : List (List Counter)) (e : AppEntry)
+        → entry_of (row_at tables.now.apps place) ≡ Some e → EntryStands e checks watched
+        → EntryStands e (checks ++ counters.now ∷ []) result }
+    ensures performs { (checks : List (List Counter))
+        → ((e : AppEntry) → entry_of (row_at tables.now.apps place) ≡ Some e
+        → EntryStands e checks watched)
+        → Performs tables.now.acts now (λ k. app_attempt k (checks ++ counters.now
+        ∷ []) (row_at tables.now.apps place)) actions.old actions.new out.old out.new }
+    ensures counted { AllPass is_item_counted out.old.items
+        → AllPass is_item_counted out.new.items }
     ensures few { length out.new.items ≤ length out.old.items + 2 }
     ensures room { out.new.room ≡ out.old.room }
 {
@@ -136,10 +147,13 @@ fn check_entry(
     requires cycles { 0 < entry.now.cycles }
     requires action { (1 ≤ entry.now.action) × (entry.now.action ≤ 11) }
     requires room { length out.old.items + 2 ≤ out.old.room }
-    ensures stands { (checks : List (List Counter)) → EntryStands entry.now checks watched → EntryStands entry.now (checks ++ counters.now ∷ []) result }
+    ensures stands { (checks : List (List Counter)) → EntryStands entry.now checks watched
+        → EntryStands entry.now (checks ++ counters.now ∷ []) result }
     ensures performs { (checks : List (List Counter)) → EntryStands entry.now checks watched
-        → Performs acts.now now (λ k. attempt_of k (checks ++ counters.now ∷ []) entry.now) actions.old actions.new out.old out.new }
-    ensures counted { AllPass is_item_counted out.old.items → AllPass is_item_counted out.new.items }
+        → Performs acts.now now (λ k. attempt_of k (checks ++ counters.now
+        ∷ []) entry.now) actions.old actions.new out.old out.new }
+    ensures counted { AllPass is_item_counted out.old.items
+        → AllPass is_item_counted out.new.items }
     ensures few { length out.new.items ≤ length out.old.items + 2 }
     ensures room { out.new.room ≡ out.old.room }
 {

@@ -41,7 +41,8 @@ pub(crate) struct Duty {
 impl Duty {
     /// Before the first wakeup: both monitorings are on, and so many resets were made of at most `max`.
     pub(crate) fn start(tables: &HsTables, made: u16, max: u16) -> Duty
-        ensures { DutyStands (setup_of tables.now made max) [] [] (past_of (setup_of tables.now made max) []) result }
+        ensures { DutyStands (setup_of tables.now made max) [] []
+            (past_of (setup_of tables.now made max) []) result }
     {
         Duty {
             monitoring: true,
@@ -54,16 +55,20 @@ impl Duty {
 
     /// Begins a wakeup: each cooldown goes down by one.
     pub(crate) fn tick(&mut self)
-        ensures { (setup : Setup) (history : List HsEntry) → DutyStands setup history [] (past_of setup history) self.old → DutyStands setup history [] (past_in setup history []) self.new }
+        ensures { (setup : Setup) (history : List HsEntry)
+            → DutyStands setup history [] (past_of setup history) self.old
+            → DutyStands setup history [] (past_in setup history []) self.new }
     {
         self.actions.tick();
     }
 
     /// Does what an accepted command asks for.
     pub(crate) fn obey(&mut self, apps: &AppMon, instruction: &Instruction)
-        ensures { (setup : Setup) (history : List HsEntry) (orders : List Instruction) → apps.now ≡ apps_after setup history
+        ensures { (setup : Setup) (history : List HsEntry) (orders : List Instruction)
+            → apps.now ≡ apps_after setup history
             → DutyStands setup history orders (past_in setup history orders) self.old
-            → DutyStands setup history (orders ++ instruction.now ∷ []) (past_in setup history (orders ++ instruction.now ∷ [])) self.new }
+            → DutyStands setup history (orders ++ instruction.now
+            ∷ []) (past_in setup history (orders ++ instruction.now ∷ [])) self.new }
     {
         match instruction {
             Instruction::Plain => {}
@@ -80,7 +85,9 @@ impl Duty {
         ensures listening { self.new.listening ≡ self.old.listening }
         ensures places { self.new.places ≡ self.old.places }
         ensures actions { self.new.actions ≡ self.old.actions }
-        ensures kept { (checks : List (List Counter)) → EntriesStand apps.now (λ place. checks) self.old.kept → EntriesStand apps.now (λ place. if on then [] else checks) self.new.kept }
+        ensures kept { (checks : List (List Counter))
+            → EntriesStand apps.now (λ place. checks) self.old.kept
+            → EntriesStand apps.now (λ place. if on then [] else checks) self.new.kept }
     {
         self.monitoring = on;
         if !on {
@@ -110,12 +117,20 @@ impl Duty {
         out: &mut Outbox,
     )
         requires room { length out.old.items + 64 ≤ out.old.room }
-        ensures same { (self.new.monitoring ≡ self.old.monitoring) × (self.new.listening ≡ self.old.listening) × (self.new.places ≡ self.old.places) }
-        ensures kept { (checks : List (List Counter)) → self.old.places ≡ places_of tables.now.apps → EntriesStand tables.now.apps (λ place. checks) self.old.kept
-            → EntriesStand tables.now.apps (λ place. if self.old.monitoring then checks ++ counters.now ∷ [] else checks) self.new.kept }
-        ensures performs { (checks : List (List Counter)) → self.old.places ≡ places_of tables.now.apps → EntriesStand tables.now.apps (λ place. checks) self.old.kept
-            → Performs tables.now.acts now (λ k. if self.old.monitoring then flat_map (app_attempt k (checks ++ counters.now ∷ [])) tables.now.apps else []) self.old.actions self.new.actions out.old out.new }
-        ensures counted { AllPass is_item_counted out.old.items → AllPass is_item_counted out.new.items }
+        ensures same { (self.new.monitoring ≡ self.old.monitoring)
+            × (self.new.listening ≡ self.old.listening) × (self.new.places ≡ self.old.places) }
+        ensures kept { (checks : List (List Counter)) → self.old.places ≡ places_of tables.now.apps
+            → EntriesStand tables.now.apps (λ place. checks) self.old.kept
+            → EntriesStand tables.now.apps (λ place. if self.old.monitoring then checks
+            ++ counters.now ∷ [] else checks) self.new.kept }
+        ensures performs { (checks : List (List Counter))
+            → self.old.places ≡ places_of tables.now.apps
+            → EntriesStand tables.now.apps (λ place. checks) self.old.kept
+            → Performs tables.now.acts now (λ k. if self.old.monitoring
+            then flat_map (app_attempt k (checks ++ counters.now ∷ [])) tables.now.apps
+            else []) self.old.actions self.new.actions out.old out.new }
+        ensures counted { AllPass is_item_counted out.old.items
+            → AllPass is_item_counted out.new.items }
         ensures few { length out.new.items ≤ length out.old.items + 64 }
         ensures room { out.new.room ≡ out.old.room }
     {
@@ -143,9 +158,14 @@ impl Duty {
     )
         requires events { length events.now ≤ 32 }
         requires room { length out.old.items + 1024 ≤ out.old.room }
-        ensures same { (self.new.monitoring ≡ self.old.monitoring) × (self.new.listening ≡ self.old.listening) × (self.new.places ≡ self.old.places) × (self.new.kept ≡ self.old.kept) }
-        ensures performs { Performs tables.now.acts now (λ k. if self.old.listening then flat_map (event_attempts k tables.now.events) events.now else []) self.old.actions self.new.actions out.old out.new }
-        ensures counted { AllPass is_item_counted out.old.items → AllPass is_item_counted out.new.items }
+        ensures same { (self.new.monitoring ≡ self.old.monitoring)
+            × (self.new.listening ≡ self.old.listening) × (self.new.places ≡ self.old.places)
+            × (self.new.kept ≡ self.old.kept) }
+        ensures performs { Performs tables.now.acts now (λ k. if self.old.listening
+            then flat_map (event_attempts k tables.now.events) events.now
+            else []) self.old.actions self.new.actions out.old out.new }
+        ensures counted { AllPass is_item_counted out.old.items
+            → AllPass is_item_counted out.new.items }
         ensures few { length out.new.items ≤ length out.old.items + 1024 }
         ensures room { out.new.room ≡ out.old.room }
     {
@@ -159,7 +179,9 @@ impl Duty {
     pub(crate) fn shown(&self, apps: &AppMon) -> Shown
         ensures monitoring { result.monitoring ≡ self.now.monitoring }
         ensures listening { result.listening ≡ self.now.listening }
-        ensures watching { (checks : List (List Counter)) → EntriesStand apps.now (λ place. checks) self.now.kept → result.watching ≡ watching_bits apps.now checks }
+        ensures watching { (checks : List (List Counter))
+            → EntriesStand apps.now (λ place. checks) self.now.kept
+            → result.watching ≡ watching_bits apps.now checks }
     {
         Shown {
             monitoring: self.monitoring,
@@ -171,7 +193,9 @@ impl Duty {
     /// Whether a wakeup without packets does nothing.
     #[inline(always)]
     pub(crate) fn are_idle(&self) -> bool
-        ensures { (setup : Setup) (history : List HsEntry) → DutyStands setup history [] (past_of setup history) self.now → result ≡ are_idle setup history }
+        ensures { (setup : Setup) (history : List HsEntry)
+            → DutyStands setup history [] (past_of setup history) self.now
+            → result ≡ are_idle setup history }
     {
         !self.may_check() && !self.actions.is_cooling()
     }

@@ -25,8 +25,11 @@ pub(crate) fn hear_all(
 )
     requires few { length events.now ≤ 32 }
     requires room { length out.old.items + 1024 ≤ out.old.room }
-    ensures performs { Performs tables.now.acts now (λ k. flat_map (event_attempts k tables.now.events) events.now) actions.old actions.new out.old out.new }
-    ensures counted { AllPass is_item_counted out.old.items → AllPass is_item_counted out.new.items }
+    ensures performs { Performs tables.now.acts now
+        (λ k. flat_map (event_attempts k tables.now.events) events.now) actions.old actions.new
+        out.old out.new }
+    ensures counted { AllPass is_item_counted out.old.items
+        → AllPass is_item_counted out.new.items }
     ensures few { length out.new.items ≤ length out.old.items + 1024 }
     ensures room { out.new.room ≡ out.old.room }
 {
@@ -42,8 +45,10 @@ pub(crate) fn hear_all(
 #[tactic(auto, unfolding(crate::specs::Events::event_attempts))]
 fn hear(tables: &HsTables, packet: &Packet, now: u32, actions: &mut Actions, out: &mut Outbox)
     requires room { length out.old.items + 32 ≤ out.old.room }
-    ensures performs { Performs tables.now.acts now (λ k. event_attempts k tables.now.events packet.now) actions.old actions.new out.old out.new }
-    ensures counted { AllPass is_item_counted out.old.items → AllPass is_item_counted out.new.items }
+    ensures performs { Performs tables.now.acts now
+        (λ k. event_attempts k tables.now.events packet.now) actions.old actions.new out.old out.new }
+    ensures counted { AllPass is_item_counted out.old.items
+        → AllPass is_item_counted out.new.items }
     ensures few { length out.new.items ≤ length out.old.items + 32 }
     ensures room { out.new.room ≡ out.old.room }
 {
@@ -63,8 +68,11 @@ fn compare_all(
 )
     requires message { is_event packet.now ≡ true }
     requires room { length out.old.items + 32 ≤ out.old.room }
-    ensures performs { Performs tables.now.acts now (λ k. flat_map (event_attempt k packet.now) tables.now.events) actions.old actions.new out.old out.new }
-    ensures counted { AllPass is_item_counted out.old.items → AllPass is_item_counted out.new.items }
+    ensures performs { Performs tables.now.acts now
+        (λ k. flat_map (event_attempt k packet.now) tables.now.events) actions.old actions.new
+        out.old out.new }
+    ensures counted { AllPass is_item_counted out.old.items
+        → AllPass is_item_counted out.new.items }
     ensures few { length out.new.items ≤ length out.old.items + 32 }
     ensures room { out.new.room ≡ out.old.room }
 {
@@ -86,8 +94,11 @@ fn compare(
     requires place { place < 16 }
     requires message { is_event packet.now ≡ true }
     requires room { length out.old.items + 2 ≤ out.old.room }
-    ensures performs { Performs tables.now.acts now (λ k. event_attempt k packet.now (row_at tables.now.events place)) actions.old actions.new out.old out.new }
-    ensures counted { AllPass is_item_counted out.old.items → AllPass is_item_counted out.new.items }
+    ensures performs { Performs tables.now.acts now
+        (λ k. event_attempt k packet.now (row_at tables.now.events place)) actions.old actions.new
+        out.old out.new }
+    ensures counted { AllPass is_item_counted out.old.items
+        → AllPass is_item_counted out.new.items }
     ensures few { length out.new.items ≤ length out.old.items + 2 }
     ensures room { out.new.room ≡ out.old.room }
 {

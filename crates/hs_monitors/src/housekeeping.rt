@@ -43,7 +43,9 @@ pub(crate) fn housekeeping(
     counters: &[Counter],
     now: u32,
 ) -> Packet
-    ensures packet { result ≡ housekeeping_of now counts shown.monitoring shown.listening (resets_made actions.now) (resets_most actions.now) (actions_sent actions.now) shown.watching names.now counters.now }
+    ensures packet { result ≡ housekeeping_of now counts shown.monitoring shown.listening
+        (resets_made actions.now) (resets_most actions.now)
+        (actions_sent actions.now) shown.watching names.now counters.now }
     ensures counted { is_item_counted (outs.Made result) ≡ true }
 {
     let mut payload = Payload::new();
@@ -69,7 +71,9 @@ fn flag_of(on: bool) -> u8
 #[tactic(auto, unfolding(packet_forms::specs::Numbers::be16_bytes))]
 fn append_actions(payload: &mut Payload, actions: &Actions)
     requires { length payload.old ≡ 4 }
-    ensures bytes { payload.new ≡ payload.old ++ actions_bytes (resets_made actions.now) (resets_most actions.now) (actions_sent actions.now) }
+    ensures bytes { payload.new ≡ payload.old
+        ++ actions_bytes (resets_made actions.now) (resets_most actions.now)
+        (actions_sent actions.now) }
     ensures size { length payload.new ≡ 12 }
 {
     let (made, max) = actions.resets();
@@ -105,7 +109,8 @@ fn shown_in(names: &ExeCount, place: u32, counters: &[Counter]) -> u32
 /// The mask of the application monitors that watch.
 #[tactic(auto, unfolding(crate::specs::Housekeeping::watching_bits))]
 pub(crate) fn watching_bits(apps: &AppMon, kept: &[Watched; PLACES]) -> u32
-    ensures { (checks : List (List Counter)) → EntriesStand apps.now (λ place. checks) kept.now → result ≡ watching_bits apps.now checks }
+    ensures { (checks : List (List Counter)) → EntriesStand apps.now (λ place. checks) kept.now
+        → result ≡ watching_bits apps.now checks }
 {
     let mut bits = [false; PLACES];
     for place in 0..apps.len() {
@@ -117,7 +122,9 @@ pub(crate) fn watching_bits(apps: &AppMon, kept: &[Watched; PLACES]) -> u32
 /// Whether an entry is used and counts down.
 fn is_watching(apps: &AppMon, place: u32, watched: Watched) -> bool
     requires { place < 32 }
-    ensures { (checks : List (List Counter)) → ((e : AppEntry) → entry_of (row_at apps.now place) ≡ Some e → EntryStands e checks watched) → result ≡ is_watching checks (row_at apps.now place) }
+    ensures { (checks : List (List Counter)) → ((e : AppEntry)
+        → entry_of (row_at apps.now place) ≡ Some e → EntryStands e checks watched)
+        → result ≡ is_watching checks (row_at apps.now place) }
 {
     match apps.entry(place + 1) {
         Some(_) => watched.countdown != 0,

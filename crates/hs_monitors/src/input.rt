@@ -15,7 +15,8 @@ impl HsInput<'_> {
     /// Whether no packet was taken.
     #[inline(always)]
     pub(crate) fn is_quiet(&self) -> bool
-        ensures { result ≡ ((length self.now.commands.now == 0) && (length self.now.events.now == 0)) }
+        ensures { result ≡ ((length self.now.commands.now == 0)
+            && (length self.now.events.now == 0)) }
     {
         self.commands.is_empty() && self.events.is_empty()
     }

@@ -35,7 +35,9 @@ impl Hs {
     /// Takes the table of this kind that is handed in: the monitors, the event monitors or the execution counters become active. The
     /// application monitors are refreshed where theirs does. Tables of other kinds change nothing.
     pub fn activate(&mut self, tables: &HsTables, kind: TableKind)
-        ensures stands { (setup : Setup) (history : List HsEntry) (a : Activation) → activation_of kind tables.now ≡ Some a → Stands setup history self.old → Stands setup (history ++ Activated a ∷ []) self.new }
+        ensures stands { (setup : Setup) (history : List HsEntry) (a : Activation)
+            → activation_of kind tables.now ≡ Some a → Stands setup history self.old
+            → Stands setup (history ++ Activated a ∷ []) self.new }
         ensures other { activation_of kind tables.now ≡ None → self.new ≡ self.old }
     {
         match kind {
@@ -55,8 +57,10 @@ impl Hs {
 
     /// The resets made, and their maximum.
     pub fn resets(&self) -> (u16, u16)
-        ensures made { (setup : Setup) (history : List HsEntry) → Stands setup history self.now → result.0 ≡ resets_made setup history }
-        ensures max { (setup : Setup) (history : List HsEntry) → Stands setup history self.now → result.1 ≡ resets_maximum setup history }
+        ensures made { (setup : Setup) (history : List HsEntry) → Stands setup history self.now
+            → result.0 ≡ resets_made setup history }
+        ensures max { (setup : Setup) (history : List HsEntry) → Stands setup history self.now
+            → result.1 ≡ resets_maximum setup history }
     {
         self.duty.actions.resets()
     }
@@ -65,10 +69,15 @@ impl Hs {
     /// is used.
     #[inline(always)]
     pub fn is_idle(&self, input: &HsInput<'_>) -> bool
-        ensures exact { (setup : Setup) (history : List HsEntry) → Stands setup history self.now → result ≡ is_idle_on setup history input.now.commands.now input.now.events.now }
-        ensures stands { (setup : Setup) (history : List HsEntry) (i : Input) → result ≡ true → i.commands ≡ input.now.commands.now → i.seen.events ≡ input.now.events.now → Stands setup history self.now
+        ensures exact { (setup : Setup) (history : List HsEntry) → Stands setup history self.now
+            → result ≡ is_idle_on setup history input.now.commands.now input.now.events.now }
+        ensures stands { (setup : Setup) (history : List HsEntry) (i : Input) → result ≡ true
+            → i.commands ≡ input.now.commands.now → i.seen.events ≡ input.now.events.now
+            → Stands setup history self.now
             → Stands setup (history ++ Woken i ∷ []) self.now }
-        ensures items { (setup : Setup) (history : List HsEntry) (i : Input) → result ≡ true → i.commands ≡ input.now.commands.now → i.seen.events ≡ input.now.events.now → Stands setup history self.now
+        ensures items { (setup : Setup) (history : List HsEntry) (i : Input) → result ≡ true
+            → i.commands ≡ input.now.commands.now → i.seen.events ≡ input.now.events.now
+            → Stands setup history self.now
             → hs_items setup history i ≡ [] }
     {
         if !input.is_quiet() {

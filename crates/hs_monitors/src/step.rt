@@ -104,8 +104,12 @@ impl Hs {
         requires events { length input.now.events.now ≤ 32 }
         requires empty { out.old.items ≡ [] }
         requires room { MOST_ITEMS ≤ out.old.room }
-        ensures stands { (setup : Setup) (history : List HsEntry) → tables.now ≡ tables_after setup history → Stands setup history self.now → Stands setup (history ++ Woken (input_of now input.now) ∷ []) next.new }
-        ensures items { (setup : Setup) (history : List HsEntry) → tables.now ≡ tables_after setup history → Stands setup history self.now → out.new.items ≡ hs_items setup history (input_of now input.now) }
+        ensures stands { (setup : Setup) (history : List HsEntry)
+            → tables.now ≡ tables_after setup history → Stands setup history self.now
+            → Stands setup (history ++ Woken (input_of now input.now) ∷ []) next.new }
+        ensures items { (setup : Setup) (history : List HsEntry)
+            → tables.now ≡ tables_after setup history → Stands setup history self.now
+            → out.new.items ≡ hs_items setup history (input_of now input.now) }
         ensures counted { AllPass is_item_counted out.new.items }
         ensures few { length out.new.items ≤ MOST_ITEMS }
         ensures room { out.new.room ≡ out.old.room }
@@ -124,8 +128,12 @@ impl Hs {
         requires events { length input.now.events.now ≤ 32 }
         requires empty { out.old.items ≡ [] }
         requires room { MOST_ITEMS ≤ out.old.room }
-        ensures stands { (setup : Setup) (history : List HsEntry) → tables.now ≡ tables_after setup history → Stands setup history self.old → Stands setup (history ++ Woken (input_of now input.now) ∷ []) self.new }
-        ensures items { (setup : Setup) (history : List HsEntry) → tables.now ≡ tables_after setup history → Stands setup history self.old → out.new.items ≡ hs_items setup history (input_of now input.now) }
+        ensures stands { (setup : Setup) (history : List HsEntry)
+            → tables.now ≡ tables_after setup history → Stands setup history self.old
+            → Stands setup (history ++ Woken (input_of now input.now) ∷ []) self.new }
+        ensures items { (setup : Setup) (history : List HsEntry)
+            → tables.now ≡ tables_after setup history → Stands setup history self.old
+            → out.new.items ≡ hs_items setup history (input_of now input.now) }
         ensures counted { AllPass is_item_counted out.new.items }
         ensures few { length out.new.items ≤ MOST_ITEMS }
         ensures room { out.new.room ≡ out.old.room }

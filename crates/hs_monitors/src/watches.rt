@@ -40,8 +40,11 @@ impl Watched {
     /// check takes one off it.
     pub(crate) fn check(self, entry: &AppEntry, counters: &[Counter]) -> Checked
         requires { 0 < entry.now.cycles }
-        ensures stands { (checks : List (List Counter)) → EntryStands entry.now checks self → EntryStands entry.now (checks ++ counters.now ∷ []) result.watched }
-        ensures acts { (checks : List (List Counter)) → EntryStands entry.now checks self → result.acts ≡ acts_now entry.now.cycles (changes entry.now.name (checks ++ counters.now ∷ [])) }
+        ensures stands { (checks : List (List Counter)) → EntryStands entry.now checks self
+            → EntryStands entry.now (checks ++ counters.now ∷ []) result.watched }
+        ensures acts { (checks : List (List Counter)) → EntryStands entry.now checks self
+            → result.acts ≡ acts_now entry.now.cycles (changes entry.now.name (checks
+            ++ counters.now ∷ [])) }
     {
         if self.countdown == 0 {
             return Checked {

@@ -145,7 +145,8 @@ fn tell_conducts(
     counters: &[Counter],
     out: &mut Vec<u8>,
 ) -> Result<(), AllocError>
-    ensures { OnOk result (out.new.items ≡ out.old.items ++ counters_told time watched.now counters.now) }
+    ensures { OnOk result (out.new.items ≡ out.old.items
+        ++ counters_told time watched.now counters.now) }
 {
     for counter in watched {
         counter.tell_conduct(time, counter_named(counters, &counter.name), out)?;
@@ -159,7 +160,8 @@ fn keep_counters(
     watched: &[WatchedCounter],
     counters: &[Counter],
 ) -> Result<Vec<WatchedCounter>, AllocError>
-    ensures { IfOk result (λ kept. kept.items ≡ map (λ (w : Watched). kept_behind w (counter_named counters.now w.name)) watched.now) }
+    ensures { IfOk result (λ kept. kept.items
+        ≡ map (λ (w : Watched). kept_behind w (counter_named counters.now w.name)) watched.now) }
 {
     let mut kept = Vec::new(alloc);
     for counter in watched {
@@ -204,8 +206,10 @@ impl CounterWatch {
         counters: &[Counter],
         out: &mut Vec<u8>,
     ) -> Result<(), AllocError>
-        ensures told { OnOk result (out.new.items ≡ out.old.items ++ counters_told time self.old.watched.items counters.now) }
-        ensures watched { OnOk result (self.new.watched.items ≡ watched_behind self.old.watched.items counters.now) }
+        ensures told { OnOk result (out.new.items ≡ out.old.items
+            ++ counters_told time self.old.watched.items counters.now) }
+        ensures watched { OnOk result (self.new.watched.items
+            ≡ watched_behind self.old.watched.items counters.now) }
     {
         if is_resting(self.watched.as_slice(), counters) {
             return Ok(());

@@ -117,7 +117,8 @@ impl HoldWatch {
         held: &[App],
         out: &mut Vec<u8>,
     ) -> Result<(), AllocError>
-        ensures told { OnOk result (out.new.items ≡ out.old.items ++ holds_told time self.old.before.items held.now) }
+        ensures told { OnOk result (out.new.items ≡ out.old.items
+            ++ holds_told time self.old.before.items held.now) }
         ensures before { OnOk result (self.new.before.items ≡ held.now) }
     {
         tell_apps(time, self.before.as_slice(), held, out)?;

@@ -31,7 +31,8 @@ pub struct GivenFile {
 
 /// Appends what the beginning of a line has: when, and the mark that no sentence of the log has.
 pub(crate) fn begin_line(time: FrameTime, out: &mut Vec<u8>) -> Result<(), AllocError>
-    ensures { OnOk result (out.new.items ≡ out.old.items ++ (time_words time.epoch time.frame ++ codes ": > ")) }
+    ensures { OnOk result (out.new.items ≡ out.old.items
+        ++ (time_words time.epoch time.frame ++ codes ": > ")) }
 {
     push_time(time.epoch, time.frame, out)?;
     out.extend_from_slice(b": > ")
@@ -57,7 +58,8 @@ fn push_upset(upset: &Upset, out: &mut Vec<u8>) -> Result<(), AllocError>
 
 /// Appends the line of an upset.
 fn tell_upset(time: FrameTime, upset: &Upset, out: &mut Vec<u8>) -> Result<(), AllocError>
-    ensures { OnOk result (out.new.items ≡ out.old.items ++ input_line time (upset_words upset.now)) }
+    ensures { OnOk result (out.new.items ≡ out.old.items
+        ++ input_line time (upset_words upset.now)) }
 {
     begin_line(time, out)?;
     push_upset(upset, out)?;
@@ -66,7 +68,8 @@ fn tell_upset(time: FrameTime, upset: &Upset, out: &mut Vec<u8>) -> Result<(), A
 
 /// Appends the lines of upsets.
 fn tell_upsets(time: FrameTime, upsets: &[Upset], out: &mut Vec<u8>) -> Result<(), AllocError>
-    ensures { OnOk result (out.new.items ≡ out.old.items ++ flat_map (λ (u : SetByte). input_line time (upset_words u)) upsets.now) }
+    ensures { OnOk result (out.new.items ≡ out.old.items
+        ++ flat_map (λ (u : SetByte). input_line time (upset_words u)) upsets.now) }
 {
     for upset in upsets {
         tell_upset(time, upset, out)?;
@@ -87,7 +90,8 @@ fn tell_file(file: &GivenFile, out: &mut Vec<u8>) -> Result<(), AllocError>
 
 /// Appends the lines of FILEs.
 fn tell_each_file(files: &[GivenFile], out: &mut Vec<u8>) -> Result<(), AllocError>
-    ensures { OnOk result (out.new.items ≡ out.old.items ++ flat_map (λ (file : Given). file_line file) files.now) }
+    ensures { OnOk result (out.new.items ≡ out.old.items
+        ++ flat_map (λ (file : Given). file_line file) files.now) }
 {
     for file in files {
         tell_file(file, out)?;
@@ -116,7 +120,8 @@ pub fn tell_files(files: &[GivenFile], out: &mut Vec<u8>) -> Result<(), AllocErr
 
 /// The words of the FILE of a number, counted from 1.
 fn file_of(files: &[GivenFile], number: u32) -> Option<&[u8]>
-    ensures { MatchOption result (file_of files.now number ≡ None) (λ words. file_of files.now number ≡ Some words.now) }
+    ensures { MatchOption result (file_of files.now number
+        ≡ None) (λ words. file_of files.now number ≡ Some words.now) }
 {
     if number == 0 {
         return None;
@@ -129,7 +134,8 @@ fn file_of(files: &[GivenFile], number: u32) -> Option<&[u8]>
 
 /// Appends which FILE's table is to become active.
 fn push_activation(files: &[GivenFile], number: u32, out: &mut Vec<u8>) -> Result<(), AllocError>
-    ensures { OnOk result (out.new.items ≡ out.old.items ++ activation_words number (file_of files.now number)) }
+    ensures { OnOk result (out.new.items ≡ out.old.items
+        ++ activation_words number (file_of files.now number)) }
 {
     out.extend_from_slice(b"file ")?;
     push_decimal(number, out)?;
@@ -150,7 +156,8 @@ fn tell_activation(
     number: u32,
     out: &mut Vec<u8>,
 ) -> Result<(), AllocError>
-    ensures { OnOk result (out.new.items ≡ out.old.items ++ input_line time (activation_words number (file_of files.now number))) }
+    ensures { OnOk result (out.new.items ≡ out.old.items
+        ++ input_line time (activation_words number (file_of files.now number))) }
 {
     begin_line(time, out)?;
     push_activation(files, number, out)?;
@@ -164,7 +171,9 @@ fn tell_activations(
     numbers: &[u32],
     out: &mut Vec<u8>,
 ) -> Result<(), AllocError>
-    ensures { OnOk result (out.new.items ≡ out.old.items ++ flat_map (λ (n : ℕ). input_line time (activation_words n (file_of files.now n))) numbers.now) }
+    ensures { OnOk result (out.new.items ≡ out.old.items
+        ++ flat_map (λ (n : ℕ). input_line time (activation_words n (file_of files.now n)))
+        numbers.now) }
 {
     for number in numbers {
         tell_activation(files, time, *number, out)?;
@@ -197,7 +206,8 @@ fn tell_packet(
     out: &mut Vec<u8>,
 ) -> Result<(), AllocError>
     requires { IsGood vocabulary.now }
-    ensures { OnOk result (out.new.items ≡ out.old.items ++ input_line time (packet_sent vocabulary.now packet.now)) }
+    ensures { OnOk result (out.new.items ≡ out.old.items
+        ++ input_line time (packet_sent vocabulary.now packet.now)) }
 {
     begin_line(time, out)?;
     push_packet(vocabulary, packet, out)?;
@@ -212,7 +222,8 @@ fn tell_packets(
     out: &mut Vec<u8>,
 ) -> Result<(), AllocError>
     requires { IsGood vocabulary.now }
-    ensures { OnOk result (out.new.items ≡ out.old.items ++ flat_map (λ (p : List ℕ). input_line time (packet_sent vocabulary.now p)) packets.now) }
+    ensures { OnOk result (out.new.items ≡ out.old.items
+        ++ flat_map (λ (p : List ℕ). input_line time (packet_sent vocabulary.now p)) packets.now) }
 {
     for packet in packets {
         tell_packet(vocabulary, time, packet, out)?;
@@ -230,7 +241,8 @@ pub fn tell_inputs(
     out: &mut Vec<u8>,
 ) -> Result<(), AllocError>
     requires { IsGood vocabulary.now }
-    ensures { OnOk result (out.new.items ≡ out.old.items ++ inputs_told vocabulary.now files.now time input.now) }
+    ensures { OnOk result (out.new.items ≡ out.old.items
+        ++ inputs_told vocabulary.now files.now time input.now) }
 {
     tell_upsets(time, input.upsets(), out)?;
     tell_activations(files, time, input.activations(), out)?;

@@ -103,7 +103,8 @@ fn add_part<'a>(
     text: &'a [u8],
     parts: &mut BookParts<'a>,
 ) -> Result<(), LineError>
-    ensures { GivesPart (part_added (held_by parts.old) (part_of part.now.number (words part.now.title.now) text.now)) parts.new result }
+    ensures { GivesPart (part_added (held_by parts.old)
+        (part_of part.now.number (words part.now.title.now) text.now)) parts.new result }
 {
     let number = part.number;
     match read_title(part.title) {

@@ -77,7 +77,8 @@ pub(crate) fn cut_front(text: &[u8], number: u32) -> Front<'_>
     requires { number + length text.now < 2 ^ 32 }
     ensures front { (cut_of number text.now).front ≡ result.text.now }
     ensures parts { (cut_of number text.now).parts ≡ parts_from result.part }
-    ensures room { IfSome result.part (λ part. part.number + 1 + length part.rest.now ≤ number + length text.now) }
+    ensures room { IfSome result.part (λ part. part.number + 1 + length part.rest.now ≤ number
+        + length text.now) }
     ensures small { length result.text.now ≤ length text.now }
     ensures shorter { IfSome result.part (λ part. length part.rest.now < length text.now) }
 {

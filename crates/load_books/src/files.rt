@@ -38,7 +38,8 @@ fn make_table(
     requires commands { are_good forms.now.commands.now ≡ true }
     requires layouts { are_layouts forms.now.layouts.now ≡ true }
     requires short { 1 + length part.now.text.now < 2 ^ 32 }
-    ensures said { GivesBytes (as_table part.now.number (table_said forms.now part.now.text.now)) result }
+    ensures said { GivesBytes (as_table part.now.number (table_said forms.now part.now.text.now))
+        result }
     ensures accepted { IfOk result (λ bytes. IsAccepted FileKind.Table bytes.items) }
 {
     match read_table(alloc, forms, part.text) {

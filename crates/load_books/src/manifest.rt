@@ -52,7 +52,8 @@ fn push_crc(bytes: &[u8], out: &mut Vec<u8>) -> Result<(), AllocError>
 
 /// Appends a space and the CRC of bytes, and ends the line.
 fn put_check(bytes: &[u8], out: &mut Vec<u8>) -> Result<(), AllocError>
-    ensures { OnOk result (out.new.items ≡ out.old.items ++ (field (hex (be16_bytes (crc_of 0 bytes.now))) ++ 10 ∷ [])) }
+    ensures { OnOk result (out.new.items ≡ out.old.items
+        ++ (field (hex (be16_bytes (crc_of 0 bytes.now))) ++ 10 ∷ [])) }
 {
     out.push(b' ')?;
     push_crc(bytes, out)?;
@@ -73,7 +74,8 @@ fn put_entry(kind: &[u8], name: &[u8], bytes: &[u8], out: &mut Vec<u8>) -> Resul
 
 /// Appends the line of a file.
 fn put_file(file: &BookFile<'_>, out: &mut Vec<u8>) -> Result<(), AllocError>
-    ensures { OnOk result (out.new.items ≡ out.old.items ++ entry (kind_word file.now.kind) file.now.name.now file.now.bytes.items) }
+    ensures { OnOk result (out.new.items ≡ out.old.items
+        ++ entry (kind_word file.now.kind) file.now.name.now file.now.bytes.items) }
 {
     put_entry(kind_word(file.kind), file.name, &file.bytes, out)
 }

@@ -112,7 +112,8 @@ fn show_activation<'a>(
     files: &[FilePart<'_>],
     others: &'a [u8],
 ) -> Result<ShownLine<'a>, BookReason>
-    ensures { GivesShown (line_shown (onto_line (codes "activate") (activate_others (map file_text files.now) (words others.now)))) result }
+    ensures { GivesShown (line_shown (onto_line (codes "activate")
+        (activate_others (map file_text files.now) (words others.now)))) result }
 {
     let Some((word, rest)) = split_word(others) else {
         return Ok(plain_line(b"activate", others));
@@ -131,7 +132,9 @@ fn show_activation<'a>(
 
 /// `send mm.load_file` and the words behind it.
 fn show_loading<'a>(files: &[FilePart<'_>], others: &'a [u8]) -> Result<ShownLine<'a>, BookReason>
-    ensures { GivesShown (line_shown (onto_line (codes "send") (onto_line (codes "mm.load_file") (load_others (map file_text files.now) (words others.now))))) result }
+    ensures { GivesShown (line_shown (onto_line (codes "send")
+        (onto_line (codes "mm.load_file") (load_others (map file_text files.now)
+        (words others.now))))) result }
 {
     let Some((word, rest)) = split_word(others) else {
         return Ok(plain_line(b"send mm.load_file", others));
@@ -159,7 +162,8 @@ fn show_loading<'a>(files: &[FilePart<'_>], others: &'a [u8]) -> Result<ShownLin
 
 /// `send` and the words behind it.
 fn show_sending<'a>(files: &[FilePart<'_>], others: &'a [u8]) -> Result<ShownLine<'a>, BookReason>
-    ensures { GivesShown (line_shown (onto_line (codes "send") (send_others (map file_text files.now) (words others.now)))) result }
+    ensures { GivesShown (line_shown (onto_line (codes "send")
+        (send_others (map file_text files.now) (words others.now)))) result }
 {
     match behind_word(b"mm.load_file", others) {
         Some(rest) => show_loading(files, rest),
@@ -198,7 +202,8 @@ fn show_line<'a>(files: &[FilePart<'_>], line: &'a [u8]) -> Result<ShownLine<'a>
 
 /// Appends a line of a plan, with numbers in place of names.
 fn put_replaced(files: &[FilePart<'_>], line: &[u8], out: &mut Vec<u8>) -> Result<(), LineError>
-    ensures { GivesLine (with_front out.old.items (line_shown (line_said (map file_text files.now) (words line.now)))) out.new.items result }
+    ensures { GivesLine (with_front out.old.items
+        (line_shown (line_said (map file_text files.now) (words line.now)))) out.new.items result }
 {
     let shown = match show_line(files, line) {
         Ok(shown) => shown,
@@ -218,7 +223,8 @@ pub(crate) fn put_plan(
     out: &mut Vec<u8>,
 ) -> Result<(), BookError>
     requires { 1 + length text.now < 2 ^ 32 }
-    ensures { GivesPlan (with_front out.old.items (plan_said part (map file_text files.now) 1 (whole_lines text.now))) out.new.items result }
+    ensures { GivesPlan (with_front out.old.items
+        (plan_said part (map file_text files.now) 1 (whole_lines text.now))) out.new.items result }
 {
     let mut rest = text;
     let mut number = 1;

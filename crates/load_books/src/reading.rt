@@ -37,7 +37,8 @@ struct BookHead<'a> {
 
 /// The name of a book, as the words behind `book` say it.
 fn book_name(behind: &[u8]) -> Option<&[u8]>
-    ensures { MatchOption result (name_alone (words behind.now) ≡ None) (λ name. name_alone (words behind.now) ≡ Some name.now) }
+    ensures { MatchOption result (name_alone (words behind.now)
+        ≡ None) (λ name. name_alone (words behind.now) ≡ Some name.now) }
 {
     let Some((name, rest)) = split_word(behind) else {
         return None;

@@ -70,7 +70,8 @@ pub(crate) fn make_scenario(
 ) -> Result<Vec<u8>, BookError>
     requires commands { are_good commands.now ≡ true }
     requires short { 1 + length plan.now.text.now < 2 ^ 32 }
-    ensures { GivesBytes (scenario_of commands.now (map file_text files.now) (plan_text plan.now)) result }
+    ensures { GivesBytes (scenario_of commands.now (map file_text files.now) (plan_text plan.now))
+        result }
 {
     let mut text = Vec::new(alloc);
     if let Err(error) = put_plan(plan.number, files, plan.text, &mut text) {

@@ -57,7 +57,8 @@ pub(crate) fn is_part_name(word: &[u8]) -> bool
 
 /// What stands behind the kind of a file: its name alone.
 fn read_name(kind: FileKind, behind: &[u8]) -> Result<Title<'_>, BookReason>
-    ensures { MatchResult result (λ title. file_titled kind (words behind.now) ≡ Ok (titled_by title)) (λ reason. file_titled kind (words behind.now) ≡ Err reason) }
+    ensures { MatchResult result (λ title. file_titled kind (words behind.now)
+        ≡ Ok (titled_by title)) (λ reason. file_titled kind (words behind.now) ≡ Err reason) }
 {
     let Some((name, rest)) = split_word(behind) else {
         return Err(BookReason::Name);
@@ -73,7 +74,8 @@ fn read_name(kind: FileKind, behind: &[u8]) -> Result<Title<'_>, BookReason>
 
 /// What the words behind `part` say.
 pub(crate) fn read_title(title: &[u8]) -> Result<Title<'_>, BookReason>
-    ensures { MatchResult result (λ read. title_said (words title.now) ≡ Ok (titled_by read)) (λ reason. title_said (words title.now) ≡ Err reason) }
+    ensures { MatchResult result (λ read. title_said (words title.now)
+        ≡ Ok (titled_by read)) (λ reason. title_said (words title.now) ≡ Err reason) }
 {
     let Some((kind, behind)) = split_word(title) else {
         return Err(BookReason::Kind);

@@ -41,7 +41,8 @@ pub fn header_fields() -> &'static [Field]
 pub(crate) fn behind_word<'a>(wanted: &[u8], line: &'a [u8]) -> Option<&'a [u8]>
     ensures { MatchOption result
         (begins wanted.now (words line.now) ≡ false)
-        (λ behind. (begins wanted.now (words line.now) ≡ true) × (words behind.now ≡ behind_first (words line.now))) }
+        (λ behind. (begins wanted.now (words line.now) ≡ true)
+        × (words behind.now ≡ behind_first (words line.now))) }
 {
     match split_word(line) {
         Some((word, behind)) if word == wanted => Some(behind),
@@ -82,7 +83,8 @@ pub(crate) fn push_load(
     file: &mut Vec<u8>,
 ) -> Result<(), AllocError>
     requires { length bytes.now ≤ 65536 }
-    ensures { OnOk result (file.new.items ≡ file.old.items ++ load_of address.now row.now bytes.now) }
+    ensures { OnOk result (file.new.items ≡ file.old.items
+        ++ load_of address.now row.now bytes.now) }
 {
     push_first(row, file)?;
     file.extend_from_slice(address)?;
@@ -119,7 +121,8 @@ pub(crate) fn show_words(
 ) -> Result<(), AllocError>
     requires fields { is_header fields.now ≡ true }
     requires long { 80 ≤ length file.now }
-    ensures { OnOk result (out.new.items ≡ out.old.items ++ header_shown fields.now (load_row file.now)) }
+    ensures { OnOk result (out.new.items ≡ out.old.items
+        ++ header_shown fields.now (load_row file.now)) }
 {
     put_row(file, row)?;
     if are_zeros(row) {

@@ -15,13 +15,17 @@ ghost use Rattle.load_texts.specs.Examples.{load_words, short_words, short_file,
 
 /// A file that a text says is accepted, and its address and its bytes are those of the text.
 pub fn texts_say_loads()
-    ensures load { (fs : List Field) (named text file : List ℕ) → load_said fs named text ≡ Ok file → SaysLoad named text file }
-    ensures address { (word text bytes : List ℕ) → behind_key (codes "address") word ≡ Some text → address_said word ≡ Ok bytes → number 4294967295 text ≡ Some (be32_at bytes 0) }
+    ensures load { (fs : List Field) (named text file : List ℕ) → load_said fs named text ≡ Ok file
+        → SaysLoad named text file }
+    ensures address { (word text bytes : List ℕ) → behind_key (codes "address") word ≡ Some text
+        → address_said word ≡ Ok bytes → number 4294967295 text ≡ Some (be32_at bytes 0) }
 {}
 
 /// The text of a file to be loaded that is accepted says its bytes, those of its headers too, whatever the fields are.
 pub fn loads_read_back()
-    ensures { (fs : List Field) (named file : List ℕ) → is_header fs ≡ true → AllByRecursion (λ b. b < 256) file → IsLoadOf file → load_said fs named (load_text fs file) ≡ Ok file }
+    ensures { (fs : List Field) (named file : List ℕ) → is_header fs ≡ true
+        → AllByRecursion (λ b. b < 256) file → IsLoadOf file
+        → load_said fs named (load_text fs file) ≡ Ok file }
 {}
 
 /// Literal texts and literal files: one with all words of the headers, one without, and one that asks for a file.

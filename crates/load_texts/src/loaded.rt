@@ -57,7 +57,8 @@ pub fn asked_file(text: &[u8]) -> Option<NamedFile<'_>>
 fn behind_path(line: &[u8]) -> Option<&[u8]>
     ensures { MatchOption result
         (path_said (words line.now) ≡ None)
-        (λ behind. ((path : List ℕ) × (path_said (words line.now) ≡ Some path)) × (words behind.now ≡ behind_first (words line.now))) }
+        (λ behind. ((path : List ℕ) × (path_said (words line.now) ≡ Some path))
+        × (words behind.now ≡ behind_first (words line.now))) }
 {
     match split_word(line) {
         Some((word, behind)) => match behind_key("file", word) {
@@ -76,7 +77,8 @@ pub(crate) fn read_body(
     out: &mut Vec<u8>,
 ) -> Result<(), ReadError>
     requires { line + length text.now < 2 ^ 32 }
-    ensures { GivesLoaded (with_front out.old.items (body_said named.now line (kept_of line text.now))) out.new.items result }
+    ensures { GivesLoaded (with_front out.old.items
+        (body_said named.now line (kept_of line text.now))) out.new.items result }
 {
     match next_line(text, line) {
         Some(next) => match behind_path(next.bytes) {
@@ -96,7 +98,9 @@ fn read_named(
     out: &mut Vec<u8>,
 ) -> Result<(), ReadError>
     requires { line + 1 + length rest.now < 2 ^ 32 }
-    ensures { GivesLoaded (with_front out.old.items (behind_named named.now line (words behind.now) (kept_of (line + 1) rest.now))) out.new.items result }
+    ensures { GivesLoaded (with_front out.old.items
+        (behind_named named.now line (words behind.now) (kept_of (line + 1) rest.now)))
+        out.new.items result }
 {
     if split_word(behind).is_some() {
         return Err(word_error(line, 2, Reason::Extra));
@@ -110,7 +114,8 @@ fn read_named(
 /// Reads lines of bytes up to the line `end`, and appends the bytes.
 fn read_lines(line: u32, text: &[u8], out: &mut Vec<u8>) -> Result<(), ReadError>
     requires { line + length text.now < 2 ^ 32 }
-    ensures { GivesLoaded (with_front out.old.items (loaded_said line (kept_of line text.now))) out.new.items result }
+    ensures { GivesLoaded (with_front out.old.items (loaded_said line (kept_of line text.now)))
+        out.new.items result }
 {
     let mut rest = text;
     let mut number = line;
@@ -131,7 +136,8 @@ fn read_lines(line: u32, text: &[u8], out: &mut Vec<u8>) -> Result<(), ReadError
 
 /// Reads a line of bytes, and appends them.
 fn read_line(number: u32, line: &[u8], out: &mut Vec<u8>) -> Result<(), ReadError>
-    ensures { GivesLoaded (with_front out.old.items (line_said number (words line.now))) out.new.items result }
+    ensures { GivesLoaded (with_front out.old.items (line_said number (words line.now)))
+        out.new.items result }
 {
     let Some(behind) = behind_word(b"bytes", line) else {
         return Err(ReadError::Fault(LoadFault::Word(number)));
@@ -147,7 +153,8 @@ fn read_line(number: u32, line: &[u8], out: &mut Vec<u8>) -> Result<(), ReadErro
 
 /// Reads the hexadecimal digits of a line, and appends the bytes that they say.
 fn read_digits(number: u32, digits: &[u8], out: &mut Vec<u8>) -> Result<(), ReadError>
-    ensures { GivesLoaded (with_front out.old.items (on_line number (some_bytes (hex_said digits.now)))) out.new.items result }
+    ensures { GivesLoaded (with_front out.old.items
+        (on_line number (some_bytes (hex_said digits.now)))) out.new.items result }
 {
     match read_block(digits, out) {
         Ok(true) => Ok(()),
@@ -159,7 +166,8 @@ fn read_digits(number: u32, digits: &[u8], out: &mut Vec<u8>) -> Result<(), Read
 /// Ends a text: no word stands behind `end`, and no line that says anything.
 fn end_lines(line: u32, behind: &[u8], rest: &[u8]) -> Result<(), ReadError>
     requires { line + 1 + length rest.now < 2 ^ 32 }
-    ensures { (old : List ℕ) → GivesLoaded (with_front old (as_load (ended [] line (words behind.now) (kept_of (line + 1) rest.now)))) old result }
+    ensures { (old : List ℕ) → GivesLoaded (with_front old
+        (as_load (ended [] line (words behind.now) (kept_of (line + 1) rest.now)))) old result }
 {
     if split_word(behind).is_some() {
         return Err(word_error(line, 2, Reason::Extra));

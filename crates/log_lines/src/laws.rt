@@ -39,7 +39,8 @@ pub fn request_lines_read_back()
     ensures reset { (frame : ℕ) → frame < 4294967296
         → IsReadAs (request_line frame outs.Reset) (at_frame frame LineItem.Reset) }
     ensures restart { (frame : ℕ) (name : List ℕ) → frame < 4294967296 → is_name name ≡ true
-        → IsReadAs (request_line frame (outs.Restart name)) (at_frame frame (LineItem.Restart name)) }
+        → IsReadAs (request_line frame (outs.Restart name))
+        (at_frame frame (LineItem.Restart name)) }
     ensures delete { (frame : ℕ) (name : List ℕ) → frame < 4294967296 → is_name name ≡ true
         → IsReadAs (request_line frame (outs.Delete name)) (at_frame frame (LineItem.Delete name)) }
 {}
@@ -49,7 +50,8 @@ pub fn item_lines_read_back()
     ensures made { (frame : ℕ) (packet : List ℕ) → frame < 4294967296 → IsPacketOfBytes packet
         → IsReadAs (item_line frame (outs.Made packet)) (at_frame frame (LineItem.Packet packet)) }
     ensures stored { (frame : ℕ) (packet : List ℕ) → frame < 4294967296 → IsPacketOfBytes packet
-        → IsReadAs (item_line frame (outs.Stored packet)) (at_frame frame (LineItem.Packet packet)) }
+        → IsReadAs (item_line frame (outs.Stored packet))
+        (at_frame frame (LineItem.Packet packet)) }
 {}
 
 /// A line that says something is the text of what it says, without its LF: no other line says it.
@@ -67,7 +69,8 @@ pub fn logs_read_back()
 
 /// A text that says lines alone, and isn't cut off, is the log of these lines.
 pub fn logs_are_exact()
-    ensures { (text : List ℕ) (lines : List LogLine) → log_said text ≡ map Ok lines → cut_in text ≡ None
+    ensures { (text : List ℕ) (lines : List LogLine) → log_said text ≡ map Ok lines
+        → cut_in text ≡ None
         → text ≡ flat_map line_text lines }
 {}
 
@@ -77,11 +80,14 @@ pub fn worked_lines()
         ≡ Ok (at_frame 0 (LineItem.Packet (0x08 ∷ 0x91 ∷ 0xC0 ∷ 0x00 ∷ 0x00 ∷ 0x0A ∷ 0x00 ∷ 0x00
         ∷ 0x03 ∷ 0xE8 ∷ 0x00 ∷ 0x00 ∷ 0x00 ∷ 0x01 ∷ 0x00 ∷ 0x01 ∷ 0x00 ∷ []))) }
     ensures limit { line_said (codes "99999 drop HS.EV limit 18AEC00000010088")
-        ≡ Ok (at_frame 99999 (dropped pipes.HsEv false (0x18 ∷ 0xAE ∷ 0xC0 ∷ 0 ∷ 0 ∷ 1 ∷ 0 ∷ 0x88 ∷ []))) }
+        ≡ Ok (at_frame 99999 (dropped pipes.HsEv false (0x18 ∷ 0xAE ∷ 0xC0 ∷ 0 ∷ 0 ∷ 1 ∷ 0 ∷ 0x88
+        ∷ []))) }
     ensures full { line_said (codes "4294967295 drop LC.TLM full 088AC000000100AF")
-        ≡ Ok (at_frame 4294967295 (dropped pipes.LcTlm true (0x08 ∷ 0x8A ∷ 0xC0 ∷ 0 ∷ 0 ∷ 1 ∷ 0 ∷ 0xAF ∷ []))) }
+        ≡ Ok (at_frame 4294967295 (dropped pipes.LcTlm true (0x08 ∷ 0x8A ∷ 0xC0 ∷ 0 ∷ 0 ∷ 1 ∷ 0
+        ∷ 0xAF ∷ []))) }
     ensures reset { line_said (codes "7 reset") ≡ Ok (at_frame 7 LineItem.Reset) }
-    ensures restart { line_said (codes "10 restart LOAD") ≡ Ok (at_frame 10 (LineItem.Restart (name_of (codes "LOAD")))) }
+    ensures restart { line_said (codes "10 restart LOAD")
+        ≡ Ok (at_frame 10 (LineItem.Restart (name_of (codes "LOAD")))) }
     ensures delete { line_said (codes "256 delete Abcdefghijklmnopq_9")
         ≡ Ok (at_frame 256 (LineItem.Delete (name_of (codes "Abcdefghijklmnopq_9")))) }
 {}
@@ -103,7 +109,8 @@ pub fn worked_faults()
     ensures name { line_said (codes "7 restart A-B") ≡ Err LineFault.Name }
     ensures digits { line_said (codes "7 pkt 18aec00000010088") ≡ Err LineFault.Digits }
     ensures odd { line_said (codes "7 pkt 18AEC0000001008") ≡ Err LineFault.Digits }
-    ensures size { line_said (codes "7 pkt 18AEC00000020088") ≡ Err (LineFault.Packet packet_faults.Length) }
+    ensures size { line_said (codes "7 pkt 18AEC00000020088")
+        ≡ Err (LineFault.Packet packet_faults.Length) }
     ensures long { line_said (replicate 641 0x31) ≡ Err LineFault.Long }
 {}
 
@@ -111,7 +118,8 @@ pub fn worked_faults()
 pub fn worked_log()
     ensures said { log_said (codes "7 reset\nno line\n7 res")
         ≡ Ok (at_frame 7 LineItem.Reset) ∷ Err LineFault.Frame ∷ [] }
-    ensures cut { cut_in (codes "7 reset\nno line\n7 res") ≡ Some (record { line = 3; fault = LineFault.Cut }) }
+    ensures cut { cut_in (codes "7 reset\nno line\n7 res")
+        ≡ Some (record { line = 3; fault = LineFault.Cut }) }
     ensures whole { cut_in (codes "7 reset\nno line\n") ≡ None }
     ensures nothing { log_said [] ≡ [] }
 {}

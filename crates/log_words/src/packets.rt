@@ -24,7 +24,8 @@ pub fn show_packet(
     out: &mut Vec<u8>,
 ) -> Result<(), AllocError>
     requires { IsGood vocabulary.now }
-    ensures { OnOk result (out.new.items ≡ out.old.items ++ packet_words vocabulary.now packet.now) }
+    ensures { OnOk result (out.new.items ≡ out.old.items
+        ++ packet_words vocabulary.now packet.now) }
 {
     if packet.is_command() {
         return show_command(vocabulary.commands, packet, out);

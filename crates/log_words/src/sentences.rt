@@ -23,7 +23,8 @@ pub fn show_line(
     out: &mut Vec<u8>,
 ) -> Result<(), AllocError>
     requires { IsGood vocabulary.now }
-    ensures { OnOk result (out.new.items ≡ out.old.items ++ sentence_of vocabulary.now epoch line.now) }
+    ensures { OnOk result (out.new.items ≡ out.old.items
+        ++ sentence_of vocabulary.now epoch line.now) }
 {
     push_time(epoch, line.frame, out)?;
     out.extend_from_slice(b": ")?;

@@ -28,7 +28,8 @@ impl Vocabulary {
         ensures commands { map placed_command result.commands.now ≡ command_dictionary }
         ensures telemetry { map placed_row result.telemetry.now ≡ telemetry_dictionary }
         ensures events { map placed_event result.events.now ≡ event_table }
-        ensures sentences { (epoch : Option ℕ) (line : LogLine) → sentence_of result epoch line ≡ sentence_of own_words epoch line }
+        ensures sentences { (epoch : Option ℕ) (line : LogLine)
+            → sentence_of result epoch line ≡ sentence_of own_words epoch line }
     {
         Vocabulary {
             commands: commands(),

@@ -44,7 +44,8 @@ pub(crate) fn allocate<A: Allocator>(
     len: usize,
 ) -> Result<(*mut u8, Bytes, Deed<A>), AllocError>
     requires { len < 2 ^ 63 }
-    ensures { IfOk result (λ r. (r.1.at ≡ r.0) × (r.1.items ≡ []) × (r.1.spare ≡ len) × (r.2.at ≡ r.0) × (r.2.len ≡ len) × (r.2.alloc ≡ alloc.now)) }
+    ensures { IfOk result (λ r. (r.1.at ≡ r.0) × (r.1.items ≡ []) × (r.1.spare ≡ len)
+        × (r.2.at ≡ r.0) × (r.2.len ≡ len) × (r.2.alloc ≡ alloc.now)) }
 {
     match alloc.allocate(len, 1) {
         Ok(ptr) => Ok((ptr, Bytes {}, Deed { mark: PhantomData })),
@@ -60,7 +61,8 @@ pub(crate) fn deallocate<A: Allocator>(
     bytes: Bytes,
     deed: Deed<A>,
 )
-    requires { (bytes.at ≡ ptr) × (length bytes.items ≡ len) × (bytes.spare ≡ 0) × (deed.at ≡ ptr) × (deed.len ≡ len) × (deed.alloc ≡ alloc.now) }
+    requires { (bytes.at ≡ ptr) × (length bytes.items ≡ len) × (bytes.spare ≡ 0) × (deed.at ≡ ptr)
+        × (deed.len ≡ len) × (deed.alloc ≡ alloc.now) }
 {
     let Bytes {} = bytes;
     let Deed { mark: _ } = deed;
@@ -75,7 +77,8 @@ impl Bytes {
     /// Writes the first place that holds nothing yet.
     pub(crate) fn append(&mut self, ptr: *mut u8, len: usize, byte: u8)
         requires { (ptr ≡ self.old.at) × (len ≡ length self.old.items) × (0 < self.old.spare) }
-        ensures { (self.new.at ≡ self.old.at) × (self.new.items ≡ self.old.items ++ byte ∷ []) × (self.new.spare + 1 ≡ self.old.spare) }
+        ensures { (self.new.at ≡ self.old.at) × (self.new.items ≡ self.old.items ++ byte ∷ [])
+            × (self.new.spare + 1 ≡ self.old.spare) }
     {
         unsafe { *ptr.add(len) = byte }
     }

@@ -32,7 +32,8 @@ impl Span {
     /// The span with what one operation more writes from one address to before another.
     fn with(self, op: &MemOp, low: u64, high: u64) -> Span
         ensures wider { (result.first ≤ self.first) × (self.end ≤ result.end) }
-        ensures holds { 0 < op_len op.now → op_at op.now < high → low < op_at op.now + op_len op.now → (result.first ≤ op_at op.now) × (op_at op.now + op_len op.now ≤ result.end) }
+        ensures holds { 0 < op_len op.now → op_at op.now < high → low < op_at op.now + op_len op.now
+            → (result.first ≤ op_at op.now) × (op_at op.now + op_len op.now ≤ result.end) }
     {
         if !op.writes_in(low, high) {
             return self;
@@ -105,7 +106,9 @@ fn land_in_turn<G: Gate>(gate: &G, at: u32, place: u32, landing: &Landing<'_, '_
     requires fits { at + length bytes.old ≤ 2 ^ 32 }
     requires sound { All IsSound landing.now.ops.now }
     requires backed { All (IsBacked (loads_of landing.now.files.now)) landing.now.ops.now }
-    ensures { (k : ℕ) → k < length bytes.old → slice_index bytes.new k ≡ landed (loads_of landing.now.files.now) landing.now.ops.now (at + k) (slice_index bytes.old k) }
+    ensures { (k : ℕ) → k < length bytes.old → slice_index bytes.new k
+        ≡ landed (loads_of landing.now.files.now) landing.now.ops.now (at
+        + k) (slice_index bytes.old k) }
 {
     for bank in 0..bytes.len().div_ceil(BANK_SIZE) {
         let from = bank * BANK_SIZE;
@@ -137,7 +140,9 @@ fn land_beside<R: Threads + Sync, G: Gate>(
     requires fits { at + length bytes.old ≤ 2 ^ 32 }
     requires sound { All IsSound landing.now.ops.now }
     requires backed { All (IsBacked (loads_of landing.now.files.now)) landing.now.ops.now }
-    ensures { (k : ℕ) → k < length bytes.old → slice_index bytes.new k ≡ landed (loads_of landing.now.files.now) landing.now.ops.now (at + k) (slice_index bytes.old k) }
+    ensures { (k : ℕ) → k < length bytes.old → slice_index bytes.new k
+        ≡ landed (loads_of landing.now.files.now) landing.now.ops.now (at
+        + k) (slice_index bytes.old k) }
 {
     let banks = bytes.len().div_ceil(BANK_SIZE);
     if workers == 1 || banks == 1 {
@@ -147,8 +152,13 @@ fn land_beside<R: Threads + Sync, G: Gate>(
     let threads = workers.min(written_banks(at, banks, landing.ops)).max(1);
     let share = banks.div_ceil(threads as usize) * BANK_SIZE;
     let land = |start: usize, part: &mut [u8]|
-        requires { (place * bank_size ≤ at) × (0 < length part.old) × (at + start + length part.old ≤ 2 ^ 32) × All IsSound landing.now.ops.now × All (IsBacked (loads_of landing.now.files.now)) landing.now.ops.now }
-        ensures { (k : ℕ) → k < length part.old → slice_index part.new k ≡ landed (loads_of landing.entry.now.files.now) landing.entry.now.ops.now (at + start + k) (slice_index part.old k) }
+        requires { (place * bank_size ≤ at) × (0 < length part.old)
+            × (at + start + length part.old ≤ 2 ^ 32) × All IsSound landing.now.ops.now
+            × All (IsBacked (loads_of landing.now.files.now)) landing.now.ops.now }
+        ensures { (k : ℕ) → k < length part.old
+            → slice_index part.new k ≡ landed
+            (loads_of landing.entry.now.files.now) landing.entry.now.ops.now (at + start
+            + k) (slice_index part.old k) }
     {
         let bank = (start / BANK_SIZE) as u32;
         land_in_turn(gate, at + start as u32, place + bank, landing, part);
@@ -170,7 +180,9 @@ fn land_region<R: Threads + Sync, G: Gate>(
     requires fits { at + length bytes.old ≤ 2 ^ 32 }
     requires sound { All IsSound landing.now.ops.now }
     requires backed { All (IsBacked (loads_of landing.now.files.now)) landing.now.ops.now }
-    ensures { (k : ℕ) → k < length bytes.old → slice_index bytes.new k ≡ landed (loads_of landing.now.files.now) landing.now.ops.now (at + k) (slice_index bytes.old k) }
+    ensures { (k : ℕ) → k < length bytes.old → slice_index bytes.new k
+        ≡ landed (loads_of landing.now.files.now) landing.now.ops.now (at
+        + k) (slice_index bytes.old k) }
 {
     let start = u64::from(at);
     let span = span_of(landing.ops, start, start + bytes.len() as u64);
@@ -208,7 +220,8 @@ pub(crate) fn land_regions<R: Threads + Sync, G: Gate>(
     requires within { list_any ends_late regions.now ≡ false }
     requires sound { All IsSound landing.now.ops.now }
     requires backed { All (IsBacked (loads_of landing.now.files.now)) landing.now.ops.now }
-    ensures { cut regions.now block.new ≡ changed (landed (loads_of landing.now.files.now) landing.now.ops.now) (cut regions.now block.old) }
+    ensures { cut regions.now block.new ≡ changed
+        (landed (loads_of landing.now.files.now) landing.now.ops.now) (cut regions.now block.old) }
 {
     let mut from = 0;
     for region in regions {

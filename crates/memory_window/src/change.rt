@@ -18,7 +18,8 @@ pub(crate) trait Change {
     fn apply(&self, at: u32, bank: &mut [u8])
         requires fits { at + length bank.old ≤ 2 ^ 32 }
         requires possible { is_possible self.now }
-        ensures { (k : ℕ) → k < length bank.old → slice_index bank.new k ≡ byte self.now (at + k) (slice_index bank.old k) };
+        ensures { (k : ℕ) → k < length bank.old
+            → slice_index bank.new k ≡ byte self.now (at + k) (slice_index bank.old k) };
 }
 
 /// One byte that becomes a value.

@@ -38,7 +38,8 @@ pub fn bank_land(at: u32, bank: &mut [u8], ops: &[MemOp], files: &Files)
     requires fits { at + length bank.old ≤ 2 ^ 32 }
     requires sound { All IsSound ops.now }
     requires backed { All (IsBacked (loads_of files.now)) ops.now }
-    ensures { (k : ℕ) → k < length bank.old → slice_index bank.new k ≡ landed (loads_of files.now) ops.now (at + k) (slice_index bank.old k) }
+    ensures { (k : ℕ) → k < length bank.old → slice_index bank.new k
+        ≡ landed (loads_of files.now) ops.now (at + k) (slice_index bank.old k) }
 {
     for op in ops {
         land_one(at, bank, op, files);
@@ -50,7 +51,8 @@ fn land_one(at: u32, bank: &mut [u8], op: &MemOp, files: &Files)
     requires fits { at + length bank.old ≤ 2 ^ 32 }
     requires sound { IsSound op.now }
     requires backed { IsBacked (loads_of files.now) op.now }
-    ensures { (k : ℕ) → k < length bank.old → slice_index bank.new k ≡ land_byte (loads_of files.now) op.now (at + k) (slice_index bank.old k) }
+    ensures { (k : ℕ) → k < length bank.old → slice_index bank.new k
+        ≡ land_byte (loads_of files.now) op.now (at + k) (slice_index bank.old k) }
 {
     let low = u64::from(at);
     let start = u64::from(op.at());
@@ -68,7 +70,8 @@ fn write(part: &mut [u8], op: &MemOp, skip: u32, files: &Files)
     requires sound { IsSound op.now }
     requires backed { IsBacked (loads_of files.now) op.now }
     requires within { skip + length part.old ≤ op_len op.now }
-    ensures { (k : ℕ) → k < length part.old → slice_index part.new k ≡ op_byte (loads_of files.now) op.now (skip + k) }
+    ensures { (k : ℕ) → k < length part.old → slice_index part.new k
+        ≡ op_byte (loads_of files.now) op.now (skip + k) }
 {
     match op {
         MemOp::Poke { size, value, .. } => write_value(part, *size, *value, skip),
@@ -87,7 +90,8 @@ fn write(part: &mut [u8], op: &MemOp, skip: u32, files: &Files)
 /// Copies the bytes from the one in place `skip` on.
 fn copy(part: &mut [u8], bytes: &[u8], skip: u32)
     requires { skip + length part.old ≤ length bytes.now }
-    ensures { (k : ℕ) → k < length part.old → slice_index part.new k ≡ slice_index bytes.now (skip + k) }
+    ensures { (k : ℕ) → k < length part.old → slice_index part.new k
+        ≡ slice_index bytes.now (skip + k) }
 {
     let from = skip as usize;
     part.copy_from_slice(&bytes[from..from + part.len()]);
@@ -97,7 +101,8 @@ fn copy(part: &mut [u8], bytes: &[u8], skip: u32)
 fn write_value(part: &mut [u8], size: u8, value: u32, skip: u32)
     requires size { size ≤ 32 }
     requires within { skip + length part.old ≤ size / 8 }
-    ensures { (k : ℕ) → k < length part.old → slice_index part.new k ≡ value / 2 ^ (8 * (size / 8 - 1 - (skip + k))) % 256 }
+    ensures { (k : ℕ) → k < length part.old → slice_index part.new k
+        ≡ value / 2 ^ (8 * (size / 8 - 1 - (skip + k))) % 256 }
 {
     for k in 0..part.len() {
         part[k] = byte_of(size, value, skip + k as u32);

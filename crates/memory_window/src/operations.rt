@@ -55,7 +55,8 @@ impl MemOp {
 
     /// Whether it writes a byte from one address to before another.
     pub(crate) fn writes_in(&self, low: u64, high: u64) -> bool
-        ensures { result ≡ false → 0 < op_len self.now → op_at self.now < high → op_at self.now + op_len self.now ≤ low }
+        ensures { result ≡ false → 0 < op_len self.now → op_at self.now < high
+            → op_at self.now + op_len self.now ≤ low }
     {
         let (at, len) = (u64::from(self.at()), u64::from(self.len()));
         0 < len && at < high && low < at + len

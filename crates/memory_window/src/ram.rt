@@ -146,7 +146,8 @@ fn change_store<C: Change>(store: &mut Store, regions: &[Region], change: &C)
     requires whole { total_of regions.now ≡ length store.old }
     requires within { list_any ends_late regions.now ≡ false }
     requires possible { C.is_possible change.now }
-    ensures areas { cut regions.now store.new ≡ changed (C.byte change.now) (cut regions.now store.old) }
+    ensures areas { cut regions.now store.new
+        ≡ changed (C.byte change.now) (cut regions.now store.old) }
     ensures len { length store.new ≡ length store.old }
 {
     let size = store.len();
@@ -167,7 +168,9 @@ fn land_store<R: Threads + Sync, G: Gate>(
     requires within { list_any ends_late regions.now ≡ false }
     requires sound { All IsSound landing.now.ops.now }
     requires backed { All (IsBacked (loads_of landing.now.files.now)) landing.now.ops.now }
-    ensures areas { cut regions.now store.new ≡ changed (landed (loads_of landing.now.files.now) landing.now.ops.now) (cut regions.now store.old) }
+    ensures areas { cut regions.now store.new
+        ≡ changed (landed (loads_of landing.now.files.now) landing.now.ops.now)
+        (cut regions.now store.old) }
     ensures len { length store.new ≡ length store.old }
 {
     let size = store.len();

@@ -28,7 +28,8 @@ pub struct Window<'a> {
 
 impl<'a> Part<'a> {
     fn unless_guarded(self) -> Result<(), AccessFault>
-        ensures { result ≡ (if is_eeprom self.entry.region.kind && self.entry.guarded then Err AccessFault.Protected else Ok tt) }
+        ensures { result ≡ (if is_eeprom self.entry.region.kind && self.entry.guarded
+            then Err AccessFault.Protected else Ok tt) }
     {
         if self.region.kind.is_eeprom() && self.guarded {
             return Err(AccessFault::Protected);
@@ -48,7 +49,11 @@ impl<'a> Window<'a> {
         requires flags { length flags.now ≡ 8 }
         requires whole { total_of regions.now ≡ length block.now }
         requires within { list_any ends_late regions.now ≡ false }
-        ensures { seen result ≡ record { areas = cut regions.entry.now block.entry.now; guarded = take (length regions.entry.now) flags.entry.now } }
+        ensures { seen result ≡ record {
+          areas = cut regions.entry.now block.entry.now;
+          guarded
+              = take (length regions.entry.now) flags.entry.now;
+        } }
     {
         Window {
             regions,
@@ -60,9 +65,11 @@ impl<'a> Window<'a> {
     /// The part in which a range lies.
     fn home(self, at: u32, len: u32) -> Option<Part<'a>>
         ensures area { home (seen self.entry).areas at len ≡ option_map area_of result }
-        ensures inside { IfSome result (λ p. (p.region.start ≤ at) × (at + len ≤ p.region.start + length p.bytes.now)) }
+        ensures inside { IfSome result (λ p. (p.region.start ≤ at)
+            × (at + len ≤ p.region.start + length p.bytes.now)) }
         ensures ends { IfSome result (λ p. at + len ≤ 2 ^ 32) }
-        ensures guard { IfSome result (λ p. is_guarded (seen self.entry).areas (seen self.entry).guarded at len ≡ (is_eeprom p.region.kind && p.guarded)) }
+        ensures guard { IfSome result (λ p. is_guarded (seen self.entry).areas
+            (seen self.entry).guarded at len ≡ (is_eeprom p.region.kind && p.guarded)) }
     {
         let mut from = 0;
         for (i, region) in self.regions.iter().enumerate() {
@@ -82,10 +89,13 @@ impl<'a> Window<'a> {
     /// The part that a read of `size` bits reaches.
     fn reach(self, size: u8, at: u32) -> Result<Part<'a>, AccessFault>
         requires { IsTrue (is_size size) }
-        ensures ok { IfOk result (λ p. read_of size (seen self.entry) at ≡ Ok (number_of (part_of at (size / 8) (area_of p)))) }
+        ensures ok { IfOk result (λ p. read_of size (seen self.entry) at
+            ≡ Ok (number_of (part_of at (size / 8) (area_of p)))) }
         ensures fault { IfErr result (λ fault. read_of size (seen self.entry) at ≡ Err fault) }
-        ensures inside { IfOk result (λ p. (p.region.start ≤ at) × (at + size / 8 ≤ p.region.start + length p.bytes.now)) }
-        ensures guard { IfOk result (λ p. is_guarded (seen self.entry).areas (seen self.entry).guarded at (size / 8) ≡ (is_eeprom p.region.kind && p.guarded)) }
+        ensures inside { IfOk result (λ p. (p.region.start ≤ at)
+            × (at + size / 8 ≤ p.region.start + length p.bytes.now)) }
+        ensures guard { IfOk result (λ p. is_guarded (seen self.entry).areas
+            (seen self.entry).guarded at (size / 8) ≡ (is_eeprom p.region.kind && p.guarded)) }
     {
         let len = u32::from(size / 8);
         let Some(part) = self.home(at, len) else {
@@ -102,11 +112,14 @@ impl<'a> Window<'a> {
 
     /// The part that holds a range.
     fn reach_range(self, at: u32, len: u32) -> Result<Part<'a>, AccessFault>
-        ensures ok { IfOk result (λ p. bytes_of (seen self.entry) at len ≡ Ok (part_of at len (area_of p))) }
+        ensures ok { IfOk result (λ p. bytes_of (seen self.entry) at len
+            ≡ Ok (part_of at len (area_of p))) }
         ensures fault { IfErr result (λ fault. bytes_of (seen self.entry) at len ≡ Err fault) }
-        ensures inside { IfOk result (λ p. (p.region.start ≤ at) × (at + len ≤ p.region.start + length p.bytes.now)) }
+        ensures inside { IfOk result (λ p. (p.region.start ≤ at)
+            × (at + len ≤ p.region.start + length p.bytes.now)) }
         ensures ends { IfOk result (λ p. at + len ≤ 2 ^ 32) }
-        ensures guard { IfOk result (λ p. is_guarded (seen self.entry).areas (seen self.entry).guarded at len ≡ (is_eeprom p.region.kind && p.guarded)) }
+        ensures guard { IfOk result (λ p. is_guarded (seen self.entry).areas
+            (seen self.entry).guarded at len ≡ (is_eeprom p.region.kind && p.guarded)) }
     {
         let Some(part) = self.home(at, len) else {
             return Err(AccessFault::Outside);
@@ -145,7 +158,8 @@ impl<'a> Window<'a> {
     /// The `len` bytes from `at` on. Nothing is copied.
     pub fn bytes(self, at: u32, len: u32) -> Result<&'a [u8], AccessFault>
         requires { 0 < len }
-        ensures bytes { MatchResult result (λ bytes. bytes_of (seen self.entry) at len ≡ Ok bytes.now) (λ fault. bytes_of (seen self.entry) at len ≡ Err fault) }
+        ensures bytes { MatchResult result (λ bytes. bytes_of (seen self.entry) at len
+            ≡ Ok bytes.now) (λ fault. bytes_of (seen self.entry) at len ≡ Err fault) }
         ensures len { IfOk result (λ bytes. length bytes.now ≡ len) }
         ensures ends { IfOk result (λ bytes. at + len ≤ 2 ^ 32) }
     {
@@ -170,14 +184,16 @@ impl<'a> Window<'a> {
 
     fn admits_poke(self, size: u8, at: u32) -> Result<(), AccessFault>
         requires { IsTrue (is_size size) }
-        ensures { result ≡ unless_guarded (read_of size (seen self.entry) at) (is_guarded (seen self.entry).areas (seen self.entry).guarded at (size / 8)) }
+        ensures { result ≡ unless_guarded (read_of size (seen self.entry) at)
+            (is_guarded (seen self.entry).areas (seen self.entry).guarded at (size / 8)) }
     {
         let part = self.reach(size, at)?;
         part.unless_guarded()
     }
 
     fn admits_range(self, at: u32, len: u32) -> Result<(), AccessFault>
-        ensures { result ≡ unless_guarded (bytes_of (seen self.entry) at len) (is_guarded (seen self.entry).areas (seen self.entry).guarded at len) }
+        ensures { result ≡ unless_guarded (bytes_of (seen self.entry) at len)
+            (is_guarded (seen self.entry).areas (seen self.entry).guarded at len) }
     {
         let part = self.reach_range(at, len)?;
         part.unless_guarded()

@@ -29,7 +29,8 @@ pub(crate) fn reply(window: Window<'_>, instruction: &Instruction, now: u32, out
     requires sized { is_sized instruction.now ≡ true }
     requires room { length out.old.items + 16 ≤ out.old.room }
     ensures items { out.new ≡ adding out.old (replies_to now (seen window.entry) instruction.now) }
-    ensures counted { AllPass is_item_counted out.old.items → AllPass is_item_counted out.new.items }
+    ensures counted { AllPass is_item_counted out.old.items
+        → AllPass is_item_counted out.new.items }
     ensures few { length out.new.items ≤ length out.old.items + 16 }
     ensures room { out.new.room ≡ out.old.room }
 {
@@ -50,8 +51,10 @@ pub(crate) fn reply(window: Window<'_>, instruction: &Instruction, now: u32, out
 fn reply_read(window: Window<'_>, size: u8, at: u32, now: u32, out: &mut Outbox)
     requires sized { is_size size ≡ true }
     requires room { length out.old.items + 16 ≤ out.old.room }
-    ensures items { out.new ≡ adding out.old (read_items now size at (value_at (seen window.entry) size at)) }
-    ensures counted { AllPass is_item_counted out.old.items → AllPass is_item_counted out.new.items }
+    ensures items { out.new ≡ adding out.old (read_items now size at
+        (value_at (seen window.entry) size at)) }
+    ensures counted { AllPass is_item_counted out.old.items
+        → AllPass is_item_counted out.new.items }
     ensures few { length out.new.items ≤ length out.old.items + 16 }
     ensures room { out.new.room ≡ out.old.room }
 {
@@ -66,8 +69,10 @@ fn reply_read(window: Window<'_>, size: u8, at: u32, now: u32, out: &mut Outbox)
 fn reply_range(window: Window<'_>, at: u32, len: u32, now: u32, out: &mut Outbox)
     requires sized { is_dump_len len ≡ true }
     requires room { length out.old.items + 16 ≤ out.old.room }
-    ensures items { out.new ≡ adding out.old (range_items now at (range_at (seen window.entry) at len)) }
-    ensures counted { AllPass is_item_counted out.old.items → AllPass is_item_counted out.new.items }
+    ensures items { out.new ≡ adding out.old (range_items now at
+        (range_at (seen window.entry) at len)) }
+    ensures counted { AllPass is_item_counted out.old.items
+        → AllPass is_item_counted out.new.items }
     ensures few { length out.new.items ≤ length out.old.items + 16 }
     ensures room { out.new.room ≡ out.old.room }
 {
@@ -83,7 +88,8 @@ fn dump(bytes: &[u8], at: u32, now: u32, out: &mut Outbox)
     requires ends { at + length bytes.now ≤ 2 ^ 32 }
     requires room { length out.old.items + 16 ≤ out.old.room }
     ensures items { out.new ≡ adding out.old (dump_items now at bytes.now) }
-    ensures counted { AllPass is_item_counted out.old.items → AllPass is_item_counted out.new.items }
+    ensures counted { AllPass is_item_counted out.old.items
+        → AllPass is_item_counted out.new.items }
     ensures few { length out.new.items ≤ length out.old.items + 16 }
     ensures room { out.new.room ≡ out.old.room }
 {

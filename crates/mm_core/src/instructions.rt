@@ -104,7 +104,8 @@ impl Command for Instruction {
 pub(crate) fn leave_operation(files: &Files, instruction: &Instruction, ops: &mut Ops)
     requires sized { is_sized instruction.now ≡ true }
     requires room { length ops.old < 16 }
-    ensures { ops.new ≡ ops.old ++ cons_option (operation_of (loads_of files.now) instruction.now) [] }
+    ensures { ops.new ≡ ops.old ++ cons_option (operation_of (loads_of files.now) instruction.now)
+        [] }
 {
     match instruction {
         Instruction::Plain => {}
@@ -135,7 +136,8 @@ pub(crate) fn leave_operation(files: &Files, instruction: &Instruction, ops: &mu
 /// Puts the operation that loads the file of a number behind the others, where there is one.
 fn leave_file(files: &Files, load: u16, ops: &mut Ops)
     requires room { length ops.old < 16 }
-    ensures { ops.new ≡ ops.old ++ cons_option (file_operation load (nth (loads_of files.now) load)) [] }
+    ensures { ops.new ≡ ops.old ++ cons_option (file_operation load (nth (loads_of files.now) load))
+        [] }
 {
     match files.load(u32::from(load)) {
         None => {}

@@ -42,7 +42,8 @@ pub(crate) fn protection_of(window: Window<'_>, region: u8) -> Option<bool>
 #[tactic(auto, unfolding(crate::specs::Reading::range_at))]
 pub(crate) fn range_at(window: Window<'_>, at: u32, len: u32) -> Result<&[u8], AccessFault>
     requires { 0 < len }
-    ensures bytes { MatchResult result (λ bytes. range_at (seen window.entry) at len ≡ Ok bytes.now) (λ fault. range_at (seen window.entry) at len ≡ Err fault) }
+    ensures bytes { MatchResult result (λ bytes. range_at (seen window.entry) at len
+        ≡ Ok bytes.now) (λ fault. range_at (seen window.entry) at len ≡ Err fault) }
     ensures len { IfOk result (λ bytes. length bytes.now ≡ len) }
     ensures ends { IfOk result (λ bytes. at + len ≤ 2 ^ 32) }
 {

@@ -28,9 +28,13 @@ impl Mm {
     #[inline(always)]
     pub fn is_idle(&self, commands: &[Packet]) -> bool
         ensures exact { result ≡ is_idle_on commands.now }
-        ensures stands { (history : List Input) (input : Input) → result ≡ true → input.commands ≡ commands.now → Stands history self.now → Stands (history ++ input ∷ []) self.now }
-        ensures items { (history : List Input) (input : Input) → result ≡ true → input.commands ≡ commands.now → mm_items history input ≡ [] }
-        ensures operations { (input : Input) → result ≡ true → input.commands ≡ commands.now → mm_operations input ≡ [] }
+        ensures stands { (history : List Input) (input : Input) → result ≡ true
+            → input.commands ≡ commands.now → Stands history self.now
+            → Stands (history ++ input ∷ []) self.now }
+        ensures items { (history : List Input) (input : Input) → result ≡ true
+            → input.commands ≡ commands.now → mm_items history input ≡ [] }
+        ensures operations { (input : Input) → result ≡ true → input.commands ≡ commands.now
+            → mm_operations input ≡ [] }
     {
         commands.is_empty()
     }

@@ -100,8 +100,10 @@ impl Mm {
         requires empty { out.old.items ≡ [] }
         requires room { MOST_ITEMS ≤ out.old.room }
         requires no_ops { ops.old ≡ [] }
-        ensures stands { (history : List Input) → Stands history self.now → Stands (history ++ input_of now commands.now window.entry files.now ∷ []) next.new }
-        ensures items { (history : List Input) → Stands history self.now → out.new.items ≡ mm_items history (input_of now commands.now window.entry files.now) }
+        ensures stands { (history : List Input) → Stands history self.now
+            → Stands (history ++ input_of now commands.now window.entry files.now ∷ []) next.new }
+        ensures items { (history : List Input) → Stands history self.now
+            → out.new.items ≡ mm_items history (input_of now commands.now window.entry files.now) }
         ensures ops { ops.new ≡ mm_operations (input_of now commands.now window.entry files.now) }
         ensures admitted { All (Admitted (seen window.entry)) ops.new }
         ensures backed { All (IsBacked (loads_of files.now)) ops.new }
@@ -129,8 +131,10 @@ impl Mm {
         requires empty { out.old.items ≡ [] }
         requires room { MOST_ITEMS ≤ out.old.room }
         requires no_ops { ops.old ≡ [] }
-        ensures stands { (history : List Input) → Stands history self.old → Stands (history ++ input_of now commands.now window.entry files.now ∷ []) self.new }
-        ensures items { (history : List Input) → Stands history self.old → out.new.items ≡ mm_items history (input_of now commands.now window.entry files.now) }
+        ensures stands { (history : List Input) → Stands history self.old
+            → Stands (history ++ input_of now commands.now window.entry files.now ∷ []) self.new }
+        ensures items { (history : List Input) → Stands history self.old
+            → out.new.items ≡ mm_items history (input_of now commands.now window.entry files.now) }
         ensures ops { ops.new ≡ mm_operations (input_of now commands.now window.entry files.now) }
         ensures admitted { All (Admitted (seen window.entry)) ops.new }
         ensures backed { All (IsBacked (loads_of files.now)) ops.new }

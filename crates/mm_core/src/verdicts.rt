@@ -54,7 +54,8 @@ impl Reason for Refusal {
 
 /// A command's own refusal.
 pub(crate) fn own_refusal(reads: Reads<'_>, instruction: &Instruction) -> Option<Refusal>
-    ensures refusal { result ≡ own_refusal (seen_in reads.entry.window reads.entry.files.now) instruction.now }
+    ensures refusal { result ≡ own_refusal (seen_in reads.entry.window reads.entry.files.now)
+        instruction.now }
     ensures has_bytes { result ≡ None → HasBytes (loads_of reads.entry.files.now) instruction.now }
 {
     let window = reads.window;
@@ -71,7 +72,8 @@ pub(crate) fn own_refusal(reads: Reads<'_>, instruction: &Instruction) -> Option
 }
 
 fn peek_refusal(window: Window<'_>, size: u8, at: u32) -> Option<Refusal>
-    ensures { result ≡ (if is_size size then access_refusal (value_at (seen window.entry) size at) else Some Refusal.Size) }
+    ensures { result ≡ (if is_size size then access_refusal (value_at (seen window.entry) size at)
+        else Some Refusal.Size) }
 {
     if !is_size(size) {
         return Some(Refusal::Size);
@@ -80,7 +82,9 @@ fn peek_refusal(window: Window<'_>, size: u8, at: u32) -> Option<Refusal>
 }
 
 fn poke_refusal(window: Window<'_>, size: u8, at: u32, value: u32) -> Option<Refusal>
-    ensures { result ≡ (if is_size size then access_refusal (admission_of (seen window.entry) (ops.Poke size at (value % 2 ^ size))) else Some Refusal.Size) }
+    ensures { result ≡ (if is_size size then access_refusal
+        (admission_of (seen window.entry) (ops.Poke size at (value % 2 ^ size)))
+        else Some Refusal.Size) }
 {
     if !is_size(size) {
         return Some(Refusal::Size);
@@ -94,7 +98,9 @@ fn poke_refusal(window: Window<'_>, size: u8, at: u32, value: u32) -> Option<Ref
 }
 
 fn load_refusal(window: Window<'_>, at: u32, crc: u16, part: &Chunk) -> Option<Refusal>
-    ensures refusal { result ≡ (if crc_of 0 part.now == crc then access_refusal (admission_of (seen window.entry) (ops.Bytes at part.now)) else Some Refusal.Crc) }
+    ensures refusal { result ≡ (if crc_of 0 part.now == crc
+        then access_refusal (admission_of (seen window.entry) (ops.Bytes at part.now))
+        else Some Refusal.Crc) }
     ensures has_bytes { 0 < length part.now }
 {
     if crc16(0, part.bytes()) != crc {
@@ -105,8 +111,10 @@ fn load_refusal(window: Window<'_>, at: u32, crc: u16, part: &Chunk) -> Option<R
 }
 
 fn file_refusal(reads: Reads<'_>, load: u16) -> Option<Refusal>
-    ensures refusal { result ≡ file_refusal (seen reads.entry.window) load (nth (loads_of reads.entry.files.now) load) }
-    ensures has_bytes { result ≡ None → 0 < length (load_bytes (loads_of reads.entry.files.now) load) }
+    ensures refusal { result ≡ file_refusal (seen reads.entry.window) load
+        (nth (loads_of reads.entry.files.now) load) }
+    ensures has_bytes { result ≡ None → 0 < length
+        (load_bytes (loads_of reads.entry.files.now) load) }
 {
     let Some((at, bytes)) = reads.files.load(u32::from(load)) else {
         return Some(Refusal::File);
@@ -120,7 +128,8 @@ fn file_refusal(reads: Reads<'_>, load: u16) -> Option<Refusal>
 }
 
 fn fill_refusal(window: Window<'_>, at: u32, len: u32, byte: u8) -> Option<Refusal>
-    ensures { result ≡ (if is_fill_len len then access_refusal (admission_of (seen window.entry) (ops.Fill at len byte)) else Some Refusal.Length) }
+    ensures { result ≡ (if is_fill_len len then access_refusal
+        (admission_of (seen window.entry) (ops.Fill at len byte)) else Some Refusal.Length) }
 {
     if !is_fill_len(len) {
         return Some(Refusal::Length);
@@ -131,7 +140,8 @@ fn fill_refusal(window: Window<'_>, at: u32, len: u32, byte: u8) -> Option<Refus
 }
 
 fn protect_refusal(window: Window<'_>, region: u8) -> Option<Refusal>
-    ensures { result ≡ (if is_none (protection_of (seen window.entry) region) then Some Refusal.Region else None) }
+    ensures { result ≡ (if is_none (protection_of (seen window.entry) region)
+        then Some Refusal.Region else None) }
 {
     match protection_of(window, region) {
         None => Some(Refusal::Region),
@@ -140,7 +150,8 @@ fn protect_refusal(window: Window<'_>, region: u8) -> Option<Refusal>
 }
 
 fn dump_refusal(window: Window<'_>, at: u32, len: u32) -> Option<Refusal>
-    ensures { result ≡ (if is_dump_len len then access_refusal (range_at (seen window.entry) at len) else Some Refusal.Length) }
+    ensures { result ≡ (if is_dump_len len then access_refusal (range_at (seen window.entry) at len)
+        else Some Refusal.Length) }
 {
     if !is_dump_len(len) {
         return Some(Refusal::Length);

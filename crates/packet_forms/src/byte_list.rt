@@ -108,7 +108,8 @@ impl<const N: usize> ByteList<N> {
     /// Writes the piece over the bytes from place `at` on.
     pub fn overwrite(&mut self, at: usize, piece: &[u8])
         requires { at + length piece.now ≤ length self.old }
-        ensures { self.new ≡ take at self.old ++ (piece.now ++ drop (at + length piece.now) self.old) }
+        ensures { self.new ≡ take at self.old
+            ++ (piece.now ++ drop (at + length piece.now) self.old) }
     {
         place(&mut self.places, at, piece);
     }

@@ -51,7 +51,8 @@ fn fold_front(sums: &mut [u16; SUMS], bytes: &[u8]) -> u16
     requires many { 30 ≤ length bytes.now }
     requires few { length bytes.now ≤ 1024 }
     requires zeros { (k : ℕ) → 15 ≤ k → slice_index sums.old k ≡ 0 }
-    ensures { words_left bytes.now sums.new result ((length bytes.now / 2 - 15) / 8 * 8) ≡ words_left bytes.now sums.old 0 0 }
+    ensures { words_left bytes.now sums.new result ((length bytes.now / 2 - 15) / 8 * 8)
+        ≡ words_left bytes.now sums.old 0 0 }
 {
     let mut taken = u16x8::splat(0);
     for k in 0..(bytes.len() / 2 - 15) / 8 {
@@ -68,7 +69,8 @@ fn fold_eight(sums: &mut [u16; SUMS], taken: u16x8, bytes: &[u8], from: usize) -
     requires within { from + 23 ≤ length bytes.now / 2 }
     requires short { length bytes.now ≤ 1024 }
     requires zeros { (k : ℕ) → from + 15 ≤ k → slice_index sums.old k ≡ 0 }
-    ensures check { words_left bytes.now sums.new (checksum_of result) (from + 8) ≡ words_left bytes.now sums.old (checksum_of taken) from }
+    ensures check { words_left bytes.now sums.new (checksum_of result) (from + 8)
+        ≡ words_left bytes.now sums.old (checksum_of taken) from }
     ensures zeros { (k : ℕ) → from + 23 ≤ k → slice_index sums.new k ≡ 0 }
     ensures sums { length sums.new ≡ SUMS }
     ensures lanes { length result ≡ 8 }
@@ -92,7 +94,8 @@ fn put_eight(sums: &mut [u16], at: usize, eight: u16x8)
 fn eight_at(bytes: &[u8], sums: &[u16; SUMS], from: usize) -> u16x8
     requires within { 2 * from + 16 ≤ length bytes.now }
     requires sums { from < 512 }
-    ensures each { (k : ℕ) → k < 8 → slice_index result k ≡ folded_word bytes.now sums.now (from + k) }
+    ensures each { (k : ℕ) → k < 8 → slice_index result k
+        ≡ folded_word bytes.now sums.now (from + k) }
     ensures small { (k : ℕ) → k < 8 → slice_index result k < 65536 }
     ensures lanes { length result ≡ 8 }
 {
@@ -122,7 +125,9 @@ fn words_at(bytes: &[u8], from: usize) -> u16x8
 fn after_last(sums: &[u16; SUMS], bytes: &[u8]) -> u16
     requires many { 30 ≤ length bytes.now }
     requires few { length bytes.now ≤ 1024 }
-    ensures { result ≡ words_check (folded_word bytes.now sums.now) ((length bytes.now / 2 - 15) / 8 * 8) (length bytes.now / 2 - (length bytes.now / 2 - 15) / 8 * 8) }
+    ensures { result ≡ words_check (folded_word bytes.now sums.now)
+        ((length bytes.now / 2 - 15) / 8 * 8)
+        (length bytes.now / 2 - (length bytes.now / 2 - 15) / 8 * 8) }
 {
     let mut crc = 0;
     for i in (bytes.len() / 2 - 15) / 8 * 8..bytes.len() / 2 {

@@ -16,7 +16,8 @@ const DIGITS: [u8; 16] = [
 /// Writes the hexadecimal digits of the bytes from place `at` on, in upper case.
 pub fn place_hex(places: &mut [u8], at: usize, bytes: &[u8])
     requires { at + 2 * length bytes.now ≤ length places.old }
-    ensures { places.new ≡ take at places.old ++ (hex bytes.now ++ drop (at + 2 * length bytes.now) places.old) }
+    ensures { places.new ≡ take at places.old
+        ++ (hex bytes.now ++ drop (at + 2 * length bytes.now) places.old) }
 {
     let whole = bytes.len() / 8 * 8;
     place_eights(places, at, &bytes[..whole]);
@@ -27,7 +28,8 @@ pub fn place_hex(places: &mut [u8], at: usize, bytes: &[u8])
 fn place_eights(places: &mut [u8], at: usize, bytes: &[u8])
     requires eights { length bytes.now / 8 * 8 ≡ length bytes.now }
     requires room { at + 2 * length bytes.now ≤ length places.old }
-    ensures value { places.new ≡ take at places.old ++ (hex bytes.now ++ drop (at + 2 * length bytes.now) places.old) }
+    ensures value { places.new ≡ take at places.old
+        ++ (hex bytes.now ++ drop (at + 2 * length bytes.now) places.old) }
     ensures size { length places.new ≡ length places.old }
 {
     for k in 0..bytes.len() / 8 {
@@ -82,7 +84,8 @@ fn digits_of_lanes(halves: u8x16) -> u8x16
 /// The same of fewer bytes: of four in a turn, and then of the rest.
 fn place_few(places: &mut [u8], at: usize, bytes: &[u8])
     requires { at + 2 * length bytes.now ≤ length places.old }
-    ensures { places.new ≡ take at places.old ++ (hex bytes.now ++ drop (at + 2 * length bytes.now) places.old) }
+    ensures { places.new ≡ take at places.old
+        ++ (hex bytes.now ++ drop (at + 2 * length bytes.now) places.old) }
 {
     let whole = bytes.len() / 4 * 4;
     place_fours(places, at, &bytes[..whole]);
@@ -93,7 +96,8 @@ fn place_few(places: &mut [u8], at: usize, bytes: &[u8])
 fn place_fours(places: &mut [u8], at: usize, bytes: &[u8])
     requires fours { length bytes.now / 4 * 4 ≡ length bytes.now }
     requires room { at + 2 * length bytes.now ≤ length places.old }
-    ensures value { places.new ≡ take at places.old ++ (hex bytes.now ++ drop (at + 2 * length bytes.now) places.old) }
+    ensures value { places.new ≡ take at places.old
+        ++ (hex bytes.now ++ drop (at + 2 * length bytes.now) places.old) }
     ensures size { length places.new ≡ length places.old }
 {
     for k in 0..bytes.len() / 4 {
@@ -128,7 +132,8 @@ fn place_pair(places: &mut [u8], at: usize, pair: [u8; 2])
 /// The same of bytes one at a time.
 fn place_each(places: &mut [u8], at: usize, bytes: &[u8])
     requires { at + 2 * length bytes.now ≤ length places.old }
-    ensures { places.new ≡ take at places.old ++ (hex bytes.now ++ drop (at + 2 * length bytes.now) places.old) }
+    ensures { places.new ≡ take at places.old
+        ++ (hex bytes.now ++ drop (at + 2 * length bytes.now) places.old) }
 {
     for i in 0..bytes.len() {
         place(places, at + 2 * i, &digits_of(bytes[i]));

@@ -69,7 +69,8 @@ impl Packet {
     /// The packet of these bytes, or the first of the faults.
     pub fn from_bytes(bytes: &[u8]) -> Result<Packet, PacketFault>
         ensures packet { IfOk result (λ packet. packet ≡ bytes.now) }
-        ensures fault { MatchResult result (λ _. fault_of bytes.now ≡ None) (λ fault. fault_of bytes.now ≡ Some fault) }
+        ensures fault { MatchResult result (λ _. fault_of bytes.now
+            ≡ None) (λ fault. fault_of bytes.now ≡ Some fault) }
     {
         if let Some(fault) = find_fault(bytes) {
             return Err(fault);
@@ -81,7 +82,8 @@ impl Packet {
     /// answer.
     pub fn set_bytes(&mut self, bytes: &[u8]) -> Result<(), PacketFault>
         ensures packet { IfOk result (λ _. self.new ≡ bytes.now) }
-        ensures fault { MatchResult result (λ _. fault_of bytes.now ≡ None) (λ fault. fault_of bytes.now ≡ Some fault) }
+        ensures fault { MatchResult result (λ _. fault_of bytes.now
+            ≡ None) (λ fault. fault_of bytes.now ≡ Some fault) }
         ensures kept { IfErr result (λ _. self.new ≡ self.old) }
     {
         if let Some(fault) = find_fault(bytes) {

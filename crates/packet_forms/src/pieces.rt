@@ -9,7 +9,8 @@ use std::simd::prelude::*;
 /// Writes the piece from place `at` on.
 pub fn place(bytes: &mut [u8], at: usize, piece: &[u8])
     requires { at + length piece.now ≤ length bytes.old }
-    ensures { bytes.new ≡ take at bytes.old ++ (piece.now ++ drop (at + length piece.now) bytes.old) }
+    ensures { bytes.new ≡ take at bytes.old ++ (piece.now
+        ++ drop (at + length piece.now) bytes.old) }
 {
     bytes[at..at + piece.len()].copy_from_slice(piece);
 }
@@ -18,8 +19,10 @@ pub fn place(bytes: &mut [u8], at: usize, piece: &[u8])
 pub(crate) fn place_over(bytes: &mut [u8], before: usize, piece: &[u8])
     requires piece { length piece.now ≤ length bytes.old }
     requires before { before ≤ length bytes.old }
-    ensures short { before ≤ length piece.now → bytes.new ≡ piece.now ++ drop (length piece.now) bytes.old }
-    ensures long { length piece.now < before → bytes.new ≡ piece.now ++ (replicate (before - length piece.now) 0 ++ drop before bytes.old) }
+    ensures short { before ≤ length piece.now
+        → bytes.new ≡ piece.now ++ drop (length piece.now) bytes.old }
+    ensures long { length piece.now < before → bytes.new ≡ piece.now
+        ++ (replicate (before - length piece.now) 0 ++ drop before bytes.old) }
 {
     bytes[..piece.len()].copy_from_slice(piece);
     if piece.len() < before {

@@ -74,8 +74,10 @@ impl Block {
 
     /// Hands on all that waits. Where the sink fails, what it didn't take still waits.
     pub fn flush<O: Sink>(&mut self, sink: &mut O) -> Result<(), Failed>
-        ensures told { WhereTold (tells (O.held sink.old) self.old) (tells (O.held sink.new) self.new) (λ before after. after ≡ before) }
-        ensures notes { (ends : List ℕ) (given : ℕ) → Notes ends given self.old → Notes ends given self.new }
+        ensures told { WhereTold (tells (O.held sink.old) self.old)
+            (tells (O.held sink.new) self.new) (λ before after. after ≡ before) }
+        ensures notes { (ends : List ℕ) (given : ℕ) → Notes ends given self.old
+            → Notes ends given self.new }
         ensures handed { OnOk result (self.new ≡ empty_block) }
         ensures left { OnErr result (0 < length self.new.bytes) }
         ensures cause { HasCause (O.held sink.new) (O.faults sink.old) (O.faults sink.new) result }
@@ -98,8 +100,11 @@ impl Block {
     /// Notes that a frame ends behind the bytes so far. Where no more ends can be noted, what waits is handed on first, and
     /// where that fails the end isn't noted.
     pub fn mark_end<O: Sink>(&mut self, sink: &mut O) -> Result<(), Failed>
-        ensures told { WhereTold (tells (O.held sink.old) self.old) (tells (O.held sink.new) self.new) (λ before after. after ≡ before) }
-        ensures notes { (ends : List ℕ) (given : ℕ) → Notes ends given self.old → MatchResult result (λ _. Notes (ends ++ given ∷ []) given self.new) (λ _. Notes ends given self.new) }
+        ensures told { WhereTold (tells (O.held sink.old) self.old)
+            (tells (O.held sink.new) self.new) (λ before after. after ≡ before) }
+        ensures notes { (ends : List ℕ) (given : ℕ) → Notes ends given self.old
+            → MatchResult result (λ _. Notes (ends ++ given
+            ∷ []) given self.new) (λ _. Notes ends given self.new) }
         ensures left { OnErr result (0 < length self.new.bytes) }
         ensures cause { HasCause (O.held sink.new) (O.faults sink.old) (O.faults sink.new) result }
     {
@@ -121,14 +126,18 @@ impl Block {
 
     fn note(&mut self)
         requires { length self.old.ends < BLOCK_ENDS }
-        ensures { self.new ≡ record self.old { ends = self.old.ends ++ (self.old.taken + length self.old.bytes) ∷ [] } }
+        ensures { self.new ≡ record self.old {
+          ends = self.old.ends
+              ++ (self.old.taken + length self.old.bytes) ∷ [];
+        } }
     {
         self.ends.push_reserved(self.bytes.len());
     }
 
     /// How many of the frames whose ends were noted have bytes that the sink didn't take.
     pub fn late_frames(&self) -> u32
-        ensures value { (ends : List ℕ) (given : ℕ) → Notes ends given self.now → result ≡ late_in ends (given - length self.now.bytes) }
+        ensures value { (ends : List ℕ) (given : ℕ) → Notes ends given self.now
+            → result ≡ late_in ends (given - length self.now.bytes) }
         ensures few { result ≤ BLOCK_ENDS }
     {
         late_among(&self.ends, self.from) as u32

@@ -69,8 +69,10 @@ impl Log {
     /// A packet with its sequence count: the number of the packets of its id that were stamped before, modulo 16,384.
     pub fn stamp(&mut self, packet: &Packet) -> Packet
         requires { is_counted (message_id packet.now) ≡ true }
-        ensures value { (made : List (List ℕ)) → Stands made self.old → result ≡ stamped made packet.now }
-        ensures stands { (made : List (List ℕ)) → Stands made self.old → Stands (made ++ packet.now ∷ []) self.new }
+        ensures value { (made : List (List ℕ)) → Stands made self.old
+            → result ≡ stamped made packet.now }
+        ensures stands { (made : List (List ℕ)) → Stands made self.old
+            → Stands (made ++ packet.now ∷ []) self.new }
     {
         let mut counted = *packet;
         self.stamp_in_place(&mut counted);
@@ -80,8 +82,10 @@ impl Log {
     /// Writes a packet's sequence count into it: the number of the packets of its id that were stamped before, modulo 16,384.
     pub fn stamp_in_place(&mut self, packet: &mut Packet)
         requires { is_counted (message_id packet.old) ≡ true }
-        ensures value { (made : List (List ℕ)) → Stands made self.old → packet.new ≡ stamped made packet.old }
-        ensures stands { (made : List (List ℕ)) → Stands made self.old → Stands (made ++ packet.old ∷ []) self.new }
+        ensures value { (made : List (List ℕ)) → Stands made self.old
+            → packet.new ≡ stamped made packet.old }
+        ensures stands { (made : List (List ℕ)) → Stands made self.old
+            → Stands (made ++ packet.old ∷ []) self.new }
     {
         let count = self.next_count(packet.mid());
         packet.set_sequence(count);
@@ -90,8 +94,10 @@ impl Log {
     /// Makes an item what is sent: a packet that was made gets its sequence count, where it stands.
     pub fn stamp_item(&mut self, item: &mut Out)
         requires { is_item_counted item.old ≡ true }
-        ensures sent { (made : List (List ℕ)) → Stands made self.old → item.new ≡ as_sent made item.old }
-        ensures stands { (made : List (List ℕ)) → Stands made self.old → Stands (made ++ makes item.old) self.new }
+        ensures sent { (made : List (List ℕ)) → Stands made self.old
+            → item.new ≡ as_sent made item.old }
+        ensures stands { (made : List (List ℕ)) → Stands made self.old
+            → Stands (made ++ makes item.old) self.new }
     {
         match item {
             Out::Made(packet) => self.stamp_in_place(packet),
@@ -107,7 +113,8 @@ impl Log {
         requires { is_counted id ≡ true }
         ensures small { result < 16384 }
         ensures value { (made : List (List ℕ)) → Stands made self.old → result ≡ count_of made id }
-        ensures stands { (made : List (List ℕ)) (packet : List ℕ) → message_id packet ≡ id → Stands made self.old → Stands (made ++ packet ∷ []) self.new }
+        ensures stands { (made : List (List ℕ)) (packet : List ℕ) → message_id packet ≡ id
+            → Stands made self.old → Stands (made ++ packet ∷ []) self.new }
     {
         let place = count_place(id);
         let count = self.counts[place];
@@ -117,7 +124,8 @@ impl Log {
 
     /// Writes all of the text, or a proper first part of it where the sink fails.
     pub fn put<O: Sink>(&mut self, sink: &mut O, text: &str) -> Result<(), Failed>
-        ensures content { WhereTold (O.held sink.old) (O.held sink.new) (WritesAll result text.now) }
+        ensures content { WhereTold (O.held sink.old) (O.held sink.new)
+            (WritesAll result text.now) }
         ensures cause { HasCause (O.held sink.new) (O.faults sink.old) (O.faults sink.new) result }
         ensures same { self.new ≡ self.old }
     {

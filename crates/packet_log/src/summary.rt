@@ -77,8 +77,10 @@ impl Sink for Summary {
     fn write(&mut self, piece: &[u8]) -> Result<usize, Failed>
         requires { 0 < length piece.now }
         ensures count { IfOk result (λ n. (0 < n) × (n ≤ length piece.now)) }
-        ensures content { WhereTold (Some (logged self.old)) (Some (logged self.new)) (Writes result piece.now) }
-        ensures tally { WhereTold (Some (counted self.old)) (Some (counted self.new)) (Adds result piece.now) }
+        ensures content { WhereTold (Some (logged self.old)) (Some (logged self.new))
+            (Writes result piece.now) }
+        ensures tally { WhereTold (Some (counted self.old)) (Some (counted self.new))
+            (Adds result piece.now) }
         ensures cause { HasCause (Some (logged self.new)) 0 0 result }
         // It takes the piece whole.
         ensures whole { result ≡ Ok (length piece.now) }

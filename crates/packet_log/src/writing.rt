@@ -27,8 +27,10 @@ pub fn put_bytes<O: Sink>(sink: &mut O, bytes: &[u8]) -> Result<(), Failed>
 
 /// Writes all of the bytes, or a proper first part of them where the sink fails, and tells how many the sink took.
 pub(crate) fn put_part<O: Sink>(sink: &mut O, bytes: &[u8], taken: &mut usize) -> Result<(), Failed>
-    ensures size { MatchResult result (λ _. taken.new ≡ length bytes.now) (λ _. taken.new < length bytes.now) }
-    ensures content { WhereTold (O.held sink.old) (O.held sink.new) (λ before after. after ≡ before ++ take taken.new bytes.now) }
+    ensures size { MatchResult result (λ _. taken.new ≡ length bytes.now) (λ _. taken.new
+        < length bytes.now) }
+    ensures content { WhereTold (O.held sink.old) (O.held sink.new) (λ before after. after ≡ before
+        ++ take taken.new bytes.now) }
     ensures cause { HasCause (O.held sink.new) (O.faults sink.old) (O.faults sink.new) result }
 {
     *taken = 0;

@@ -34,14 +34,21 @@ pub fn worked_faults()
     ensures place { scenario_said [] (codes "epoch 5\nhold MM\n") ≡ Err (fault_on 2 reasons.Place) }
     ensures word { scenario_said [] (codes "epoch 5\n\nplay\n") ≡ Err (fault_on 3 reasons.Word) }
     ensures epoch { scenario_said [] (codes "epoch 4294000001\n") ≡ Err (fault_on 1 reasons.Epoch) }
-    ensures past { scenario_said [] (codes "epoch 5\nstart\nat +0:00:02\nframe 1\nend\n") ≡ Err (fault_on 4 reasons.Past) }
-    ensures early { scenario_said [] (codes "epoch 5\nstart\nat 4\nend\n") ≡ Err (fault_on 3 reasons.Early) }
-    ensures time { scenario_said [] (codes "epoch 5\nstart\nat 0:00:02\nend\n") ≡ Err (fault_on 3 (word_fault 2 word_reasons.Time)) }
-    ensures begun { scenario_said [] (codes "epoch 5\nstart\nhold MM\nend at 5\n") ≡ Err (fault_on 4 reasons.Begun) }
+    ensures past { scenario_said [] (codes "epoch 5\nstart\nat +0:00:02\nframe 1\nend\n")
+        ≡ Err (fault_on 4 reasons.Past) }
+    ensures early { scenario_said [] (codes "epoch 5\nstart\nat 4\nend\n")
+        ≡ Err (fault_on 3 reasons.Early) }
+    ensures time { scenario_said [] (codes "epoch 5\nstart\nat 0:00:02\nend\n")
+        ≡ Err (fault_on 3 (word_fault 2 word_reasons.Time)) }
+    ensures begun { scenario_said [] (codes "epoch 5\nstart\nhold MM\nend at 5\n")
+        ≡ Err (fault_on 4 reasons.Begun) }
     ensures end { scenario_said [] (codes "epoch 5\nstart\ntick\n") ≡ Err (fault_on 4 reasons.End) }
-    ensures behind { scenario_said [] (codes "epoch 5\nstart\nend\n# late\ntick\n") ≡ Err (fault_on 5 reasons.Behind) }
-    ensures command { scenario_said dictionary (codes "epoch 5\nstart\nsend mm.peek width=8 addres=1\n")
-        ≡ Err (fault_on 3 (reasons.Command (command_faults.Row (record { word = 4; reason = word_reasons.Key })))) }
+    ensures behind { scenario_said [] (codes "epoch 5\nstart\nend\n# late\ntick\n")
+        ≡ Err (fault_on 5 reasons.Behind) }
+    ensures command { scenario_said dictionary
+        (codes "epoch 5\nstart\nsend mm.peek width=8 addres=1\n")
+        ≡ Err (fault_on 3 (reasons.Command (command_faults.Row
+        (record { word = 4; reason = word_reasons.Key })))) }
     ensures items { line_said [] (at_frame 3 64) (words (codes "hold MM")) ≡ Err reasons.Items }
     ensures frames { line_said [] (at_frame 100000 0) (words (codes "tick")) ≡ Err reasons.Frames }
     ensures last { line_said [] (at_frame 0 0) (words (codes "frame 100001")) ≡ Err reasons.Frames }
@@ -50,29 +57,36 @@ pub fn worked_faults()
 /// Each item stands in the frame that has come where the plan says it: the number of ticks before it in the scenario is that frame's.
 /// No item is lost, and none is added.
 pub fn items_keep_their_frames()
-    ensures { (cs : List Command) (text : List ℕ) (lines : List (List (List ℕ))) → plan_said cs text ≡ Ok lines
+    ensures { (cs : List Command) (text : List ℕ) (lines : List (List (List ℕ)))
+        → plan_said cs text ≡ Ok lines
         → items_of 0 lines ≡ plan_items cs stages.Opening (kept_of 1 text) }
 {}
 
 /// A scenario that is made has the plan's lines, one by one, and each of them has its words: as a scenario's reader cuts it.
 pub fn scenarios_have_their_lines()
-    ensures lines { (cs : List Command) (text : List ℕ) (lines : List (List (List ℕ))) → are_good cs ≡ true → plan_said cs text ≡ Ok lines
+    ensures lines { (cs : List Command) (text : List ℕ) (lines : List (List (List ℕ)))
+        → are_good cs ≡ true → plan_said cs text ≡ Ok lines
         → whole_lines true (slice_split is_lf (text_of lines)) ≡ map as_line lines }
-    ensures words { (cs : List Command) (text : List ℕ) (lines : List (List (List ℕ))) → are_good cs ≡ true → plan_said cs text ≡ Ok lines
+    ensures words { (cs : List Command) (text : List ℕ) (lines : List (List (List ℕ)))
+        → are_good cs ≡ true → plan_said cs text ≡ Ok lines
         → AllByRecursion (λ line. scenario_words (line_bytes line) ≡ line) lines }
 {}
 
 /// The line of a `send` is read by a scenario's reader, wherever it may stand, as the packet that the words behind `send` say.
 pub fn sent_lines_say()
-    ensures { (cs : List Command) (epoch : ℕ) (ws : List (List ℕ)) (place : Place) (packet : List ℕ) → are_good cs ≡ true → is_in_frames place ≡ true
-        → packet_sent cs epoch ws ≡ Ok packet → line_says place (line_bytes (sent_line packet)) ≡ Ok (Some (says.Send packet)) }
+    ensures { (cs : List Command) (epoch : ℕ) (ws : List (List ℕ)) (place : Place) (packet : List ℕ)
+        → are_good cs ≡ true → is_in_frames place ≡ true
+        → packet_sent cs epoch ws ≡ Ok packet
+        → line_says place (line_bytes (sent_line packet)) ≡ Ok (Some (says.Send packet)) }
 {}
 
 /// A scenario that is made and is read without fault gives the plan's header and its frames: as many as it has ticks, each with exactly
 /// the items that the plan says where this frame has come, in their order.
 pub fn scenarios_give_their_frames()
-    ensures { (cs : List Command) (text : List ℕ) (lines : List (List (List ℕ))) → are_good cs ≡ true → plan_said cs text ≡ Ok lines
+    ensures { (cs : List Command) (text : List ℕ) (lines : List (List (List ℕ)))
+        → are_good cs ≡ true → plan_said cs text ≡ Ok lines
         → (reading (record { bytes = text_of lines; closed = true })).ending ≡ Ended
         → (reading (record { bytes = text_of lines; closed = true })).items
-        ≡ head_said [] lines ∷ frames_said (ticks_in lines) 0 (plan_items cs stages.Opening (kept_of 1 text)) }
+        ≡ head_said [] lines ∷ frames_said (ticks_in lines) 0
+        (plan_items cs stages.Opening (kept_of 1 text)) }
 {}

@@ -107,7 +107,8 @@ fn close(course: &Course, frame: u32, out: &mut Vec<u8>) -> Result<Stage, LineEr
 
 /// `epoch N`.
 fn read_epoch(word: &[u8], line: &[u8], out: &mut Vec<u8>) -> Result<Stage, LineError>
-    ensures { GivesLine (written out.old.items (epoch_line word.now (words line.now))) out.new.items result }
+    ensures { GivesLine (written out.old.items (epoch_line word.now (words line.now))) out.new.items
+        result }
 {
     match last_word(2, line) {
         Ok(text) => match number(LAST_EPOCH, text) {
@@ -120,7 +121,8 @@ fn read_epoch(word: &[u8], line: &[u8], out: &mut Vec<u8>) -> Result<Stage, Line
 
 /// `start`.
 fn read_start(epoch: u32, word: &[u8], line: &[u8], out: &mut Vec<u8>) -> Result<Stage, LineError>
-    ensures { GivesLine (written out.old.items (start_line epoch word.now (words line.now))) out.new.items result }
+    ensures { GivesLine (written out.old.items (start_line epoch word.now (words line.now)))
+        out.new.items result }
 {
     if let Err(reason) = no_word(line) {
         return Err(LineError::Because(reason));
@@ -135,7 +137,8 @@ fn read_start(epoch: u32, word: &[u8], line: &[u8], out: &mut Vec<u8>) -> Result
 
 /// Appends a line as it is.
 fn pass(stage: Stage, word: &[u8], line: &[u8], out: &mut Vec<u8>) -> Result<Stage, LineError>
-    ensures { GivesLine (written out.old.items (passed stage (word.now ∷ words line.now))) out.new.items result }
+    ensures { GivesLine (written out.old.items (passed stage (word.now ∷ words line.now)))
+        out.new.items result }
 {
     match put_line(word, line, out) {
         Ok(()) => Ok(stage),
@@ -145,7 +148,8 @@ fn pass(stage: Stage, word: &[u8], line: &[u8], out: &mut Vec<u8>) -> Result<Sta
 
 /// `frame N`.
 fn read_frame(course: &Course, line: &[u8], out: &mut Vec<u8>) -> Result<Stage, LineError>
-    ensures { GivesLine (written out.old.items (frame_line course.now (words line.now))) out.new.items result }
+    ensures { GivesLine (written out.old.items (frame_line course.now (words line.now)))
+        out.new.items result }
 {
     match last_word(2, line) {
         Ok(text) => match number(4_294_967_295, text) {
@@ -158,7 +162,8 @@ fn read_frame(course: &Course, line: &[u8], out: &mut Vec<u8>) -> Result<Stage, 
 
 /// `at TIME`.
 fn read_at(course: &Course, line: &[u8], out: &mut Vec<u8>) -> Result<Stage, LineError>
-    ensures { GivesLine (written out.old.items (at_line course.now (words line.now))) out.new.items result }
+    ensures { GivesLine (written out.old.items (at_line course.now (words line.now))) out.new.items
+        result }
 {
     match read_time(course.epoch, 2, line) {
         Ok(frame) => forward(course, frame, out),
@@ -169,7 +174,8 @@ fn read_at(course: &Course, line: &[u8], out: &mut Vec<u8>) -> Result<Stage, Lin
 /// `tick`.
 #[tactic(auto, unfolding(crate::specs::Plans::forwarded))]
 fn read_tick(course: &Course, line: &[u8], out: &mut Vec<u8>) -> Result<Stage, LineError>
-    ensures { GivesLine (written out.old.items (tick_line course.now (words line.now))) out.new.items result }
+    ensures { GivesLine (written out.old.items (tick_line course.now (words line.now)))
+        out.new.items result }
 {
     if let Err(reason) = no_word(line) {
         return Err(LineError::Because(reason));
@@ -182,7 +188,8 @@ fn read_tick(course: &Course, line: &[u8], out: &mut Vec<u8>) -> Result<Stage, L
 
 /// `end`, or `end at TIME`.
 fn read_end(course: &Course, line: &[u8], out: &mut Vec<u8>) -> Result<Stage, LineError>
-    ensures { GivesLine (written out.old.items (end_line course.now (words line.now))) out.new.items result }
+    ensures { GivesLine (written out.old.items (end_line course.now (words line.now))) out.new.items
+        result }
 {
     let Some((word, rest)) = split_word(line) else {
         return close_last(course, out);
@@ -199,7 +206,8 @@ fn read_end(course: &Course, line: &[u8], out: &mut Vec<u8>) -> Result<Stage, Li
 /// The end behind the last frame that has items.
 #[tactic(auto, unfolding(crate::specs::Plans::closed))]
 fn close_last(course: &Course, out: &mut Vec<u8>) -> Result<Stage, LineError>
-    ensures { GivesLine (written out.old.items (closed course.now (last_of course.now))) out.new.items result }
+    ensures { GivesLine (written out.old.items (closed course.now (last_of course.now)))
+        out.new.items result }
 {
     if course.items == 0 {
         return close(course, course.frame, out);
@@ -217,7 +225,8 @@ fn read_item(
     line: &[u8],
     out: &mut Vec<u8>,
 ) -> Result<Stage, LineError>
-    ensures { GivesLine (written out.old.items (item_line course.now (word.now ∷ words line.now))) out.new.items result }
+    ensures { GivesLine (written out.old.items (item_line course.now (word.now ∷ words line.now)))
+        out.new.items result }
 {
     match one_more(course) {
         Ok(more) => pass(Stage::Frames(more), word, line, out),
@@ -248,7 +257,8 @@ fn read_send(
     out: &mut Vec<u8>,
 ) -> Result<Stage, LineError>
     requires { are_good commands.now ≡ true }
-    ensures { GivesLine (written out.old.items (send_line commands.now course.now (words line.now))) out.new.items result }
+    ensures { GivesLine (written out.old.items (send_line commands.now course.now (words line.now)))
+        out.new.items result }
 {
     match read_sent(commands, course.epoch, line, scratch) {
         Ok(packet) => put_item(course, &packet, out),
@@ -259,7 +269,8 @@ fn read_send(
 
 /// Appends the line that sends a packet, which is one more item.
 fn put_item(course: &Course, packet: &Packet, out: &mut Vec<u8>) -> Result<Stage, LineError>
-    ensures { GivesLine (written out.old.items (item_line course.now (sent_line packet.now))) out.new.items result }
+    ensures { GivesLine (written out.old.items (item_line course.now (sent_line packet.now)))
+        out.new.items result }
 {
     let more = match one_more(course) {
         Ok(more) => more,
@@ -314,7 +325,8 @@ fn read_bytes(line: &[u8], bytes: &[u8]) -> Result<Packet, ReadError>
 
 /// A line before all others.
 fn read_opening(verb: Verb, word: &[u8], line: &[u8], out: &mut Vec<u8>) -> Result<Stage, LineError>
-    ensures { GivesLine (written out.old.items (opening_line verb word.now (words line.now))) out.new.items result }
+    ensures { GivesLine (written out.old.items (opening_line verb word.now (words line.now)))
+        out.new.items result }
 {
     match verb {
         Verb::Epoch => read_epoch(word, line, out),
@@ -337,7 +349,8 @@ fn read_header(
     line: &[u8],
     out: &mut Vec<u8>,
 ) -> Result<Stage, LineError>
-    ensures { GivesLine (written out.old.items (header_line epoch verb word.now (words line.now))) out.new.items result }
+    ensures { GivesLine (written out.old.items (header_line epoch verb word.now (words line.now)))
+        out.new.items result }
 {
     match verb {
         Verb::Region => pass(Stage::Header(epoch), word, line, out),
@@ -358,7 +371,8 @@ fn read_course(
     out: &mut Vec<u8>,
 ) -> Result<Stage, LineError>
     requires { are_good commands.now ≡ true }
-    ensures { GivesLine (written out.old.items (course_line commands.now course.now verb word.now (words line.now))) out.new.items result }
+    ensures { GivesLine (written out.old.items
+        (course_line commands.now course.now verb word.now (words line.now))) out.new.items result }
 {
     match verb {
         Verb::Send => read_send(commands, course, line, scratch, out),
@@ -381,7 +395,8 @@ pub(crate) fn read_line(
     out: &mut Vec<u8>,
 ) -> Result<Stage, LineError>
     requires { are_good commands.now ≡ true }
-    ensures { GivesLine (written out.old.items (line_said commands.now stage.now (words line.now))) out.new.items result }
+    ensures { GivesLine (written out.old.items (line_said commands.now stage.now (words line.now)))
+        out.new.items result }
 {
     let Some((word, rest)) = split_word(line) else {
         return Err(LineError::Because(PlanReason::Word));

@@ -24,7 +24,8 @@ fn put_words(line: &[u8], out: &mut Vec<u8>) -> Result<(), AllocError>
 
 /// Appends a line of a word and those of `others`.
 pub fn put_line(word: &[u8], others: &[u8], out: &mut Vec<u8>) -> Result<(), AllocError>
-    ensures { OnOk result (out.new.items ≡ out.old.items ++ line_text (word.now ∷ words others.now)) }
+    ensures { OnOk result (out.new.items ≡ out.old.items
+        ++ line_text (word.now ∷ words others.now)) }
 {
     out.extend_from_slice(word)?;
     put_words(others, out)?;
@@ -55,7 +56,8 @@ pub(crate) fn put_ticks(count: u32, out: &mut Vec<u8>) -> Result<(), AllocError>
 
 /// Appends so many lines `tick`, and `end`.
 pub(crate) fn put_end(count: u32, out: &mut Vec<u8>) -> Result<(), AllocError>
-    ensures { OnOk result (out.new.items ≡ out.old.items ++ text_of (replicate count tick ++ end ∷ [])) }
+    ensures { OnOk result (out.new.items ≡ out.old.items
+        ++ text_of (replicate count tick ++ end ∷ [])) }
 {
     put_ticks(count, out)?;
     out.extend_from_slice(b"end\n")?;

@@ -123,7 +123,8 @@ fn mask_number(bits: u32, text: &[u8]) -> Option<u32>
 
 /// Appends the numbers of the bits that are 1, of so many bits, the first of which has the number `first`.
 fn push_bits(bits: u32, number: u32, out: &mut Vec<u8>) -> Result<(), AllocError>
-    ensures { OnOk result (out.new.items ≡ out.old.items ++ listed false (map decimal (bits_of bits 1 number))) }
+    ensures { OnOk result (out.new.items ≡ out.old.items
+        ++ listed false (map decimal (bits_of bits 1 number))) }
 {
     let mut rest = number;
     let mut led = false;
@@ -237,7 +238,8 @@ pub(crate) fn push_text(
     out: &mut Vec<u8>,
 ) -> Result<(), AllocError>
     requires { bytes_of width ≤ length bytes.now }
-    ensures { OnOk result (out.new.items ≡ out.old.items ++ number_shown width spelling.now (number_at width bytes.now) bytes.now) }
+    ensures { OnOk result (out.new.items ≡ out.old.items
+        ++ number_shown width spelling.now (number_at width bytes.now) bytes.now) }
 {
     let number = number_at(width, bytes);
     match spelling {

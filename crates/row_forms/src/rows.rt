@@ -25,7 +25,8 @@ pub fn read_row(
     out: &mut Vec<u8>,
 ) -> Result<(), ReadError>
     requires { word + length fields.now < 2 ^ 32 }
-    ensures { Gives (with_front out.old.items (row_said epoch word fields.now (words line.now))) out.new.items result }
+    ensures { Gives (with_front out.old.items (row_said epoch word fields.now (words line.now)))
+        out.new.items result }
 {
     let Some((field, fields)) = fields.split_first() else {
         return end_of_row(word, line);
@@ -79,7 +80,8 @@ fn error_at(word: usize, refusal: Refusal) -> ReadError
 
 /// Behind the last field no word is left.
 fn end_of_row(word: usize, line: &[u8]) -> Result<(), ReadError>
-    ensures { (front : List ℕ) → Gives (with_front front (end_said word (words line.now))) front result }
+    ensures { (front : List ℕ) → Gives (with_front front (end_said word (words line.now))) front
+        result }
 {
     match split_word(line) {
         Some(_) => Err(fault_at(word, Reason::Extra)),
@@ -109,7 +111,8 @@ fn read_field(
     word: &[u8],
     out: &mut Vec<u8>,
 ) -> Result<(), Refusal>
-    ensures { GivesField (with_front out.old.items (field_said epoch key.now kind.now word.now)) out.new.items result }
+    ensures { GivesField (with_front out.old.items (field_said epoch key.now kind.now word.now))
+        out.new.items result }
 {
     let Some(text) = behind_key(key, word) else {
         return Err(Refusal::Because(Reason::Key));
@@ -187,7 +190,8 @@ pub fn show_row(fields: &[Field], bytes: &[u8], out: &mut Vec<u8>) -> Result<(),
 /// Appends a space and the word of a field's bytes.
 fn push_word(key: &str, kind: &Kind, value: &[u8], out: &mut Vec<u8>) -> Result<(), AllocError>
     requires { can_show kind.now value.now ≡ true }
-    ensures { OnOk result (out.new.items ≡ out.old.items ++ (32 ∷ word_shown key.now (value_shown kind.now value.now))) }
+    ensures { OnOk result (out.new.items ≡ out.old.items
+        ++ (32 ∷ word_shown key.now (value_shown kind.now value.now))) }
 {
     out.push(b' ')?;
     out.extend_from_slice(key.as_bytes())?;

@@ -22,7 +22,8 @@ pub(crate) fn read_value(
     text: &[u8],
     out: &mut Vec<u8>,
 ) -> Result<bool, AllocError>
-    ensures { IfOk result (GivesValue (value_said epoch kind.now text.now) out.old.items out.new.items) }
+    ensures { IfOk result (GivesValue (value_said epoch kind.now text.now) out.old.items
+        out.new.items) }
 {
     match kind {
         Kind::Number(width, spelling) => match number_said(epoch, *width, spelling, text) {
@@ -85,7 +86,8 @@ fn count_commas(text: &[u8]) -> usize
 
 /// Appends the expression whose steps a text says, between commas.
 fn read_expression(words: &[Choice], text: &[u8], out: &mut Vec<u8>) -> Result<bool, AllocError>
-    ensures { IfOk result (GivesValue (expression_said words.now text.now) out.old.items out.new.items) }
+    ensures { IfOk result (GivesValue (expression_said words.now text.now) out.old.items
+        out.new.items) }
 {
     let commas = count_commas(text);
     if commas > 15 {
@@ -101,7 +103,8 @@ fn read_expression(words: &[Choice], text: &[u8], out: &mut Vec<u8>) -> Result<b
 
 /// Appends the steps that a text says, between commas.
 fn read_steps(words: &[Choice], text: &[u8], out: &mut Vec<u8>) -> Result<bool, AllocError>
-    ensures { IfOk result (GivesValue (steps_bytes (steps_said words.now (parts text.now))) out.old.items out.new.items) }
+    ensures { IfOk result (GivesValue (steps_bytes (steps_said words.now (parts text.now)))
+        out.old.items out.new.items) }
 {
     let (part, rest) = split_part(text);
     let Some(step) = choice_number(words, 65_535, part) else {
@@ -175,7 +178,8 @@ fn push_steps(
     out: &mut Vec<u8>,
 ) -> Result<(), AllocError>
     requires { 2 * count ≤ length bytes.now }
-    ensures { OnOk result (out.new.items ≡ out.old.items ++ listed led (map (choice_shown words.now) (steps_at count bytes.now))) }
+    ensures { OnOk result (out.new.items ≡ out.old.items
+        ++ listed led (map (choice_shown words.now) (steps_at count bytes.now))) }
 {
     if count == 0 {
         return Ok(());
@@ -186,7 +190,8 @@ fn push_steps(
 
 /// Appends a step, with a comma in front where another one stands before it.
 fn push_step(words: &[Choice], led: bool, step: u16, out: &mut Vec<u8>) -> Result<(), AllocError>
-    ensures { OnOk result (out.new.items ≡ out.old.items ++ behind_comma led (choice_shown words.now step)) }
+    ensures { OnOk result (out.new.items ≡ out.old.items
+        ++ behind_comma led (choice_shown words.now step)) }
 {
     if led {
         out.push(b',')?;

@@ -46,8 +46,10 @@ pub(crate) fn behind_spaces(line: &[u8]) -> &[u8]
 
 /// The first word, and what comes behind it.
 pub fn split_word(line: &[u8]) -> Option<(&[u8], &[u8])>
-    ensures words { MatchOption result (words line.now ≡ []) (λ parts. words line.now ≡ parts.0.now ∷ words parts.1.now) }
-    ensures size { IfSome result (λ parts. length parts.0.now + length parts.1.now ≤ length line.now) }
+    ensures words { MatchOption result (words line.now ≡ []) (λ parts. words line.now ≡ parts.0.now
+        ∷ words parts.1.now) }
+    ensures size { IfSome result (λ parts. length parts.0.now + length parts.1.now
+        ≤ length line.now) }
     ensures filled { IfSome result (λ parts. 0 < length parts.0.now) }
     ensures alone { IfSome result (λ parts. words parts.0.now ≡ parts.0.now ∷ []) }
 {

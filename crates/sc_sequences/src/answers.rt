@@ -23,8 +23,10 @@ pub(crate) fn put_head(
     out: &mut Outbox,
 )
     requires room { length out.old.items + 2 ≤ out.old.room }
-    ensures items { (left : List TimedCommand) → ends ≡ not (has_some left) → out.new ≡ adding out.old (head_items place now right packet.now left) }
-    ensures counted { AllPass is_item_counted out.old.items → AllPass is_item_counted out.new.items }
+    ensures items { (left : List TimedCommand) → ends ≡ not (has_some left)
+        → out.new ≡ adding out.old (head_items place now right packet.now left) }
+    ensures counted { AllPass is_item_counted out.old.items
+        → AllPass is_item_counted out.new.items }
     ensures few { length out.new.items ≤ length out.old.items + 2 }
     ensures room { out.new.room ≡ out.old.room }
 {
@@ -45,8 +47,10 @@ pub(crate) fn put_head(
 #[tactic(auto, unfolding(bus_pipes::specs::Held::adding))]
 fn put_end(place: usize, ends: bool, now: u32, out: &mut Outbox)
     requires room { length out.old.items < out.old.room }
-    ensures items { (left : List TimedCommand) → ends ≡ not (has_some left) → out.new ≡ adding out.old (ending_items place now left) }
-    ensures counted { AllPass is_item_counted out.old.items → AllPass is_item_counted out.new.items }
+    ensures items { (left : List TimedCommand) → ends ≡ not (has_some left)
+        → out.new ≡ adding out.old (ending_items place now left) }
+    ensures counted { AllPass is_item_counted out.old.items
+        → AllPass is_item_counted out.new.items }
     ensures few { length out.new.items ≤ length out.old.items + 1 }
     ensures room { out.new.room ≡ out.old.room }
 {
@@ -65,7 +69,8 @@ fn put_end(place: usize, ends: bool, now: u32, out: &mut Outbox)
 fn put_event(event: Event, now: u32, out: &mut Outbox)
     requires room { length out.old.items < out.old.room }
     ensures items { out.new ≡ adding out.old (sc_event event now ∷ []) }
-    ensures counted { AllPass is_item_counted out.old.items → AllPass is_item_counted out.new.items }
+    ensures counted { AllPass is_item_counted out.old.items
+        → AllPass is_item_counted out.new.items }
     ensures few { length out.new.items ≡ length out.old.items + 1 }
     ensures room { out.new.room ≡ out.old.room }
 {

@@ -117,7 +117,8 @@ fn soonest(all: &[KeptCursor]) -> Option<Due>
 
 /// The soonest with the time of one place more: where both times are equal the earlier place stays.
 fn sooner(best: Option<Due>, next: Option<u64>, place: u8) -> Option<Due>
-    ensures { (times : List (Option ℕ)) → time_in times place ≡ next → SoonestOf times place best → SoonestOf times (place + 1) result }
+    ensures { (times : List (Option ℕ)) → time_in times place ≡ next → SoonestOf times place best
+        → SoonestOf times (place + 1) result }
 {
     let Some(time) = next else {
         return best;

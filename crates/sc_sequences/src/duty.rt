@@ -34,8 +34,10 @@ impl Duty {
     /// Counts a command that left: whether its checksum was right.
     pub(crate) fn count(&mut self, right: bool)
         ensures cursors { self.new.cursors ≡ self.old.cursors }
-        ensures sent { (sent : ℕ) → self.old.sent ≡ sent % 65536 → self.new.sent ≡ (if right then sent + 1 else sent) % 65536 }
-        ensures wrong { (wrong : ℕ) → self.old.wrong ≡ wrong % 65536 → self.new.wrong ≡ (if right then wrong else wrong + 1) % 65536 }
+        ensures sent { (sent : ℕ) → self.old.sent ≡ sent % 65536
+            → self.new.sent ≡ (if right then sent + 1 else sent) % 65536 }
+        ensures wrong { (wrong : ℕ) → self.old.wrong ≡ wrong % 65536
+            → self.new.wrong ≡ (if right then wrong else wrong + 1) % 65536 }
     {
         if right {
             self.sent = self.sent.wrapping_add(1);

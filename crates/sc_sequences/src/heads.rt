@@ -18,7 +18,8 @@ pub(crate) fn cursor_at(
 ) -> Cursor
     requires { place < 66 }
     ensures stands { (s : Sequence) → s.loaded ≡ commands_in tables.now place → s.enabled ≡ enabled
-        → CursorStands (commands_in tables.now place) (going_on place now (drop at (commands_in tables.now place)) s) result }
+        → CursorStands (commands_in tables.now place)
+        (going_on place now (drop at (commands_in tables.now place)) s) result }
     ensures at { result.at ≡ at }
     ensures time { IfSome result.next (λ time. time < 8589934592) }
 {
@@ -32,7 +33,8 @@ pub(crate) fn cursor_at(
 /// The time of command `at`, where a sequence goes on with it at the time `now`.
 fn next_at(tables: &ScTables<'_>, place: usize, at: u32, now: u32) -> Option<u64>
     requires { place < 66 }
-    ensures time { result ≡ first_time (base_at place now) (drop at (commands_in tables.now place)) }
+    ensures time { result ≡ first_time (base_at place now)
+        (drop at (commands_in tables.now place)) }
     ensures small { IfSome result (λ time. time < 8589934592) }
 {
     if at >= tables.len(place) {
@@ -56,7 +58,8 @@ fn base_at(place: usize, now: u32) -> u64
 /// Which command of an absolute sequence is the first from `from` on with a tag of `time` or more; their number where none is.
 pub(crate) fn first_from(tables: &ScTables<'_>, place: usize, from: u32, time: u32) -> u32
     requires { place < 2 }
-    ensures left { drop result (commands_in tables.now place) ≡ from_time time (drop from (commands_in tables.now place)) }
+    ensures left { drop result (commands_in tables.now place)
+        ≡ from_time time (drop from (commands_in tables.now place)) }
     ensures few { result ≤ 1000 }
 {
     let count = tables.len(place);

@@ -62,7 +62,8 @@ pub(crate) fn report_on(duty: &Duty, tables: &ScTables<'_>) -> Report
 
 /// The number of the absolute sequence that runs, 0 where none does.
 fn shown_ats(cursors: &Cursors) -> u8
-    ensures { (tables : List (List TimedCommand)) (all : List Sequence) → CursorsStand tables all cursors.now → result ≡ shown_ats (running_ats all) }
+    ensures { (tables : List (List TimedCommand)) (all : List Sequence)
+        → CursorsStand tables all cursors.now → result ≡ shown_ats (running_ats all) }
 {
     match running_ats(cursors) {
         None => 0,
@@ -72,7 +73,8 @@ fn shown_ats(cursors: &Cursors) -> u8
 
 /// How many of its commands are left.
 fn left_in(cursors: &Cursors, tables: &ScTables<'_>) -> u16
-    ensures { (all : List Sequence) → CursorsStand tables.now all cursors.now → result ≡ left_in all (running_ats all) }
+    ensures { (all : List Sequence) → CursorsStand tables.now all cursors.now
+        → result ≡ left_in all (running_ats all) }
 {
     match running_ats(cursors) {
         None => 0,
@@ -82,8 +84,10 @@ fn left_in(cursors: &Cursors, tables: &ScTables<'_>) -> u16
 
 /// The relative sequences that run, and those that are enabled.
 fn masks_of(cursors: &Cursors) -> Masks
-    ensures running { (tables : List (List TimedCommand)) (all : List Sequence) → CursorsStand tables all cursors.now → result.running ≡ running_mask all }
-    ensures enabled { (tables : List (List TimedCommand)) (all : List Sequence) → CursorsStand tables all cursors.now → result.enabled ≡ enabled_mask all }
+    ensures running { (tables : List (List TimedCommand)) (all : List Sequence)
+        → CursorsStand tables all cursors.now → result.running ≡ running_mask all }
+    ensures enabled { (tables : List (List TimedCommand)) (all : List Sequence)
+        → CursorsStand tables all cursors.now → result.enabled ≡ enabled_mask all }
 {
     let mut running = [false; RELATIVE];
     let mut enabled = [false; RELATIVE];
@@ -116,7 +120,8 @@ pub(crate) fn housekeeping(counts: Counts, report: &Report, now: u32) -> Packet
 #[tactic(auto, unfolding(packet_forms::specs::Numbers::be16_bytes))]
 fn append_numbers(payload: &mut Payload, report: &Report)
     requires { length payload.old ≡ 4 }
-    ensures bytes { payload.new ≡ payload.old ++ numbers_bytes report.now.left report.now.sent report.now.wrong }
+    ensures bytes { payload.new ≡ payload.old
+        ++ numbers_bytes report.now.left report.now.sent report.now.wrong }
     ensures size { length payload.new ≡ 12 }
 {
     let [a, b] = report.left.to_be_bytes();

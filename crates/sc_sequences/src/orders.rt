@@ -19,7 +19,8 @@ pub(crate) fn obey(
     instruction: &Instruction,
     now: u32,
 )
-    ensures { (all : List Sequence) → CursorsStand tables.now all cursors.old → CursorsStand tables.now (obeyed now all instruction.now) cursors.new }
+    ensures { (all : List Sequence) → CursorsStand tables.now all cursors.old
+        → CursorsStand tables.now (obeyed now all instruction.now) cursors.new }
 {
     match instruction {
         Instruction::Plain => {}
@@ -39,7 +40,9 @@ pub(crate) fn obey(
 
 /// Starts absolute sequence `number` without its commands before now.
 fn start_ats(cursors: &mut Cursors, tables: &ScTables<'_>, number: u16, now: u32)
-    ensures { (all : List Sequence) → CursorsStand tables.now all cursors.old → CursorsStand tables.now (where_placed (ats_place number) (λ place. started_at place now) all) cursors.new }
+    ensures { (all : List Sequence) → CursorsStand tables.now all cursors.old
+        → CursorsStand tables.now (where_placed (ats_place number)
+        (λ place. started_at place now) all) cursors.new }
 {
     let Some(place) = ats_place(number) else {
         return;
@@ -49,7 +52,9 @@ fn start_ats(cursors: &mut Cursors, tables: &ScTables<'_>, number: u16, now: u32
 
 /// Starts relative sequence `number`.
 fn start_rts(cursors: &mut Cursors, tables: &ScTables<'_>, number: u16, now: u32)
-    ensures { (all : List Sequence) → CursorsStand tables.now all cursors.old → CursorsStand tables.now (where_placed (rts_place number) (λ place. started_at place now) all) cursors.new }
+    ensures { (all : List Sequence) → CursorsStand tables.now all cursors.old
+        → CursorsStand tables.now (where_placed (rts_place number)
+        (λ place. started_at place now) all) cursors.new }
 {
     let Some(place) = rts_place(number) else {
         return;
@@ -60,7 +65,8 @@ fn start_rts(cursors: &mut Cursors, tables: &ScTables<'_>, number: u16, now: u32
 /// Starts the sequence in a place.
 pub(crate) fn start(cursors: &mut Cursors, tables: &ScTables<'_>, place: usize, now: u32)
     requires { place < 66 }
-    ensures { (all : List Sequence) → CursorsStand tables.now all cursors.old → CursorsStand tables.now (started_at place now all) cursors.new }
+    ensures { (all : List Sequence) → CursorsStand tables.now all cursors.old
+        → CursorsStand tables.now (started_at place now all) cursors.new }
 {
     let at = first_at(tables, place, now);
     continue_at(cursors, tables, place, at, now);
@@ -69,7 +75,8 @@ pub(crate) fn start(cursors: &mut Cursors, tables: &ScTables<'_>, place: usize, 
 /// The command with which the sequence in a place begins.
 fn first_at(tables: &ScTables<'_>, place: usize, now: u32) -> u32
     requires { place < 66 }
-    ensures left { drop result (commands_in tables.now place) ≡ started_with place now (commands_in tables.now place) }
+    ensures left { drop result (commands_in tables.now place)
+        ≡ started_with place now (commands_in tables.now place) }
     ensures few { result ≤ 1000 }
 {
     if is_relative(place) {
@@ -89,7 +96,8 @@ pub(crate) fn continue_at(
     requires place { place < 66 }
     requires few { at ≤ 1000 }
     ensures { (all : List Sequence) → CursorsStand tables.now all cursors.old
-        → CursorsStand tables.now (with_at place (going_on place now (drop at (commands_in tables.now place))) all) cursors.new }
+        → CursorsStand tables.now (with_at place
+        (going_on place now (drop at (commands_in tables.now place))) all) cursors.new }
 {
     let cursor = cursors.get(place);
     cursors.set(place, cursor_at(tables, place, at, now, cursor.enabled));
@@ -98,7 +106,9 @@ pub(crate) fn continue_at(
 /// Stops the sequence in a place.
 fn stop(cursors: &mut Cursors, place: usize)
     requires { place < 66 }
-    ensures { (tables : List (List TimedCommand)) (all : List Sequence) → CursorsStand tables all cursors.old → CursorsStand tables (with_at place stopped all) cursors.new }
+    ensures { (tables : List (List TimedCommand)) (all : List Sequence)
+        → CursorsStand tables all cursors.old
+        → CursorsStand tables (with_at place stopped all) cursors.new }
 {
     let mut cursor = cursors.get(place);
     cursor.next = None;
@@ -107,7 +117,10 @@ fn stop(cursors: &mut Cursors, place: usize)
 
 /// Stops relative sequence `number`.
 fn stop_rts(cursors: &mut Cursors, number: u16)
-    ensures { (tables : List (List TimedCommand)) (all : List Sequence) → CursorsStand tables all cursors.old → CursorsStand tables (where_placed (rts_place number) (λ place. with_at place stopped) all) cursors.new }
+    ensures { (tables : List (List TimedCommand)) (all : List Sequence)
+        → CursorsStand tables all cursors.old
+        → CursorsStand tables (where_placed (rts_place number) (λ place. with_at place stopped) all)
+        cursors.new }
 {
     let Some(place) = rts_place(number) else {
         return;
@@ -117,7 +130,10 @@ fn stop_rts(cursors: &mut Cursors, number: u16)
 
 /// Lets relative sequence `number` be started or not.
 fn allow(cursors: &mut Cursors, number: u16, on: bool)
-    ensures { (tables : List (List TimedCommand)) (all : List Sequence) → CursorsStand tables all cursors.old → CursorsStand tables (where_placed (rts_place number) (λ place. with_at place (allowed on)) all) cursors.new }
+    ensures { (tables : List (List TimedCommand)) (all : List Sequence)
+        → CursorsStand tables all cursors.old
+        → CursorsStand tables (where_placed (rts_place number)
+        (λ place. with_at place (allowed on)) all) cursors.new }
 {
     let Some(place) = rts_place(number) else {
         return;
@@ -129,7 +145,9 @@ fn allow(cursors: &mut Cursors, number: u16, on: bool)
 
 /// Stops the absolute sequence that runs and starts the other.
 fn switch_ats(cursors: &mut Cursors, tables: &ScTables<'_>, now: u32)
-    ensures { (all : List Sequence) → CursorsStand tables.now all cursors.old → CursorsStand tables.now (where_placed (running_ats all) (λ place. switched now place) all) cursors.new }
+    ensures { (all : List Sequence) → CursorsStand tables.now all cursors.old
+        → CursorsStand tables.now (where_placed (running_ats all) (λ place. switched now place) all)
+        cursors.new }
 {
     let Some(running) = running_ats(cursors) else {
         return;
@@ -140,7 +158,9 @@ fn switch_ats(cursors: &mut Cursors, tables: &ScTables<'_>, now: u32)
 
 /// Skips the commands before `time` in the absolute sequence that runs.
 fn jump_ats(cursors: &mut Cursors, tables: &ScTables<'_>, time: u32, now: u32)
-    ensures { (all : List Sequence) → CursorsStand tables.now all cursors.old → CursorsStand tables.now (where_placed (running_ats all) (λ place. jumped now time place) all) cursors.new }
+    ensures { (all : List Sequence) → CursorsStand tables.now all cursors.old
+        → CursorsStand tables.now (where_placed (running_ats all)
+        (λ place. jumped now time place) all) cursors.new }
 {
     let Some(place) = running_ats(cursors) else {
         return;

@@ -60,14 +60,16 @@ pub(crate) fn is_relative(place: usize) -> bool
 /// Whether the sequence in a place runs.
 pub(crate) fn is_running(cursors: &Cursors, place: usize) -> bool
     requires { place < 66 }
-    ensures { (tables : List (List TimedCommand)) (all : List Sequence) → CursorsStand tables all cursors.now → result ≡ is_running (at_place all place) }
+    ensures { (tables : List (List TimedCommand)) (all : List Sequence)
+        → CursorsStand tables all cursors.now → result ≡ is_running (at_place all place) }
 {
     cursors.get(place).next.is_some()
 }
 
 /// The place of the absolute sequence that runs.
 pub(crate) fn running_ats(cursors: &Cursors) -> Option<usize>
-    ensures place { (tables : List (List TimedCommand)) (all : List Sequence) → CursorsStand tables all cursors.now → result ≡ running_ats all }
+    ensures place { (tables : List (List TimedCommand)) (all : List Sequence)
+        → CursorsStand tables all cursors.now → result ≡ running_ats all }
     ensures within { IfSome result (λ place. place < 2) }
 {
     if is_running(cursors, 0) {

@@ -35,7 +35,8 @@ impl Sc {
 
     /// Whether the sequence of this kind runs: a command of it is left. No table of another kind runs.
     pub fn runs(&self, kind: TableKind) -> bool
-        ensures { (begin : Beginning) (history : List ScEntry) → Stands begin history self.now → result ≡ runs_in (sequences_of begin history).all (sequence_place kind) }
+        ensures { (begin : Beginning) (history : List ScEntry) → Stands begin history self.now
+            → result ≡ runs_in (sequences_of begin history).all (sequence_place kind) }
     {
         let Some(place) = sequence_place(kind) else {
             return false;
@@ -46,10 +47,13 @@ impl Sc {
     /// Whether a wakeup on these packets at the time `now` does nothing: there are none, and no command is due.
     #[inline(always)]
     pub fn is_idle(&self, commands: &[Packet], now: u32) -> bool
-        ensures exact { (begin : Beginning) (history : List ScEntry) → Stands begin history self.now → result ≡ is_idle_on begin history commands.now now }
-        ensures stands { (begin : Beginning) (history : List ScEntry) (i : Input) → result ≡ true → i.commands ≡ commands.now → i.time ≡ now → Stands begin history self.now
+        ensures exact { (begin : Beginning) (history : List ScEntry) → Stands begin history self.now
+            → result ≡ is_idle_on begin history commands.now now }
+        ensures stands { (begin : Beginning) (history : List ScEntry) (i : Input) → result ≡ true
+            → i.commands ≡ commands.now → i.time ≡ now → Stands begin history self.now
             → Stands begin (history ++ Woken i ∷ []) self.now }
-        ensures items { (begin : Beginning) (history : List ScEntry) (i : Input) → result ≡ true → i.commands ≡ commands.now → i.time ≡ now → Stands begin history self.now
+        ensures items { (begin : Beginning) (history : List ScEntry) (i : Input) → result ≡ true
+            → i.commands ≡ commands.now → i.time ≡ now → Stands begin history self.now
             → sc_items begin history i ≡ [] }
     {
         if !commands.is_empty() {

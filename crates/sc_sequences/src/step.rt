@@ -97,8 +97,12 @@ impl Sc {
         requires empty { out.old.items ≡ [] }
         requires room { MOST_ITEMS ≤ out.old.room }
         requires ready { IsReady tables.now self.now }
-        ensures stands { (begin : Beginning) (history : List ScEntry) → tables.now ≡ tables_after begin history → Stands begin history self.now → Stands begin (history ++ Woken (input_of now commands.now) ∷ []) next.new }
-        ensures items { (begin : Beginning) (history : List ScEntry) → tables.now ≡ tables_after begin history → Stands begin history self.now → out.new.items ≡ sc_items begin history (input_of now commands.now) }
+        ensures stands { (begin : Beginning) (history : List ScEntry)
+            → tables.now ≡ tables_after begin history → Stands begin history self.now
+            → Stands begin (history ++ Woken (input_of now commands.now) ∷ []) next.new }
+        ensures items { (begin : Beginning) (history : List ScEntry)
+            → tables.now ≡ tables_after begin history → Stands begin history self.now
+            → out.new.items ≡ sc_items begin history (input_of now commands.now) }
         ensures ready { IsReady tables.now next.new }
         ensures counted { AllPass is_item_counted out.new.items }
         ensures few { length out.new.items ≤ MOST_ITEMS }
@@ -125,8 +129,12 @@ impl Sc {
         requires empty { out.old.items ≡ [] }
         requires room { MOST_ITEMS ≤ out.old.room }
         requires ready { IsReady tables.now self.old }
-        ensures stands { (begin : Beginning) (history : List ScEntry) → tables.now ≡ tables_after begin history → Stands begin history self.old → Stands begin (history ++ Woken (input_of now commands.now) ∷ []) self.new }
-        ensures items { (begin : Beginning) (history : List ScEntry) → tables.now ≡ tables_after begin history → Stands begin history self.old → out.new.items ≡ sc_items begin history (input_of now commands.now) }
+        ensures stands { (begin : Beginning) (history : List ScEntry)
+            → tables.now ≡ tables_after begin history → Stands begin history self.old
+            → Stands begin (history ++ Woken (input_of now commands.now) ∷ []) self.new }
+        ensures items { (begin : Beginning) (history : List ScEntry)
+            → tables.now ≡ tables_after begin history → Stands begin history self.old
+            → out.new.items ≡ sc_items begin history (input_of now commands.now) }
         ensures ready { IsReady tables.now self.new }
         ensures counted { AllPass is_item_counted out.new.items }
         ensures few { length out.new.items ≤ MOST_ITEMS }

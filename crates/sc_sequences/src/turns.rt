@@ -24,9 +24,12 @@ impl Duty {
     pub(crate) fn take_turns(&mut self, tables: &ScTables<'_>, now: u32, out: &mut Outbox)
         requires started { (s : Sequences) × DutyStands tables.now s self.old }
         requires room { length out.old.items + 16 ≤ out.old.room }
-        ensures stands { (s : Sequences) → DutyStands tables.now s self.old → DutyStands tables.now (turns 8 now s).after self.new }
-        ensures items { (s : Sequences) → DutyStands tables.now s self.old → out.new ≡ adding out.old (turns 8 now s).items }
-        ensures counted { AllPass is_item_counted out.old.items → AllPass is_item_counted out.new.items }
+        ensures stands { (s : Sequences) → DutyStands tables.now s self.old
+            → DutyStands tables.now (turns 8 now s).after self.new }
+        ensures items { (s : Sequences) → DutyStands tables.now s self.old
+            → out.new ≡ adding out.old (turns 8 now s).items }
+        ensures counted { AllPass is_item_counted out.old.items
+            → AllPass is_item_counted out.new.items }
         ensures few { length out.new.items ≤ length out.old.items + 16 }
         ensures room { out.new.room ≡ out.old.room }
     {
@@ -44,9 +47,12 @@ impl Duty {
         requires within { place < 66 }
         requires runs { (time : ℕ) × ((cursor_in self.old.cursors place).next ≡ Some time) }
         requires room { length out.old.items + 2 ≤ out.old.room }
-        ensures stands { (s : Sequences) → DutyStands tables.now s self.old → DutyStands tables.now (leaving now s place (at_place s.all place).left).after self.new }
-        ensures items { (s : Sequences) → DutyStands tables.now s self.old → out.new ≡ adding out.old (leaving now s place (at_place s.all place).left).items }
-        ensures counted { AllPass is_item_counted out.old.items → AllPass is_item_counted out.new.items }
+        ensures stands { (s : Sequences) → DutyStands tables.now s self.old
+            → DutyStands tables.now (leaving now s place (at_place s.all place).left).after self.new }
+        ensures items { (s : Sequences) → DutyStands tables.now s self.old
+            → out.new ≡ adding out.old (leaving now s place (at_place s.all place).left).items }
+        ensures counted { AllPass is_item_counted out.old.items
+            → AllPass is_item_counted out.new.items }
         ensures few { length out.new.items ≤ length out.old.items + 2 }
         ensures room { out.new.room ≡ out.old.room }
     {
@@ -64,7 +70,8 @@ impl Duty {
 fn next_behind(tables: &ScTables<'_>, place: usize, at: u32, right: bool) -> u32
     requires place { place < 66 }
     requires within { at < length (commands_in tables.now place) }
-    ensures left { drop result (commands_in tables.now place) ≡ left_behind place right (drop (at + 1) (commands_in tables.now place)) }
+    ensures left { drop result (commands_in tables.now place)
+        ≡ left_behind place right (drop (at + 1) (commands_in tables.now place)) }
     ensures few { result ≤ 1000 }
 {
     let count = tables.len(place);

@@ -53,7 +53,8 @@ pub(crate) fn own_refusal(
     instruction: &Instruction,
     now: u32,
 ) -> Option<Refusal>
-    ensures { (all : List Sequence) → CursorsStand tables.now all cursors.now → result ≡ own_refusal now all instruction.now }
+    ensures { (all : List Sequence) → CursorsStand tables.now all cursors.now
+        → result ≡ own_refusal now all instruction.now }
 {
     match instruction {
         Instruction::Plain => None,
@@ -75,7 +76,8 @@ fn start_ats_refusal(
     number: u16,
     now: u32,
 ) -> Option<Refusal>
-    ensures { (all : List Sequence) → CursorsStand tables.now all cursors.now → result ≡ start_ats_refusal now all (ats_place number) }
+    ensures { (all : List Sequence) → CursorsStand tables.now all cursors.now
+        → result ≡ start_ats_refusal now all (ats_place number) }
 {
     let Some(place) = ats_place(number) else {
         return Some(Refusal::Number);
@@ -94,7 +96,8 @@ fn start_ats_refusal(
 
 /// The refusal to start relative sequence `number`.
 fn start_rts_refusal(cursors: &Cursors, tables: &ScTables<'_>, number: u16) -> Option<Refusal>
-    ensures { (all : List Sequence) → CursorsStand tables.now all cursors.now → result ≡ start_rts_refusal all (rts_place number) }
+    ensures { (all : List Sequence) → CursorsStand tables.now all cursors.now
+        → result ≡ start_rts_refusal all (rts_place number) }
 {
     let Some(place) = rts_place(number) else {
         return Some(Refusal::Number);
@@ -124,7 +127,8 @@ fn number_refusal(number: u16) -> Option<Refusal>
 
 /// The refusal to enable relative sequence `number`.
 fn enable_refusal(tables: &ScTables<'_>, number: u16) -> Option<Refusal>
-    ensures { (all : List Sequence) (cursors : List Cursor) → CursorsStand tables.now all cursors → result ≡ enable_refusal all (rts_place number) }
+    ensures { (all : List Sequence) (cursors : List Cursor) → CursorsStand tables.now all cursors
+        → result ≡ enable_refusal all (rts_place number) }
 {
     let Some(place) = rts_place(number) else {
         return Some(Refusal::Number);
@@ -137,7 +141,8 @@ fn enable_refusal(tables: &ScTables<'_>, number: u16) -> Option<Refusal>
 
 /// The refusal to switch to the absolute sequence that doesn't run.
 fn switch_refusal(cursors: &Cursors, tables: &ScTables<'_>, now: u32) -> Option<Refusal>
-    ensures { (all : List Sequence) → CursorsStand tables.now all cursors.now → result ≡ switch_refusal now all (running_ats all) }
+    ensures { (all : List Sequence) → CursorsStand tables.now all cursors.now
+        → result ≡ switch_refusal now all (running_ats all) }
 {
     let Some(place) = running_ats(cursors) else {
         return Some(Refusal::NoneRuns);
@@ -154,7 +159,8 @@ fn switch_refusal(cursors: &Cursors, tables: &ScTables<'_>, now: u32) -> Option<
 
 /// The refusal to jump to a time in the absolute sequence that runs.
 fn jump_refusal(cursors: &Cursors, tables: &ScTables<'_>, time: u32) -> Option<Refusal>
-    ensures { (all : List Sequence) → CursorsStand tables.now all cursors.now → result ≡ jump_refusal time all (running_ats all) }
+    ensures { (all : List Sequence) → CursorsStand tables.now all cursors.now
+        → result ≡ jump_refusal time all (running_ats all) }
 {
     let Some(place) = running_ats(cursors) else {
         return Some(Refusal::NoneRuns);

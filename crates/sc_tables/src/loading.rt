@@ -21,7 +21,8 @@ use table_files::EntryFault;
 /// begins behind it, 4 the packet is longer than what remains. It takes no memory.
 pub fn load_ats(payload: &[u8]) -> Result<Ats<'_>, EntryFault>
     ensures table { IfOk result (λ ats. timed_commands ats ≡ ats_of payload.now) }
-    ensures fault { MatchResult result (λ _. ats_fault_of payload.now ≡ None) (λ fault. ats_fault_of payload.now ≡ Some fault) }
+    ensures fault { MatchResult result (λ _. ats_fault_of payload.now
+        ≡ None) (λ fault. ats_fault_of payload.now ≡ Some fault) }
     ensures small { IfErr result (λ fault. fault.reason ≤ 4) }
 {
     let mut places = [Place::BLANK; COMMANDS];
@@ -38,7 +39,8 @@ pub(crate) fn read_in_order(
 ) -> Result<usize, EntryFault>
     ensures ordered { IfOk result (λ count. AreOrdered payload.now (take count places.new)) }
     ensures few { IfOk result (λ count. count ≤ 1000) }
-    ensures fault { MatchResult result (λ _. ats_fault_of payload.now ≡ None) (λ fault. ats_fault_of payload.now ≡ Some fault) }
+    ensures fault { MatchResult result (λ _. ats_fault_of payload.now
+        ≡ None) (λ fault. ats_fault_of payload.now ≡ Some fault) }
     ensures small { IfErr result (λ fault. fault.reason ≤ 4) }
 {
     match read_places(payload, places) {
@@ -106,7 +108,8 @@ fn put_in_order(places: &mut [Place])
 pub fn load_rts(payload: &[u8]) -> Result<Rts<'_>, EntryFault>
     requires { length payload.now ≤ 2048 }
     ensures table { IfOk result (λ rts. relative_commands rts ≡ rts_of payload.now) }
-    ensures fault { MatchResult result (λ _. rts_fault_of payload.now ≡ None) (λ fault. rts_fault_of payload.now ≡ Some fault) }
+    ensures fault { MatchResult result (λ _. rts_fault_of payload.now
+        ≡ None) (λ fault. rts_fault_of payload.now ≡ Some fault) }
     ensures small { IfErr result (λ fault. fault.reason ≤ 4) }
 {
     let mut places = [0; RELATIVE_COMMANDS];
@@ -120,7 +123,8 @@ pub fn load_rts(payload: &[u8]) -> Result<Rts<'_>, EntryFault>
 pub(crate) fn read_relative_places(payload: &[u8], places: &mut [u16]) -> Result<usize, EntryFault>
     requires payload { length payload.now ≤ 2048 }
     requires places { length places.old ≡ 204 }
-    ensures stored { IfOk result (λ count. stored_rts payload.now ≡ Ok (relatives_in payload.now (take count places.new))) }
+    ensures stored { IfOk result (λ count. stored_rts payload.now
+        ≡ Ok (relatives_in payload.now (take count places.new))) }
     ensures whole { IfOk result (λ count. AreWhole payload.now (take count places.new)) }
     ensures few { IfOk result (λ count. count ≤ 204) }
     ensures fault { IfErr result (λ fault. stored_rts payload.now ≡ Err fault) }

@@ -68,7 +68,8 @@ impl<'f> Rts<'f> {
         requires { k < length (relative_commands self.now) }
         ensures whole { is_none (relative_reason result.now) ≡ true }
         ensures long { 10 ≤ length result.now }
-        ensures command { relative_at result.now ≡ slice_index_or (relative_commands self.now) k no_relative }
+        ensures command { relative_at result.now
+            ≡ slice_index_or (relative_commands self.now) k no_relative }
     {
         &self.payload[self.places[k as usize] as usize..]
     }

@@ -49,7 +49,8 @@ impl<'f> ScTables<'f> {
     /// entry is refused all sequences stay as they were.
     pub fn read_ats(&mut self, n: u8, payload: &'f [u8]) -> Option<EntryFault>
         requires { (1 ≤ n) × (n ≤ 2) }
-        ensures table { IfNone result (self.new ≡ slice_set self.old (n - 1) (map of_timed (ats_of payload.now))) }
+        ensures table { IfNone result (self.new
+            ≡ slice_set self.old (n - 1) (map of_timed (ats_of payload.now))) }
         ensures kept { IfSome result (λ _. self.new ≡ self.old) }
         ensures fault { result ≡ ats_fault_of payload.now }
         ensures small { IfSome result (λ fault. fault.reason ≤ 4) }
@@ -69,7 +70,8 @@ impl<'f> ScTables<'f> {
     pub fn read_rts(&mut self, n: u8, payload: &'f [u8]) -> Option<EntryFault>
         requires number { (1 ≤ n) × (n ≤ 64) }
         requires size { length payload.now ≤ 2048 }
-        ensures table { IfNone result (self.new ≡ slice_set self.old (n + 1) (map of_relative (rts_of payload.now))) }
+        ensures table { IfNone result (self.new
+            ≡ slice_set self.old (n + 1) (map of_relative (rts_of payload.now))) }
         ensures kept { IfSome result (λ _. self.new ≡ self.old) }
         ensures fault { result ≡ rts_fault_of payload.now }
         ensures small { IfSome result (λ fault. fault.reason ≤ 4) }

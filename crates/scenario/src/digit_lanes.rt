@@ -20,7 +20,8 @@ pub(crate) const HALF_LANES: usize = 8;
 pub(crate) fn place_pairs(word: &[u8], at: usize, places: &mut [u8; PACKET_BYTES]) -> bool
     requires digits { 2 * at + LANES ≤ length word.now }
     requires room { at + HALF_LANES ≤ PACKET_BYTES }
-    ensures read { hex (take LANES (drop (2 * at) word.now)) ≡ (if result then Some (take HALF_LANES (drop at places.new)) else None) }
+    ensures read { hex (take LANES (drop (2 * at) word.now))
+        ≡ (if result then Some (take HALF_LANES (drop at places.new)) else None) }
     ensures kept { take at places.new ≡ take at places.old }
 {
     let values = values_of(u8x16::from_slice(&word[2 * at..]));

@@ -42,7 +42,8 @@ static LOWS: [u16; 256] = [
 /// The byte that two hexadecimal digits write, and 256 or more where one of them is none.
 #[inline(always)]
 pub(crate) fn pair_value(high: u8, low: u8) -> u16
-    ensures good { result < 256 → ((is_digit high 16 && is_digit low 16) ≡ true) × (result ≡ 16 * digit_value high + digit_value low) }
+    ensures good { result < 256 → ((is_digit high 16 && is_digit low 16) ≡ true)
+        × (result ≡ 16 * digit_value high + digit_value low) }
     ensures bad { 256 ≤ result → (is_digit high 16 && is_digit low 16) ≡ false }
 {
     high_value(high) + low_value(low)

@@ -106,7 +106,8 @@ fn put_frames(lines: &mut LineBuffer, left: &mut Left, buf: &mut [u8]) -> usize
     requires some { 0 < left.old.frames }
     requires room { LINE_ROOM ≤ length buf.old }
     ensures bound { result ≤ length buf.new }
-    ensures moved { text_left left.old.frames left.old.x ≡ take result buf.new ++ text_left left.new.frames left.new.x }
+    ensures moved { text_left left.old.frames left.old.x ≡ take result buf.new
+        ++ text_left left.new.frames left.new.x }
     ensures some { 0 < result }
 {
     let mut filled = 0;
@@ -124,7 +125,8 @@ fn put_frames(lines: &mut LineBuffer, left: &mut Left, buf: &mut [u8]) -> usize
 /// Makes the lines of the next frame, and `end` behind those of the last one.
 fn make_lines(lines: &mut LineBuffer, left: &mut Left)
     requires { 0 < left.old.frames }
-    ensures text { text_left left.old.frames left.old.x ≡ lines.new ++ text_left left.new.frames left.new.x }
+    ensures text { text_left left.old.frames left.old.x ≡ lines.new
+        ++ text_left left.new.frames left.new.x }
     ensures some { 0 < length lines.new }
     ensures fewer { left.new.frames + 1 ≡ left.old.frames }
 {

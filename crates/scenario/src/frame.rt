@@ -169,7 +169,8 @@ impl FrameInput {
     /// Sends the packet of these bytes, and answers whether they are one. Where they aren't nothing changes.
     pub(crate) fn send_bytes(&mut self, bytes: &[u8]) -> bool
         requires { items_in self.old < 64 }
-        ensures sent { result ≡ true → (packet_of bytes.now ≡ Ok bytes.now) × (self.new ≡ record self.old { sends = self.old.sends ++ bytes.now ∷ [] }) }
+        ensures sent { result ≡ true → (packet_of bytes.now ≡ Ok bytes.now)
+            × (self.new ≡ record self.old { sends = self.old.sends ++ bytes.now ∷ [] }) }
         ensures kept { result ≡ false → self.new ≡ self.old }
     {
         if !self.sends.push_bytes(bytes) {

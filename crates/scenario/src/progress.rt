@@ -91,7 +91,8 @@ impl Progress {
 
     fn room_for_item(&self) -> Option<Reason>
         requires { self.now.shown ≡ false }
-        ensures value { (old : Before) → Follows self.now old → result ≡ room_for_item old.sentences }
+        ensures value { (old : Before) → Follows self.now old
+            → result ≡ room_for_item old.sentences }
         ensures room { result ≡ None → items_in self.now.frame.value < 64 }
     {
         if self.frame.len() < FRAME_ITEMS {
@@ -101,7 +102,8 @@ impl Progress {
     }
 
     fn map_refusal(&self) -> Option<Reason>
-        ensures value { result ≡ (if is_none (map_fault_of self.now.regions) then None else Some Reason.Map) }
+        ensures value { result ≡ (if is_none (map_fault_of self.now.regions) then None
+            else Some Reason.Map) }
         ensures room { result ≡ None → map_fault_of self.now.regions ≡ None }
     {
         match Map::new(self.regions.as_slice()) {
@@ -112,7 +114,8 @@ impl Progress {
 
     #[tactic(auto, unfolding(crate::specs::Frames::refusal))]
     fn tick_refusal(&self) -> Option<Reason>
-        ensures value { (old : Before) → Follows self.now old → result ≡ refusal old.sentences Sentence.Tick }
+        ensures value { (old : Before) → Follows self.now old
+            → result ≡ refusal old.sentences Sentence.Tick }
         ensures room { result ≡ None → HasRoom self.now Sentence.Tick }
     {
         if self.ticks < FRAMES {
@@ -125,7 +128,8 @@ impl Progress {
     #[tactic(auto, unfolding(crate::specs::Frames::refusal))]
     fn refusal(&self, said: &Sentence) -> Option<Reason>
         requires { self.now.shown ≡ false }
-        ensures value { (old : Before) → Follows self.now old → result ≡ refusal old.sentences said.now }
+        ensures value { (old : Before) → Follows self.now old
+            → result ≡ refusal old.sentences said.now }
         ensures room { result ≡ None → HasRoom self.now said.now }
     {
         match said {
@@ -154,7 +158,8 @@ impl Progress {
 
     fn is_too_long(&self, line: &[u8], takes: u32) -> bool
         requires { takes ≤ 1000 }
-        ensures { result ≡ (nat_lt 640 (length line.now) || nat_lt 16777216 (self.now.bytes + takes)) }
+        ensures { result ≡ (nat_lt 640 (length line.now)
+            || nat_lt 16777216 (self.now.bytes + takes)) }
     {
         line.len() > LINE_BYTES || self.bytes + takes > TEXT_BYTES
     }
@@ -165,7 +170,9 @@ impl Progress {
         requires hidden { self.now.shown ≡ false }
         requires tick { Begins line.now Verb.Tick [] }
         requires takes { takes ≤ 1000 }
-        ensures value { (old : Before) → Follows self.now old → Gives (λ _. Some Sentence.Tick) result (reads old (record { bytes = line.now; takes = takes })) }
+        ensures value { (old : Before) → Follows self.now old
+            → Gives (λ _. Some Sentence.Tick) result
+            (reads old (record { bytes = line.now; takes = takes })) }
         ensures room { IfOk result (λ _. HasRoomFor self.now (Some Sentence.Tick)) }
         ensures placed { IfOk result (λ _. IsPlaced self.now.place (Some Sentence.Tick)) }
         ensures small { IfOk result (λ _. self.now.bytes + takes ≤ 16777216) }
@@ -225,8 +232,11 @@ impl Progress {
         requires some { 0 < takes }
         requires small { self.old.bytes + takes ≤ 16777216 }
         ensures good { result ≡ true → packet_of bytes.now ≡ Ok bytes.now }
-        ensures follows { result ≡ true → (old : Before) (line : List ℕ) → Follows self.old old → Follows self.new (passed old (record { bytes = line; takes = takes }) (Some (Sentence.Send bytes.now))) }
-        ensures shows { result ≡ true → KeepsFrame self.old (Some (Sentence.Send bytes.now)) self.new }
+        ensures follows { result ≡ true → (old : Before) (line : List ℕ) → Follows self.old old
+            → Follows self.new (passed old (record { bytes = line; takes = takes })
+            (Some (Sentence.Send bytes.now))) }
+        ensures shows { result ≡ true → KeepsFrame self.old
+            (Some (Sentence.Send bytes.now)) self.new }
         ensures kept { result ≡ false → self.new ≡ self.old }
     {
         if !self.frame.send_bytes(bytes) {
@@ -249,7 +259,8 @@ impl Progress {
     ) -> Result<(), Reason>
         requires hidden { self.now.shown ≡ false }
         requires takes { takes ≤ 1000 }
-        ensures value { (old : Before) → Follows self.now old → Gives (λ _. said.new) result (reads old (record { bytes = line.now; takes = takes })) }
+        ensures value { (old : Before) → Follows self.now old
+            → Gives (λ _. said.new) result (reads old (record { bytes = line.now; takes = takes })) }
         ensures room { IfOk result (λ _. HasRoomFor self.now said.new) }
         ensures placed { IfOk result (λ _. IsPlaced self.now.place said.new) }
         ensures small { IfOk result (λ _. self.now.bytes + takes ≤ 16777216) }
@@ -269,7 +280,11 @@ impl Progress {
 
     fn start(&mut self)
         requires { map_fault_of self.old.regions ≡ None }
-        ensures { self.new ≡ record self.old { place = Place.Between; header = Some (record { epoch = self.old.epoch; map = self.old.regions }) } }
+        ensures { self.new ≡ record self.old {
+          place = Place.Between;
+          header = Some
+              (record { epoch = self.old.epoch; map = self.old.regions });
+        } }
     {
         self.place = Place::Between;
         match Map::new(self.regions.as_slice()) {
@@ -287,7 +302,8 @@ impl Progress {
     fn say(&mut self, said: &Sentence)
         requires hidden { self.old.shown ≡ false }
         requires room { HasRoom self.old said.now }
-        ensures follows { (old : Before) → Follows self.old old → Follows self.new (record old { sentences = said.now ∷ old.sentences }) }
+        ensures follows { (old : Before) → Follows self.old old
+            → Follows self.new (record old { sentences = said.now ∷ old.sentences }) }
         ensures shows { KeepsFrame self.old (Some said.now) self.new }
     {
         match said {
@@ -343,7 +359,9 @@ impl Progress {
         requires room { HasRoomFor self.old (Some Sentence.Tick) }
         requires some { 0 < takes }
         requires small { self.old.bytes + takes ≤ 16777216 }
-        ensures follows { (old : Before) (line : List ℕ) → Follows self.old old → Follows self.new (passed old (record { bytes = line; takes = takes }) (Some Sentence.Tick)) }
+        ensures follows { (old : Before) (line : List ℕ) → Follows self.old old
+            → Follows self.new (passed old (record { bytes = line; takes = takes })
+            (Some Sentence.Tick)) }
         ensures shows { KeepsFrame self.old (Some Sentence.Tick) self.new }
     {
         self.bytes += takes;
@@ -359,7 +377,8 @@ impl Progress {
         requires room { HasRoomFor self.old said.now }
         requires some { 0 < takes }
         requires small { self.old.bytes + takes ≤ 16777216 }
-        ensures follows { (old : Before) (line : List ℕ) → Follows self.old old → Follows self.new (passed old (record { bytes = line; takes = takes }) said.now) }
+        ensures follows { (old : Before) (line : List ℕ) → Follows self.old old
+            → Follows self.new (passed old (record { bytes = line; takes = takes }) said.now) }
         ensures shows { KeepsFrame self.old said.now self.new }
     {
         self.bytes += takes;

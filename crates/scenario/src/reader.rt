@@ -153,7 +153,8 @@ impl Reader {
 
     /// Says that no more bytes come.
     pub fn finish(&mut self)
-        ensures stands { (t : Text) (gave : List Given) → Stands self.old t gave → Stands self.new (closed t) gave }
+        ensures stands { (t : Text) (gave : List Given) → Stands self.old t gave
+            → Stands self.new (closed t) gave }
         ensures left { left self.new ≡ left self.old }
         ensures finished { is_finished self.new ≡ true }
     {
@@ -165,12 +166,15 @@ impl Reader {
     /// `More` comes where the bytes fed so far hold no whole further item and `finish` wasn't called, `End`
     /// where the text ended well, and `Bad` at the first bad line or where the text is unended.
     pub fn next(&mut self) -> Item
-        ensures header { result ≡ Item.Header → (t : Text) (gave : List Given) → Stands self.old t gave
+        ensures header { result ≡ Item.Header → (t : Text) (gave : List Given)
+            → Stands self.old t gave
             → Stands self.new t (gave ++ header_in self.new ∷ []) }
-        ensures frame { result ≡ Item.Frame → (t : Text) (gave : List Given) → Stands self.old t gave
+        ensures frame { result ≡ Item.Frame → (t : Text) (gave : List Given)
+            → Stands self.old t gave
             → Stands self.new t (gave ++ frame_in self.new ∷ []) }
         ensures last { IsLast result → (t : Text) (gave : List Given) → Stands self.old t gave
-            → Stands self.new t gave × (gave ≡ (reading t).items) × (result ≡ answer_at_end (reading t).ending) }
+            → Stands self.new t gave × (gave ≡ (reading t).items)
+            × (result ≡ answer_at_end (reading t).ending) }
         ensures unclosed { result ≡ Item.More → is_finished self.new ≡ false }
         ensures finished { is_finished self.new ≡ is_finished self.old }
         ensures left { left self.new ≤ left self.old }
@@ -182,8 +186,10 @@ impl Reader {
         ensures whole { IsItem result → left self.new ≡ 0 }
         ensures stop { IsItem result → (t : Text) (gave : List Given) → Stands self.old t gave
             → slice_index (reading t).stops (length gave) ≡ length t.bytes }
-        ensures bad { (line : ℕ) (reason : Reason) (t : Text) (gave : List Given) → IsLast result → Stands self.old t gave
-            → (reading t).ending ≡ Bad line reason → slice_index (reading t).stops (length gave) ≡ length t.bytes }
+        ensures bad { (line : ℕ) (reason : Reason) (t : Text) (gave : List Given) → IsLast result
+            → Stands self.old t gave
+            → (reading t).ending ≡ Bad line reason
+            → slice_index (reading t).stops (length gave) ≡ length t.bytes }
     {
         self.progress.begin();
         if !self.has_line() {
@@ -263,7 +269,8 @@ impl Reader {
 
     /// What is answered where no line is left.
     fn at_end(&self) -> Item
-        ensures { result ≡ end_answer self.now.finished self.now.progress.place self.now.progress.lines }
+        ensures { result ≡ end_answer self.now.finished self.now.progress.place
+            self.now.progress.lines }
     {
         if !self.finished {
             return Item::More;
@@ -306,7 +313,8 @@ impl Reader {
     fn close_line(&mut self) -> Item
         ensures line { self.new.line.value ≡ [] }
         ensures others { self.new ≡ record self.old { line = self.new.line; whole = false } }
-        ensures answer { result ≡ end_answer self.old.finished self.old.progress.place self.old.progress.lines }
+        ensures answer { result ≡ end_answer self.old.finished self.old.progress.place
+            self.old.progress.lines }
     {
         self.line.clear();
         self.whole = false;

@@ -58,7 +58,8 @@ impl SendList {
     /// Puts the packet of these bytes behind the others, and answers whether they are one. Where they aren't nothing changes.
     pub(crate) fn push_bytes(&mut self, bytes: &[u8]) -> bool
         requires { length self.old < 64 }
-        ensures pushed { result ≡ true → (packet_of bytes.now ≡ Ok bytes.now) × (self.new ≡ self.old ++ bytes.now ∷ []) }
+        ensures pushed { result ≡ true → (packet_of bytes.now ≡ Ok bytes.now)
+            × (self.new ≡ self.old ++ bytes.now ∷ []) }
         ensures kept { result ≡ false → self.new ≡ self.old }
     {
         match self.places[self.count].set_bytes(bytes) {

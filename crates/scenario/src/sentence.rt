@@ -138,7 +138,8 @@ fn two_words(rest: &[u8]) -> Result<(&[u8], &[u8]), Reason>
 }
 
 fn three_words(rest: &[u8]) -> Result<(&[u8], &[u8], &[u8]), Reason>
-    ensures { Gives (λ parts. (parts.0.now, parts.1.now, parts.2.now)) result (three (words rest.now)) }
+    ensures { Gives (λ parts. (parts.0.now, parts.1.now, parts.2.now)) result
+        (three (words rest.now)) }
 {
     match split_word(rest) {
         Some((first, rest)) => {
@@ -232,7 +233,9 @@ fn say_send(bytes: &[u8], said: &mut Option<Sentence>) -> Result<(), Reason>
 /// How many bytes the digits write that come behind `send` and end with their line, where they write any: they stand in the first
 /// of the places then, and are said where they are a packet.
 pub(crate) fn read_send(rest: &[u8], places: &mut [u8; PACKET_BYTES]) -> Option<usize>
-    ensures said { IfSome result (λ count. packet_of (take count places.new) ≡ Ok (take count places.new) → as_said (send_line (words rest.now)) ≡ Ok (Some (Sentence.Send (take count places.new)))) }
+    ensures said { IfSome result (λ count. packet_of (take count places.new)
+        ≡ Ok (take count places.new) → as_said (send_line (words rest.now))
+        ≡ Ok (Some (Sentence.Send (take count places.new)))) }
     ensures few { IfSome result (λ count. count ≤ PACKET_BYTES) }
 {
     let word = behind_spaces(rest);
@@ -316,7 +319,8 @@ fn activate_line(rest: &[u8], said: &mut Option<Sentence>) -> Result<(), Reason>
 }
 
 fn start_line(rest: &[u8], said: &mut Option<Sentence>) -> Result<(), Reason>
-    ensures value { Gives (λ _. said.new) result (as_said (bare_line Sentence.Start (words rest.now))) }
+    ensures value { Gives (λ _. said.new) result
+        (as_said (bare_line Sentence.Start (words rest.now))) }
     ensures verb { IfOk result (λ _. IsOfVerb Verb.Start said.new) }
 {
     no_word(rest)?;
@@ -335,7 +339,8 @@ fn say_tick(said: &mut Option<Sentence>)
 }
 
 fn tick_line(rest: &[u8], said: &mut Option<Sentence>) -> Result<(), Reason>
-    ensures value { Gives (λ _. said.new) result (as_said (bare_line Sentence.Tick (words rest.now))) }
+    ensures value { Gives (λ _. said.new) result
+        (as_said (bare_line Sentence.Tick (words rest.now))) }
     ensures verb { IfOk result (λ _. IsOfVerb Verb.Tick said.new) }
 {
     no_word(rest)?;
@@ -344,7 +349,8 @@ fn tick_line(rest: &[u8], said: &mut Option<Sentence>) -> Result<(), Reason>
 }
 
 fn end_line(rest: &[u8], said: &mut Option<Sentence>) -> Result<(), Reason>
-    ensures value { Gives (λ _. said.new) result (as_said (bare_line Sentence.End (words rest.now))) }
+    ensures value { Gives (λ _. said.new) result
+        (as_said (bare_line Sentence.End (words rest.now))) }
     ensures verb { IfOk result (λ _. IsOfVerb Verb.End said.new) }
 {
     no_word(rest)?;
@@ -439,7 +445,8 @@ pub(crate) fn is_tick(line: &[u8]) -> bool
 
 /// Whether such a line may stand at a place.
 pub(crate) fn tick_says(place: Place) -> Result<(), Reason>
-    ensures value { (line : List ℕ) → Begins line Verb.Tick [] → Gives (λ _. Some Sentence.Tick) result (line_says place line) }
+    ensures value { (line : List ℕ) → Begins line Verb.Tick []
+        → Gives (λ _. Some Sentence.Tick) result (line_says place line) }
     ensures placed { IfOk result (λ _. IsPlaced place (Some Sentence.Tick)) }
 {
     if may_stand(place, Verb::Tick) {

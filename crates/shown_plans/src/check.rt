@@ -62,7 +62,8 @@ fn fault_numbered(line: u32, number: u8) -> ScenarioFault
 
 /// Reads a whole text, and tells its first line with a fault.
 pub(crate) fn read_to_end(reader: &mut Reader, text: &[u8]) -> Result<(), ScenarioFault>
-    requires { Stands reader.old (record { bytes = []; closed = false }) [] × (is_finished reader.old ≡ false) }
+    requires { Stands reader.old (record { bytes = []; closed = false }) []
+        × (is_finished reader.old ≡ false) }
     ensures { GivesEnd (answered text.now) result }
 {
     let mut rest = text;

@@ -12,7 +12,8 @@ use telecommands::{Command, show_command};
 
 /// Appends the line of a packet that its command's words say, or the line as it is.
 fn put_worded(first: &[u8], rest: &[u8], text: &[u8], out: &mut Vec<u8>) -> Result<(), AllocError>
-    ensures { OnOk result (out.new.items ≡ out.old.items ++ worded (first.now ∷ words rest.now) text.now) }
+    ensures { OnOk result (out.new.items ≡ out.old.items
+        ++ worded (first.now ∷ words rest.now) text.now) }
 {
     if text.starts_with(b"packet=") {
         return put_line(first, rest, out);
@@ -32,7 +33,8 @@ fn put_packet(
     out: &mut Vec<u8>,
 ) -> Result<(), AllocError>
     requires { are_good commands.now ≡ true }
-    ensures { OnOk result (out.new.items ≡ out.old.items ++ bytes_shown commands.now (first.now ∷ words rest.now) (Some bytes.now)) }
+    ensures { OnOk result (out.new.items ≡ out.old.items
+        ++ bytes_shown commands.now (first.now ∷ words rest.now) (Some bytes.now)) }
 {
     match Packet::from_bytes(bytes) {
         Ok(packet) => {
@@ -54,7 +56,8 @@ fn put_send(
     out: &mut Vec<u8>,
 ) -> Result<(), AllocError>
     requires { are_good commands.now ≡ true }
-    ensures { OnOk result (out.new.items ≡ out.old.items ++ sent_shown commands.now (first.now ∷ words rest.now) (words rest.now)) }
+    ensures { OnOk result (out.new.items ≡ out.old.items
+        ++ sent_shown commands.now (first.now ∷ words rest.now) (words rest.now)) }
 {
     let Some((word, more)) = split_word(rest) else {
         return put_line(first, rest, out);
@@ -80,7 +83,8 @@ fn put_shown(
     out: &mut Vec<u8>,
 ) -> Result<(), AllocError>
     requires { are_good commands.now ≡ true }
-    ensures { OnOk result (out.new.items ≡ out.old.items ++ line_shown commands.now first.now (words rest.now)) }
+    ensures { OnOk result (out.new.items ≡ out.old.items
+        ++ line_shown commands.now first.now (words rest.now)) }
 {
     if first == b"send".as_slice() {
         return put_send(alloc, commands, first, rest, scratch, out);
@@ -119,7 +123,8 @@ pub(crate) fn show_line(
 ) -> Result<Ended, AllocError>
     requires good { are_good commands.now ≡ true }
     requires few { ended.now.come + 1 < 2 ^ 32 }
-    ensures shown { GivesLine commands.now ended.now (words line.now) out.old.items out.new.items result }
+    ensures shown { GivesLine commands.now ended.now
+        (words line.now) out.old.items out.new.items result }
     ensures few { IfOk result (λ e. e.come ≤ ended.now.come + 1) }
 {
     let Some((first, rest)) = split_word(line) else {

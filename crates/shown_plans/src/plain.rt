@@ -11,7 +11,8 @@ use table_texts::next_line;
 /// Appends `send` and the digits of these bytes.
 #[tactic(auto, unfolding(row_forms::specs::Rows::spaced))]
 fn put_bytes(first: &[u8], rest: &[u8], bytes: &[u8], out: &mut Vec<u8>) -> Result<(), AllocError>
-    ensures { OnOk result (out.new.items ≡ out.old.items ++ plain_packet (first.now ∷ words rest.now) (Some bytes.now)) }
+    ensures { OnOk result (out.new.items ≡ out.old.items
+        ++ plain_packet (first.now ∷ words rest.now) (Some bytes.now)) }
 {
     out.extend_from_slice(b"send ")?;
     push_hex(bytes, out)?;
@@ -20,7 +21,8 @@ fn put_bytes(first: &[u8], rest: &[u8], bytes: &[u8], out: &mut Vec<u8>) -> Resu
 
 /// Appends the line of a `send`.
 fn put_send(alloc: Global, first: &[u8], rest: &[u8], out: &mut Vec<u8>) -> Result<(), AllocError>
-    ensures { OnOk result (out.new.items ≡ out.old.items ++ plain_sent (first.now ∷ words rest.now) (words rest.now)) }
+    ensures { OnOk result (out.new.items ≡ out.old.items
+        ++ plain_sent (first.now ∷ words rest.now) (words rest.now)) }
 {
     let Some((word, more)) = split_word(rest) else {
         return put_line(first, rest, out);

@@ -102,7 +102,8 @@ fn list_counters<S>(seats: &[Seat<S>], readings: &mut Vec<Counter>)
 
 /// Restarts each subject of this name.
 fn restart_named<S: Subject>(name: &Name, seats: &mut [Seat<S>])
-    ensures { map S.seen (held seats.new) ≡ map (restarted_if name.now) (map S.seen (held seats.old)) }
+    ensures { map S.seen (held seats.new) ≡ map (restarted_if name.now)
+        (map S.seen (held seats.old)) }
 {
     for seat in seats.iter_mut() {
         seat.restart_if(name);
@@ -120,7 +121,8 @@ fn restart_each<S: Subject>(seats: &mut [Seat<S>])
 
 /// Drops the subjects of this name; the others stay in their order.
 fn keep_others<S: Subject>(name: &Name, seats: &mut Vec<Seat<S>>)
-    ensures left { seats.new.items ≡ filter (λ s. not (is_named name.now (S.seen s.subject))) seats.old.items }
+    ensures left { seats.new.items ≡ filter (λ s. not (is_named name.now (S.seen s.subject)))
+        seats.old.items }
     ensures fewer { vec_len seats.new ≤ vec_len seats.old }
 {
     seats.retain(|seat| !seat.is_named(name));
@@ -140,7 +142,8 @@ impl<S: Subject + Send> Crowd<S> {
 
     /// Cycles each subject once, on up to 16 workers.
     pub fn cycle<R: Threads + Sync>(&mut self, rt: &R)
-        ensures subjects { map S.seen self.new.subjects ≡ all_cycled (map S.seen self.old.subjects) }
+        ensures subjects { map S.seen self.new.subjects
+            ≡ all_cycled (map S.seen self.old.subjects) }
         ensures readings { self.new.readings ≡ map counter_of (map S.seen self.old.subjects) }
     {
         self.cycle_on(rt, WORKERS);
@@ -149,7 +152,8 @@ impl<S: Subject + Send> Crowd<S> {
     /// Cycles each subject once, on up to so many workers, each with 32 subjects or more. One worker starts no thread.
     pub fn cycle_on<R: Threads + Sync>(&mut self, rt: &R, workers: u32)
         requires { 0 < workers }
-        ensures subjects { map S.seen self.new.subjects ≡ all_cycled (map S.seen self.old.subjects) }
+        ensures subjects { map S.seen self.new.subjects
+            ≡ all_cycled (map S.seen self.old.subjects) }
         ensures readings { self.new.readings ≡ map counter_of (map S.seen self.old.subjects) }
     {
         let workers = workers.min(self.seats.len() as u32 / SHARE);
@@ -171,7 +175,8 @@ impl<S: Subject + Send> Crowd<S> {
 
     /// Restarts each subject of this name. The counters of the last cycle stay.
     pub fn restart(&mut self, name: Name)
-        ensures subjects { map S.seen self.new.subjects ≡ with_restarted name (map S.seen self.old.subjects) }
+        ensures subjects { map S.seen self.new.subjects
+            ≡ with_restarted name (map S.seen self.old.subjects) }
         ensures readings { self.new.readings ≡ self.old.readings }
     {
         restart_named(&name, self.seats.as_mut_slice());
@@ -179,8 +184,10 @@ impl<S: Subject + Send> Crowd<S> {
 
     /// Drops each subject of this name; the others stay as they are, in their order. The counters of the last cycle stay.
     pub fn delete(&mut self, name: Name)
-        ensures subjects { map S.seen self.new.subjects ≡ without name (map S.seen self.old.subjects) }
-        ensures others { self.new.subjects ≡ filter (λ s. not (is_named name (S.seen s))) self.old.subjects }
+        ensures subjects { map S.seen self.new.subjects
+            ≡ without name (map S.seen self.old.subjects) }
+        ensures others { self.new.subjects ≡ filter
+            (λ s. not (is_named name (S.seen s))) self.old.subjects }
         ensures readings { self.new.readings ≡ self.old.readings }
     {
         keep_others(&name, &mut self.seats);
@@ -188,7 +195,8 @@ impl<S: Subject + Send> Crowd<S> {
 
     /// Restarts each subject. The counters of the last cycle stay.
     pub fn restart_all(&mut self)
-        ensures subjects { map S.seen self.new.subjects ≡ all_restarted (map S.seen self.old.subjects) }
+        ensures subjects { map S.seen self.new.subjects
+            ≡ all_restarted (map S.seen self.old.subjects) }
         ensures readings { self.new.readings ≡ self.old.readings }
     {
         restart_each(self.seats.as_mut_slice());

@@ -18,7 +18,8 @@ pub fn subjects_leave_for_good()
 /// What a list of calls leaves, at one more call.
 #[tactic(auto, using(crate::proofs::Leaving::calls_more))]
 pub fn calls_go_on()
-    ensures { (subjects : List Simulated) (calls : List Call) (call : Call) → after_calls subjects (calls ++ call ∷ []) ≡ after_call (after_calls subjects calls) call }
+    ensures { (subjects : List Simulated) (calls : List Call) (call : Call)
+        → after_calls subjects (calls ++ call ∷ []) ≡ after_call (after_calls subjects calls) call }
 {}
 
 /// A subject stays one as it is cycled or restarted.
@@ -34,21 +35,35 @@ pub fn subjects_go_round()
 
 /// The counters of the three subjects from their start on; one that goes back to its last counter, and one of one counter.
 pub fn worked_plans()
-    ensures steady { (name : List ℕ) → readings_ahead 5 (starting name steady_plan) ≡ 1 ∷ 2 ∷ 1 ∷ 2 ∷ 1 ∷ [] }
-    ensures hanging { (name : List ℕ) → readings_ahead 6 (starting name (hanging_plan 4)) ≡ 1 ∷ 2 ∷ 3 ∷ 4 ∷ 4 ∷ 4 ∷ [] }
-    ensures hanging_at_once { (name : List ℕ) → readings_ahead 3 (starting name (hanging_plan 1)) ≡ 1 ∷ 1 ∷ 1 ∷ [] }
-    ensures listed { (name : List ℕ) → readings_ahead 7 (starting name (record { values = 5 ∷ 5 ∷ 6 ∷ []; back = 0 })) ≡ 5 ∷ 5 ∷ 6 ∷ 5 ∷ 5 ∷ 6 ∷ 5 ∷ [] }
-    ensures back_to_second { (name : List ℕ) → readings_ahead 6 (starting name (record { values = 7 ∷ 8 ∷ 9 ∷ []; back = 1 })) ≡ 7 ∷ 8 ∷ 9 ∷ 8 ∷ 9 ∷ 8 ∷ [] }
-    ensures back_to_last { (name : List ℕ) → readings_ahead 5 (starting name (record { values = 7 ∷ 8 ∷ 9 ∷ []; back = 2 })) ≡ 7 ∷ 8 ∷ 9 ∷ 9 ∷ 9 ∷ [] }
-    ensures one_counter { (name : List ℕ) → readings_ahead 3 (starting name (record { values = 4294967295 ∷ []; back = 0 })) ≡ 4294967295 ∷ 4294967295 ∷ 4294967295 ∷ [] }
+    ensures steady { (name : List ℕ) → readings_ahead 5 (starting name steady_plan) ≡ 1 ∷ 2 ∷ 1 ∷ 2
+        ∷ 1 ∷ [] }
+    ensures hanging { (name : List ℕ) → readings_ahead 6 (starting name (hanging_plan 4)) ≡ 1 ∷ 2
+        ∷ 3 ∷ 4 ∷ 4 ∷ 4 ∷ [] }
+    ensures hanging_at_once { (name : List ℕ)
+        → readings_ahead 3 (starting name (hanging_plan 1)) ≡ 1 ∷ 1 ∷ 1 ∷ [] }
+    ensures listed { (name : List ℕ) → readings_ahead 7
+        (starting name (record { values = 5 ∷ 5 ∷ 6 ∷ []; back = 0 })) ≡ 5 ∷ 5 ∷ 6 ∷ 5 ∷ 5 ∷ 6 ∷ 5
+        ∷ [] }
+    ensures back_to_second { (name : List ℕ) → readings_ahead 6
+        (starting name (record { values = 7 ∷ 8 ∷ 9 ∷ []; back = 1 })) ≡ 7 ∷ 8 ∷ 9 ∷ 8 ∷ 9 ∷ 8
+        ∷ [] }
+    ensures back_to_last { (name : List ℕ) → readings_ahead 5
+        (starting name (record { values = 7 ∷ 8 ∷ 9 ∷ []; back = 2 })) ≡ 7 ∷ 8 ∷ 9 ∷ 9 ∷ 9 ∷ [] }
+    ensures one_counter { (name : List ℕ) → readings_ahead 3
+        (starting name (record { values = 4294967295 ∷ []; back = 0 })) ≡ 4294967295 ∷ 4294967295
+        ∷ 4294967295 ∷ [] }
 {}
 
 /// Three subjects, two of one name: what a cycle gives and leaves, and requests for either name, for one that nobody has, and for all.
 pub fn worked_crowd()
-    ensures first_readings { map counter_of three ≡ record { name = nav; value = 1 } ∷ record { name = pwr; value = 1 } ∷ record { name = nav; value = 5 } ∷ [] }
-    ensures third_readings { map counter_of (all_cycled (all_cycled three)) ≡ record { name = nav; value = 1 } ∷ record { name = pwr; value = 3 } ∷ record { name = nav; value = 6 } ∷ [] }
+    ensures first_readings { map counter_of three ≡ record { name = nav; value = 1 }
+        ∷ record { name = pwr; value = 1 } ∷ record { name = nav; value = 5 } ∷ [] }
+    ensures third_readings { map counter_of (all_cycled (all_cycled three))
+        ≡ record { name = nav; value = 1 } ∷ record { name = pwr; value = 3 }
+        ∷ record { name = nav; value = 6 } ∷ [] }
     ensures restarted { map (λ s. s.at) (with_restarted nav (all_cycled three)) ≡ 0 ∷ 1 ∷ 0 ∷ [] }
-    ensures one_restarted { map (λ s. s.at) (with_restarted pwr (all_cycled three)) ≡ 1 ∷ 0 ∷ 1 ∷ [] }
+    ensures one_restarted { map (λ s. s.at) (with_restarted pwr (all_cycled three)) ≡ 1 ∷ 0 ∷ 1
+        ∷ [] }
     ensures none_restarted { with_restarted pwr2 (all_cycled three) ≡ all_cycled three }
     ensures all_restarted { all_restarted (all_cycled three) ≡ three }
     ensures deleted { map (λ s. s.name) (without nav three) ≡ pwr ∷ [] }

@@ -53,7 +53,9 @@ impl Listed {
     /// A subject that gives these counters and then goes back to this place, counted from 0; or the first of the faults.
     #[tactic(auto, unfolding(crate::specs::Faults::plan_fault_of))]
     pub fn new(name: Name, values: Vec<u32>, back: u32) -> Result<Listed, PlanFault>
-        ensures { MatchResult result (λ s. (plan_fault_of values.items back ≡ None) × (s ≡ starting name (record { values = values.items; back = back }))) (λ fault. plan_fault_of values.items back ≡ Some fault) }
+        ensures { MatchResult result (λ s. (plan_fault_of values.items back ≡ None)
+            × (s ≡ starting name (record { values = values.items; back = back })))
+            (λ fault. plan_fault_of values.items back ≡ Some fault) }
     {
         if values.is_empty() {
             return Err(PlanFault::Empty);

@@ -66,7 +66,8 @@ fn listed_values(alloc: Global) -> Result<Vec<u32>, NoMemory>
 /// The third application.
 #[tactic(auto, unfolding(crate::specs::Faults::plan_fault_of, packet_forms::specs::Names::is_name_text))]
 fn listed_subject(alloc: Global) -> Result<Listed, NoMemory>
-    ensures { IfOk result (λ subject. subject ≡ starting (name_of (codes "THM")) (record { values = 5 ∷ 5 ∷ 6 ∷ []; back = 0 })) }
+    ensures { IfOk result (λ subject. subject
+        ≡ starting (name_of (codes "THM")) (record { values = 5 ∷ 5 ∷ 6 ∷ []; back = 0 })) }
 {
     let values = listed_values(alloc)?;
     match Listed::new(named("THM"), values, 0) {

@@ -85,7 +85,8 @@ fn push_numbered(name: &[u8], number: u8, out: &mut Vec<u8>) -> Result<(), Alloc
 /// Appends the name of a relative sequence.
 fn push_relative(number: u8, out: &mut Vec<u8>) -> Result<(), AllocError>
     requires { number ≤ 64 }
-    ensures { OnOk result (out.new.items ≡ out.old.items ++ (codes "SC.RTS_TBL0" ++ (48 + number / 10) ∷ (48 + number % 10) ∷ [])) }
+    ensures { OnOk result (out.new.items ≡ out.old.items
+        ++ (codes "SC.RTS_TBL0" ++ (48 + number / 10) ∷ (48 + number % 10) ∷ [])) }
 {
     out.extend_from_slice(b"SC.RTS_TBL0")?;
     out.push(b'0' + number / 10)?;
@@ -144,7 +145,8 @@ pub(crate) fn show_header(
 ) -> Result<(), AllocError>
     requires fields { is_open fields.now HEADER ≡ true }
     requires bytes { HEADER ≤ length bytes.now }
-    ensures { OnOk result (out.new.items ≡ out.old.items ++ header_shown fields.now (header_of bytes.now)) }
+    ensures { OnOk result (out.new.items ≡ out.old.items
+        ++ header_shown fields.now (header_of bytes.now)) }
 {
     put_header(bytes, row)?;
     if are_zeros(row) {

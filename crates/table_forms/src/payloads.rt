@@ -21,7 +21,8 @@ use table_texts::{
 pub(crate) fn behind_word<'a>(wanted: &[u8], line: &'a [u8]) -> Option<&'a [u8]>
     ensures { MatchOption result
         (begins wanted.now (words line.now) ≡ false)
-        (λ behind. (begins wanted.now (words line.now) ≡ true) × (words behind.now ≡ behind_first (words line.now))) }
+        (λ behind. (begins wanted.now (words line.now) ≡ true)
+        × (words behind.now ≡ behind_first (words line.now))) }
 {
     match split_word(line) {
         Some((word, behind)) if word == wanted => Some(behind),
@@ -43,7 +44,8 @@ pub(crate) fn read_payload(
     requires head { is_open forms.now.layouts.now.head.now 4 ≡ true }
     requires form { is_form form ≡ true }
     requires short { line + length text.now < 2 ^ 32 }
-    ensures { GivesTable (with_front out.old.items (payload_said forms.now form line (kept_of line text.now))) out.new.items result }
+    ensures { GivesTable (with_front out.old.items
+        (payload_said forms.now form line (kept_of line text.now))) out.new.items result }
 {
     match form {
         PayloadForm::Entries(layout) => read_rows(forms, layout, line, text, scratch, out),
@@ -85,7 +87,8 @@ fn read_rows(
     requires commands { are_good forms.now.commands.now ≡ true }
     requires layout { is_layout layout ≡ true }
     requires short { line + length text.now < 2 ^ 32 }
-    ensures { GivesTable (with_front out.old.items (entries_by forms.now layout line (kept_of line text.now))) out.new.items result }
+    ensures { GivesTable (with_front out.old.items
+        (entries_by forms.now layout line (kept_of line text.now))) out.new.items result }
 {
     let form = TableForm {
         epoch: forms.epoch,
@@ -111,7 +114,8 @@ fn read_headed(
     requires head { is_open forms.now.layouts.now.head.now 4 ≡ true }
     requires layout { is_layout layout ≡ true }
     requires short { line + length text.now < 2 ^ 32 }
-    ensures { GivesTable (with_front out.old.items (headed_said forms.now layout line (kept_of line text.now))) out.new.items result }
+    ensures { GivesTable (with_front out.old.items
+        (headed_said forms.now layout line (kept_of line text.now))) out.new.items result }
 {
     let Some(next) = next_line(text, line) else {
         return Err(ReadError::Fault(TableFault::Head(line)));

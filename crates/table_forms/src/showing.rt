@@ -52,7 +52,8 @@ fn show_payload(
     requires head { is_open forms.now.layouts.now.head.now 4 ≡ true }
     requires form { is_form form ≡ true }
     requires fits { FitsForm form (length payload.now) }
-    ensures { OnOk result (out.new.items ≡ out.old.items ++ payload_text forms.now form payload.now) }
+    ensures { OnOk result (out.new.items ≡ out.old.items
+        ++ payload_text forms.now form payload.now) }
 {
     match form {
         PayloadForm::Entries(layout) => show_rows(forms, layout, payload, out),
@@ -77,7 +78,8 @@ fn show_payload(
 fn show_head(forms: &TextForms<'_>, head: &[u8], out: &mut Vec<u8>) -> Result<(), AllocError>
     requires head { is_open forms.now.layouts.now.head.now 4 ≡ true }
     requires long { length head.now ≡ 4 }
-    ensures { OnOk result (out.new.items ≡ out.old.items ++ ((codes "head" ++ row_shown forms.now.layouts.now.head.now head.now) ++ 10 ∷ [])) }
+    ensures { OnOk result (out.new.items ≡ out.old.items
+        ++ ((codes "head" ++ row_shown forms.now.layouts.now.head.now head.now) ++ 10 ∷ [])) }
 {
     out.extend_from_slice(b"head")?;
     show_row(forms.layouts.head, head, out)?;
@@ -95,7 +97,8 @@ fn show_rows(
     requires commands { are_good forms.now.commands.now ≡ true }
     requires layout { is_layout layout ≡ true }
     requires long { length bytes.now ≡ layout.count * layout.size }
-    ensures { OnOk result (out.new.items ≡ out.old.items ++ entries_shown forms.now.commands.now layout layout.count 1 bytes.now) }
+    ensures { OnOk result (out.new.items ≡ out.old.items
+        ++ entries_shown forms.now.commands.now layout layout.count 1 bytes.now) }
 {
     let form = TableForm {
         epoch: forms.epoch,

@@ -26,46 +26,62 @@ ghost use Rattle.table_meanings.specs.Worked.{behind_name, loaded, counters_text
 
 /// Names, cycles and actions of Health and Safety, with entries left out, a comment and an entry in bytes.
 pub fn hs_texts_in_entries()
-    ensures counters { entries_meant (counters_meaning None) 32 (behind_name counters_text) ≡ map Some counters_rows }
+    ensures counters { entries_meant (counters_meaning None) 32 (behind_name counters_text)
+        ≡ map Some counters_rows }
     ensures counters_read { loaded counters.rows_of counters_text ≡ Some counters_rows }
-    ensures apps { entries_meant (apps_meaning None) 32 (behind_name apps_text) ≡ map Some apps_rows }
+    ensures apps { entries_meant (apps_meaning None) 32 (behind_name apps_text)
+        ≡ map Some apps_rows }
     ensures apps_read { loaded apps.rows_of apps_text ≡ Some apps_rows }
-    ensures events { entries_meant (events_meaning None) 16 (behind_name events_text) ≡ map Some events_rows }
+    ensures events { entries_meant (events_meaning None) 16 (behind_name events_text)
+        ≡ map Some events_rows }
     ensures events_read { loaded events.rows_of events_text ≡ Some events_rows }
-    ensures messages { entries_meant (messages_meaning None dictionary) 8 (behind_name messages_text) ≡ map Some messages_rows }
+    ensures messages { entries_meant (messages_meaning None dictionary) 8
+        (behind_name messages_text) ≡ map Some messages_rows }
     ensures messages_read { loaded actions.rows_of messages_text ≡ Some messages_rows }
 {}
 
 /// A dwell table, and a checksum table.
 pub fn memory_texts_in_entries()
-    ensures dwell { entries_meant (dwells_meaning None) 25 (drop 1 (behind_name dwell_text)) ≡ map Some dwell_table.entries }
+    ensures dwell { entries_meant (dwells_meaning None) 25 (drop 1 (behind_name dwell_text))
+        ≡ map Some dwell_table.entries }
     ensures dwell_read { loaded dwell_of dwell_text ≡ Some dwell_table }
-    ensures checksum { entries_meant (segments_meaning None) 16 (behind_name checksum_text) ≡ map Some checksum_rows }
+    ensures checksum { entries_meant (segments_meaning None) 16 (behind_name checksum_text)
+        ≡ map Some checksum_rows }
     ensures checksum_read { loaded segments_of checksum_text ≡ Some checksum_rows }
 {}
 
 /// Watchpoints with words for their types and operators, and an actionpoint with an expression.
 pub fn limit_texts_in_entries()
-    ensures watch { entries_meant (watchpoints_meaning None) 32 (behind_name watch_text) ≡ map Some watch_rows }
+    ensures watch { entries_meant (watchpoints_meaning None) 32 (behind_name watch_text)
+        ≡ map Some watch_rows }
     ensures watch_read { loaded watchpoints.rows_of watch_text ≡ Some watch_rows }
-    ensures points { entries_meant (actionpoints_meaning None) 16 (behind_name points_text) ≡ map Some points_rows }
+    ensures points { entries_meant (actionpoints_meaning None) 16 (behind_name points_text)
+        ≡ map Some points_rows }
     ensures points_read { loaded actionpoints.rows_of points_text ≡ Some points_rows }
 {}
 
 /// Commands of an absolute and of a relative sequence, and bytes in place of words.
 pub fn sequence_texts_in_commands()
-    ensures absolute { sequence_meant (timed_meant None dictionary) timed_spelled (behind_name absolute_text) ≡ Some (parted absolute_commands []) }
+    ensures absolute { sequence_meant (timed_meant None dictionary) timed_spelled
+        (behind_name absolute_text) ≡ Some (parted absolute_commands []) }
     ensures absolute_read { loaded stored_ats absolute_text ≡ Some (Ok absolute_commands) }
-    ensures relative { sequence_meant (relative_meant None dictionary) relative_spelled (behind_name relative_text) ≡ Some (parted relative_commands []) }
+    ensures relative { sequence_meant (relative_meant None dictionary) relative_spelled
+        (behind_name relative_text) ≡ Some (parted relative_commands []) }
     ensures relative_read { loaded stored_rts relative_text ≡ Some (Ok relative_commands) }
-    ensures bytes { sequence_meant (relative_meant None dictionary) relative_spelled (behind_name bytes_text) ≡ Some (parted (take 1 relative_commands) bytes_left) }
+    ensures bytes { sequence_meant (relative_meant None dictionary) relative_spelled
+        (behind_name bytes_text) ≡ Some (parted (take 1 relative_commands) bytes_left) }
     ensures bytes_read { loaded stored_rts bytes_text ≡ Some (Ok bytes_commands) }
 {}
 
 /// The words of operators and of the steps of expressions, and what the loader makes of their numbers.
 pub fn choices_in_entries()
-    ensures operators { map (λ c. c.text.now) operators ≡ codes "<" ∷ codes "<=" ∷ codes "!=" ∷ codes "==" ∷ codes ">=" ∷ codes ">" ∷ [] }
-    ensures compared { map (λ c. operator_of c.number) operators ≡ map Some (Less ∷ LessOrEqual ∷ NotEqual ∷ Equal ∷ GreaterOrEqual ∷ Greater ∷ []) }
-    ensures steps { map (λ c. c.text.now) steps ≡ map (λ n. codes "w" ++ decimal n) (range_with_len 1 32) ++ (codes "and" ∷ codes "or" ∷ codes "xor" ∷ codes "not" ∷ []) }
-    ensures worked { map (λ c. word_of c.number) steps ≡ map Watch (range_with_len 0 32) ++ (And ∷ Or ∷ Xor ∷ Not ∷ []) }
+    ensures operators { map (λ c. c.text.now) operators ≡ codes "<" ∷ codes "<=" ∷ codes "!="
+        ∷ codes "==" ∷ codes ">=" ∷ codes ">" ∷ [] }
+    ensures compared { map (λ c. operator_of c.number) operators
+        ≡ map Some (Less ∷ LessOrEqual ∷ NotEqual ∷ Equal ∷ GreaterOrEqual ∷ Greater ∷ []) }
+    ensures steps { map (λ c. c.text.now) steps
+        ≡ map (λ n. codes "w" ++ decimal n) (range_with_len 1 32)
+        ++ (codes "and" ∷ codes "or" ∷ codes "xor" ∷ codes "not" ∷ []) }
+    ensures worked { map (λ c. word_of c.number) steps ≡ map Watch (range_with_len 0 32)
+        ++ (And ∷ Or ∷ Xor ∷ Not ∷ []) }
 {}

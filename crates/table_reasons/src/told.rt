@@ -101,7 +101,8 @@ fn push_sentence(
     out: &mut Vec<u8>,
 ) -> Result<(), AllocError>
     requires { start ≤ 2 ^ 40 }
-    ensures { OnOk result (out.new.items ≡ out.old.items ++ sentence_told payload.now start (by_words words)) }
+    ensures { OnOk result (out.new.items ≡ out.old.items
+        ++ sentence_told payload.now start (by_words words)) }
 {
     match words {
         Some(words) => {

@@ -36,7 +36,8 @@ pub(crate) fn row_fault(word: usize, reason: Reason) -> LineError
 pub(crate) fn behind_end(line: &[u8]) -> Option<&[u8]>
     ensures { MatchOption result
         (is_end (words line.now) ≡ false)
-        (λ behind. (is_end (words line.now) ≡ true) × (words behind.now ≡ behind_first (words line.now))) }
+        (λ behind. (is_end (words line.now) ≡ true)
+        × (words behind.now ≡ behind_first (words line.now))) }
 {
     match split_word(line) {
         Some((word, behind)) if word == b"end".as_slice() => Some(behind),
@@ -47,7 +48,8 @@ pub(crate) fn behind_end(line: &[u8]) -> Option<&[u8]>
 /// Ends a text: no word stands behind `end`, and no line that says anything.
 pub(crate) fn end_of_text(line: u32, behind: &[u8], rest: &[u8]) -> Result<(), TextFault>
     requires { line + 1 + length rest.now < 2 ^ 32 }
-    ensures { (left : List ℕ) → ended left line (words behind.now) (kept_of (line + 1) rest.now) ≡ as_ended left result }
+    ensures { (left : List ℕ) → ended left line (words behind.now) (kept_of (line + 1) rest.now)
+        ≡ as_ended left result }
 {
     if split_word(behind).is_some() {
         let extra = RowFault {

@@ -30,7 +30,8 @@ pub fn read_entries(
     requires layout { is_layout form.now.layout ≡ true }
     requires place { place ≤ form.now.layout.count }
     requires short { line + length text.now < 2 ^ 32 }
-    ensures { GivesText (with_front out.old.items (table_said form.now place line (kept_of line text.now))) out.new.items result }
+    ensures { GivesText (with_front out.old.items
+        (table_said form.now place line (kept_of line text.now))) out.new.items result }
 {
     let Some(next) = next_line(text, line) else {
         return Err(text_fault(line, LineFault::End));
@@ -56,7 +57,9 @@ fn end_entries(
     requires layout { is_layout layout.now ≡ true }
     requires place { place ≤ layout.now.count }
     requires short { line + 1 + length rest.now < 2 ^ 32 }
-    ensures { GivesText (with_front out.old.items (ended (left_out layout.now place) line (words behind.now) (kept_of (line + 1) rest.now))) out.new.items result }
+    ensures { GivesText (with_front out.old.items
+        (ended (left_out layout.now place) line (words behind.now) (kept_of (line + 1) rest.now)))
+        out.new.items result }
 {
     if let Err(fault) = end_of_text(line, behind, rest) {
         return Err(TextError::Text(fault));
@@ -78,7 +81,9 @@ fn read_entry(
     requires commands { are_good form.now.commands.now ≡ true }
     requires layout { is_layout form.now.layout ≡ true }
     requires place { place ≤ form.now.layout.count }
-    ensures said { GivesEntry (placed_behind out.old.items (entry_said form.now.epoch form.now.commands.now form.now.layout place (words line.now))) out.new.items result }
+    ensures said { GivesEntry (placed_behind out.old.items
+        (entry_said form.now.epoch form.now.commands.now form.now.layout place (words line.now)))
+        out.new.items result }
     ensures number { IfOk result (λ k. k ≤ form.now.layout.count) }
 {
     let Some((word, rest)) = split_word(line) else {
@@ -125,7 +130,10 @@ fn read_placed(
     requires layout { is_layout form.now.layout ≡ true }
     requires behind { place < entry }
     requires room { entry ≤ form.now.layout.count }
-    ensures said { GivesEntry (placed_behind out.old.items (row_placed form.now.layout place entry (values_said form.now.epoch form.now.commands.now form.now.layout (words line.now)))) out.new.items result }
+    ensures said { GivesEntry (placed_behind out.old.items
+        (row_placed form.now.layout place entry
+        (values_said form.now.epoch form.now.commands.now form.now.layout (words line.now))))
+        out.new.items result }
     ensures number { IfOk result (λ k. k ≤ form.now.layout.count) }
 {
     if let Err(error) = push_zeros((entry - 1 - place) * form.layout.size, out) {
@@ -147,7 +155,9 @@ fn read_values(
 ) -> Result<(), LineError>
     requires commands { are_good form.now.commands.now ≡ true }
     requires layout { is_layout form.now.layout ≡ true }
-    ensures { GivesItem (with_front out.old.items (values_said form.now.epoch form.now.commands.now form.now.layout (words line.now))) out.new.items result }
+    ensures { GivesItem (with_front out.old.items
+        (values_said form.now.epoch form.now.commands.now form.now.layout (words line.now)))
+        out.new.items result }
 {
     if form.layout.area == 0 {
         return read_fields(form.epoch, form.layout.fields, line, out);
@@ -163,7 +173,8 @@ fn read_fields(
     out: &mut Vec<u8>,
 ) -> Result<(), LineError>
     requires { length fields.now < 65536 }
-    ensures { GivesItem (with_front out.old.items (as_row (row_said epoch 2 fields.now (words line.now)))) out.new.items result }
+    ensures { GivesItem (with_front out.old.items
+        (as_row (row_said epoch 2 fields.now (words line.now)))) out.new.items result }
 {
     match read_row(epoch, fields, 2, line, out) {
         Ok(()) => Ok(()),
@@ -181,7 +192,9 @@ fn read_area(
 ) -> Result<(), LineError>
     requires commands { are_good form.now.commands.now ≡ true }
     requires few { length form.now.layout.fields.now ≤ 16 }
-    ensures { let said = behind_front form.now.epoch form.now.commands.now (length form.now.layout.fields.now + 2) (front_said form.now.epoch 2 form.now.layout.fields.now (words line.now)) in
+    ensures { let said = behind_front form.now.epoch form.now.commands.now
+        (length form.now.layout.fields.now + 2)
+        (front_said form.now.epoch 2 form.now.layout.fields.now (words line.now)) in
         GivesItem (with_front out.old.items (padded form.now.layout said)) out.new.items result }
 {
     let before = out.len();
@@ -202,7 +215,8 @@ fn read_area(
 fn pad(before: usize, size: usize, out: &mut Vec<u8>) -> Result<(), LineError>
     requires { before ≤ vec_len out.old }
     ensures { let long = vec_len out.old - before in
-        GivesItem (if nat_le long size then Ok (out.old.items ++ replicate (size - long) 0) else Err LineFault.Long) out.new.items result }
+        GivesItem (if nat_le long size then Ok (out.old.items ++ replicate (size - long) 0)
+        else Err LineFault.Long) out.new.items result }
 {
     let long = out.len() - before;
     if long > size {
@@ -222,7 +236,8 @@ fn read_raw(
     out: &mut Vec<u8>,
 ) -> Result<usize, LineError>
     requires layout { is_layout layout.now ≡ true }
-    ensures said { GivesEntry (placed_behind out.old.items (raw_said layout.now place (words line.now))) out.new.items result }
+    ensures said { GivesEntry (placed_behind out.old.items
+        (raw_said layout.now place (words line.now))) out.new.items result }
     ensures number { IfOk result (λ k. k ≤ layout.now.count) }
 {
     let Some((word, rest)) = split_word(line) else {
@@ -245,7 +260,8 @@ fn read_block_at(
     requires layout { is_layout layout.now ≡ true }
     requires behind { place < entry }
     requires room { entry ≤ layout.now.count }
-    ensures said { GivesEntry (placed_behind out.old.items (block_placed layout.now place entry (words line.now))) out.new.items result }
+    ensures said { GivesEntry (placed_behind out.old.items
+        (block_placed layout.now place entry (words line.now))) out.new.items result }
     ensures number { IfOk result (λ k. k ≤ layout.now.count) }
 {
     let Some((digits, rest)) = split_word(line) else {

@@ -22,7 +22,9 @@ pub(crate) fn read_stored(
 ) -> Result<(), LineError>
     requires commands { are_good commands.now ≡ true }
     requires few { length fields.now ≤ 16 }
-    ensures { GivesItem (with_front out.old.items (behind_front epoch commands.now (length fields.now + 2) (front_said epoch 2 fields.now (words line.now)))) out.new.items result }
+    ensures { GivesItem (with_front out.old.items
+        (behind_front epoch commands.now (length fields.now
+        + 2) (front_said epoch 2 fields.now (words line.now)))) out.new.items result }
 {
     match read_front(epoch, fields, 2, line, out) {
         Ok(rest) => read_packet(epoch, commands, fields.len() + 2, rest, scratch, out),
@@ -42,7 +44,8 @@ fn read_packet(
 ) -> Result<(), LineError>
     requires commands { are_good commands.now ≡ true }
     requires word { word < 2 ^ 16 }
-    ensures { GivesItem (stored out.old.items (command_said epoch word commands.now (words line.now))) out.new.items result }
+    ensures { GivesItem (stored out.old.items
+        (command_said epoch word commands.now (words line.now))) out.new.items result }
 {
     match read_command(epoch, commands, word, line, scratch) {
         Ok(packet) => match out.extend_from_slice(packet.bytes()) {
@@ -65,7 +68,8 @@ fn read_front<'a>(
     out: &mut Vec<u8>,
 ) -> Result<&'a [u8], row_forms::ReadError>
     requires { word + length fields.now < 2 ^ 16 }
-    ensures { GivesFront (front_behind out.old.items (front_said epoch word fields.now (words line.now))) out.new.items result }
+    ensures { GivesFront (front_behind out.old.items
+        (front_said epoch word fields.now (words line.now))) out.new.items result }
 {
     if fields.is_empty() {
         return Ok(line);
@@ -95,7 +99,8 @@ pub(crate) fn packet_at(fields: &[Field], size: usize, bytes: &[u8]) -> Option<P
     requires { size < 65536 }
     ensures packet { MatchOption result
         (is_command_at fields.now size bytes.now ≡ false)
-        (λ packet. (is_command_at fields.now size bytes.now ≡ true) × (packet ≡ packet_behind size bytes.now)) }
+        (λ packet. (is_command_at fields.now size bytes.now ≡ true)
+        × (packet ≡ packet_behind size bytes.now)) }
     ensures inside { IfSome result (λ packet. size + length packet ≤ length bytes.now) }
 {
     if bytes.len() < size + 8 {

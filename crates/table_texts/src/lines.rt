@@ -25,7 +25,8 @@ fn first_end(text: &[u8]) -> Option<usize>
 /// The first line of a text, and what stands behind its LF: nothing where it has none.
 fn split_line(text: &[u8]) -> (&[u8], &[u8])
     requires { 0 < length text.now }
-    ensures line { (n : ℕ) → kept_of n text.now ≡ unless_skipped n (words result.0.now) (kept_of (n + 1) result.1.now) }
+    ensures line { (n : ℕ) → kept_of n text.now
+        ≡ unless_skipped n (words result.0.now) (kept_of (n + 1) result.1.now) }
     ensures shorter { length result.1.now < length text.now }
 {
     match first_end(text) {
@@ -49,9 +50,12 @@ pub fn next_line(text: &[u8], number: u32) -> Option<Line<'_>>
     requires { number + length text.now < 2 ^ 32 }
     ensures line { MatchOption result
         (kept_of number text.now ≡ [])
-        (λ line. kept_of number text.now ≡ record { number = line.number; words = words line.bytes.now } ∷ kept_of (line.number + 1) line.rest.now) }
+        (λ line. kept_of number text.now ≡ record
+        { number = line.number; words = words line.bytes.now }
+        ∷ kept_of (line.number + 1) line.rest.now) }
     ensures shorter { IfSome result (λ line. length line.rest.now < length text.now) }
-    ensures room { IfSome result (λ line. line.number + 1 + length line.rest.now ≤ number + length text.now) }
+    ensures room { IfSome result (λ line. line.number + 1 + length line.rest.now ≤ number
+        + length text.now) }
 {
     let mut rest = text;
     let mut next = number;

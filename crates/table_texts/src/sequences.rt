@@ -39,7 +39,8 @@ pub fn read_sequence(
     requires commands { are_good form.now.commands.now ≡ true }
     requires front { is_front form.now.fields.now form.now.size ≡ true }
     requires short { line + length text.now < 2 ^ 32 }
-    ensures { GivesText (with_front out.old.items (said_by form.now line (kept_of line text.now))) out.new.items result }
+    ensures { GivesText (with_front out.old.items (said_by form.now line (kept_of line text.now)))
+        out.new.items result }
 {
     let mut rest = text;
     let mut number = line;
@@ -61,7 +62,8 @@ pub fn read_sequence(
 /// Ends a sequence: nothing is left.
 fn end_sequence(line: u32, behind: &[u8], rest: &[u8]) -> Result<(), TextError>
     requires { line + 1 + length rest.now < 2 ^ 32 }
-    ensures { (old : List ℕ) → GivesText (with_front old (ended [] line (words behind.now) (kept_of (line + 1) rest.now))) old result }
+    ensures { (old : List ℕ) → GivesText (with_front old
+        (ended [] line (words behind.now) (kept_of (line + 1) rest.now))) old result }
 {
     match end_of_text(line, behind, rest) {
         Ok(()) => Ok(()),
@@ -78,7 +80,9 @@ fn read_item(
 ) -> Result<(), LineError>
     requires commands { are_good form.now.commands.now ≡ true }
     requires front { is_front form.now.fields.now form.now.size ≡ true }
-    ensures { GivesItem (with_front out.old.items (item_said form.now.epoch form.now.commands.now form.now.fields.now (words line.now))) out.new.items result }
+    ensures { GivesItem (with_front out.old.items
+        (item_said form.now.epoch form.now.commands.now form.now.fields.now (words line.now)))
+        out.new.items result }
 {
     let Some((word, rest)) = split_word(line) else {
         return Err(LineError::Fault(LineFault::Word));
@@ -94,7 +98,8 @@ fn read_item(
 
 /// Reads a block of bytes, behind which no word stands, and appends them.
 fn read_raw(line: &[u8], out: &mut Vec<u8>) -> Result<(), LineError>
-    ensures { GivesItem (with_front out.old.items (bytes_said (words line.now))) out.new.items result }
+    ensures { GivesItem (with_front out.old.items (bytes_said (words line.now))) out.new.items
+        result }
 {
     let Some((digits, rest)) = split_word(line) else {
         return Err(row_fault(2, Reason::Missing));

@@ -20,7 +20,8 @@ pub fn show_sequence(
 ) -> Result<(), AllocError>
     requires commands { are_good form.now.commands.now ≡ true }
     requires front { is_front form.now.fields.now form.now.size ≡ true }
-    ensures { OnOk result (out.new.items ≡ out.old.items ++ payload_shown form.now.commands.now form.now.fields.now form.now.size payload.now) }
+    ensures { OnOk result (out.new.items ≡ out.old.items
+        ++ payload_shown form.now.commands.now form.now.fields.now form.now.size payload.now) }
 {
     let mut rest = payload;
     'items: while !rest.is_empty() {
@@ -36,7 +37,8 @@ fn show_item(form: &SequenceForm<'_>, bytes: &[u8], out: &mut Vec<u8>) -> Result
     requires commands { are_good form.now.commands.now ≡ true }
     requires front { is_front form.now.fields.now form.now.size ≡ true }
     requires some { 0 < length bytes.now }
-    ensures shown { OnOk result (out.new.items ≡ out.old.items ++ item_shown form.now.commands.now form.now.fields.now form.now.size bytes.now) }
+    ensures shown { OnOk result (out.new.items ≡ out.old.items
+        ++ item_shown form.now.commands.now form.now.fields.now form.now.size bytes.now) }
     ensures size { IfOk result (λ n. n ≡ item_size form.now.fields.now form.now.size bytes.now) }
     ensures forward { IfOk result (λ n. 0 < n) }
     ensures inside { IfOk result (λ n. n ≤ length bytes.now) }
@@ -64,7 +66,9 @@ fn show_line(
 ) -> Result<(), AllocError>
     requires commands { are_good form.now.commands.now ≡ true }
     requires row { is_row form.now.fields.now fields.now ≡ true }
-    ensures { OnOk result (out.new.items ≡ out.old.items ++ (((codes "command" ++ row_shown form.now.fields.now fields.now) ++ 32 ∷ command_shown form.now.commands.now packet.now) ++ 10 ∷ [])) }
+    ensures { OnOk result (out.new.items ≡ out.old.items
+        ++ (((codes "command" ++ row_shown form.now.fields.now fields.now) ++ 32
+        ∷ command_shown form.now.commands.now packet.now) ++ 10 ∷ [])) }
 {
     out.extend_from_slice(b"command")?;
     show_row(form.fields, fields, out)?;

@@ -24,7 +24,8 @@ pub fn show_entries(
     requires layout { is_layout form.now.layout ≡ true }
     requires bytes { length bytes.now ≡ count * form.now.layout.size }
     requires places { place + count < 2 ^ 32 }
-    ensures { OnOk result (out.new.items ≡ out.old.items ++ entries_shown form.now.commands.now form.now.layout count place bytes.now) }
+    ensures { OnOk result (out.new.items ≡ out.old.items
+        ++ entries_shown form.now.commands.now form.now.layout count place bytes.now) }
 {
     if count == 0 {
         out.extend_from_slice(b"end\n")?;
@@ -45,7 +46,8 @@ fn show_entry(
     requires commands { are_good form.now.commands.now ≡ true }
     requires layout { is_layout form.now.layout ≡ true }
     requires long { length entry.now ≡ form.now.layout.size }
-    ensures { OnOk result (out.new.items ≡ out.old.items ++ entry_shown form.now.commands.now form.now.layout place entry.now) }
+    ensures { OnOk result (out.new.items ≡ out.old.items
+        ++ entry_shown form.now.commands.now form.now.layout place entry.now) }
 {
     if are_zeros(entry) {
         return Ok(());
@@ -88,7 +90,8 @@ fn show_values(form: &TableForm<'_>, entry: &[u8], out: &mut Vec<u8>) -> Result<
     requires layout { is_layout form.now.layout ≡ true }
     requires long { length entry.now ≡ form.now.layout.size }
     requires shows { can_show form.now.layout entry.now ≡ true }
-    ensures { OnOk result (out.new.items ≡ out.old.items ++ values_shown form.now.commands.now form.now.layout entry.now) }
+    ensures { OnOk result (out.new.items ≡ out.old.items
+        ++ values_shown form.now.commands.now form.now.layout entry.now) }
 {
     let layout = &form.layout;
     if layout.area == 0 {

@@ -162,7 +162,8 @@ fn warn_of_absolute(
     payload: &[u8],
     warnings: &mut Vec<Warning>,
 ) -> Result<(), AllocError>
-    ensures { OnOk result (warnings.new.items ≡ warnings.old.items ++ absolute_in (ats_of payload.now)) }
+    ensures { OnOk result (warnings.new.items ≡ warnings.old.items
+        ++ absolute_in (ats_of payload.now)) }
 {
     match load_ats(payload) {
         Ok(ats) => warn_absolute(alloc, &ats, warnings),
@@ -178,7 +179,8 @@ fn warn_of_relative(
     warnings: &mut Vec<Warning>,
 ) -> Result<(), AllocError>
     requires { length payload.now ≤ 2048 }
-    ensures { OnOk result (warnings.new.items ≡ warnings.old.items ++ relative_in n (rts_of payload.now)) }
+    ensures { OnOk result (warnings.new.items ≡ warnings.old.items
+        ++ relative_in n (rts_of payload.now)) }
 {
     match load_rts(payload) {
         Ok(rts) => warn_relative(alloc, n, &rts, warnings),

@@ -68,7 +68,8 @@ fn split_at(map: &Map, payload: &[u8], place: usize) -> Option<Warning>
 /// The warnings of a checksum table's payload.
 fn find_in_checksums(alloc: Global, map: &Map, payload: &[u8]) -> Result<Vec<Warning>, AllocError>
     requires { length payload.now ≡ 192 }
-    ensures { IfOk result (λ warnings. warnings.items ≡ filter_map (split_at map.now payload.now) (range_with_len 0 16)) }
+    ensures { IfOk result (λ warnings. warnings.items
+        ≡ filter_map (split_at map.now payload.now) (range_with_len 0 16)) }
 {
     let mut warnings = Vec::new(alloc);
     for place in 0..16usize {

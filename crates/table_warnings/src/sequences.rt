@@ -41,7 +41,8 @@ fn push_time(
     warnings: &mut Vec<Warning>,
 ) -> Result<(), AllocError>
     ensures times { OnOk result (times.new.items ≡ times.old.items ++ time ∷ []) }
-    ensures told { OnOk result (warnings.new.items ≡ warnings.old.items ++ crowded_last place (times.old.items ++ time ∷ [])) }
+    ensures told { OnOk result (warnings.new.items ≡ warnings.old.items
+        ++ crowded_last place (times.old.items ++ time ∷ [])) }
 {
     let before = times.len();
     times.push(time)?;
@@ -57,7 +58,8 @@ fn warn_timed(
     warnings: &mut Vec<Warning>,
 ) -> Result<(), AllocError>
     ensures times { OnOk result (times.new.items ≡ times.old.items ++ command.now.tag ∷ []) }
-    ensures told { OnOk result (warnings.new.items ≡ warnings.old.items ++ timed_warnings command.now end (times.old.items ++ command.now.tag ∷ [])) }
+    ensures told { OnOk result (warnings.new.items ≡ warnings.old.items
+        ++ timed_warnings command.now end (times.old.items ++ command.now.tag ∷ [])) }
 {
     let place = Place::Number(command.number);
     let is_behind = is_later(end, command.tag);
@@ -71,7 +73,8 @@ pub(crate) fn warn_absolute(
     ats: &Ats<'_>,
     warnings: &mut Vec<Warning>,
 ) -> Result<(), AllocError>
-    ensures { OnOk result (warnings.new.items ≡ warnings.old.items ++ absolute_in (timed_commands ats.now)) }
+    ensures { OnOk result (warnings.new.items ≡ warnings.old.items
+        ++ absolute_in (timed_commands ats.now)) }
 {
     let mut times = Vec::new(alloc);
     let mut end: Option<u32> = None;
@@ -93,7 +96,8 @@ fn warn_delayed(
     warnings: &mut Vec<Warning>,
 ) -> Result<(), AllocError>
     ensures times { OnOk result (times.new.items ≡ times.old.items ++ time ∷ []) }
-    ensures told { OnOk result (warnings.new.items ≡ warnings.old.items ++ relative_warnings n command.now entry (times.old.items ++ time ∷ [])) }
+    ensures told { OnOk result (warnings.new.items ≡ warnings.old.items
+        ++ relative_warnings n command.now entry (times.old.items ++ time ∷ [])) }
 {
     let is_own = starts_relative(n, &command.packet);
     warn_if(is_own, Warning::StartsItself(entry), warnings)?;
@@ -107,7 +111,8 @@ pub(crate) fn warn_relative(
     rts: &Rts<'_>,
     warnings: &mut Vec<Warning>,
 ) -> Result<(), AllocError>
-    ensures { OnOk result (warnings.new.items ≡ warnings.old.items ++ relative_in n (relative_commands rts.now)) }
+    ensures { OnOk result (warnings.new.items ≡ warnings.old.items
+        ++ relative_in n (relative_commands rts.now)) }
 {
     let mut times = Vec::new(alloc);
     let mut time: u32 = 0;

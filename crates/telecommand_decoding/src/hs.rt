@@ -13,7 +13,9 @@ ghost use Rattle.telecommand_decoding.specs.Decoding.{Decodes, codes_of};
 /// command's name, the packet that they say is decoded as this instruction with the numbers that they say, in their order.
 pub fn hs_words_are_decoded()
     ensures codes { codes_of hs_command ≡ map (λ row. row.0) hs_codes }
-    ensures request { (epoch : Option ℕ) (n : ℕ) → command_said epoch n dictionary (codes "hs.housekeeping" ∷ []) ≡ Ok (command_of hs_request 0 []) }
+    ensures request { (epoch : Option ℕ) (n : ℕ)
+        → command_said epoch n dictionary (codes "hs.housekeeping" ∷ [])
+        ≡ Ok (command_of hs_request 0 []) }
     ensures requests { codes_of hs_request ≡ 0 ∷ [] }
     ensures no_op { Decodes hs_language (codes "hs.no_op") 0 (λ ns. to_nothing) }
     ensures reset_counts { Decodes hs_language (codes "hs.reset_counts") 1 (λ ns. to_nothing) }
@@ -22,5 +24,6 @@ pub fn hs_words_are_decoded()
     ensures events_on { Decodes hs_language (codes "hs.events_on") 4 (λ ns. to_listen true) }
     ensures events_off { Decodes hs_language (codes "hs.events_off") 5 (λ ns. to_listen false) }
     ensures clear_resets { Decodes hs_language (codes "hs.clear_resets") 8 (λ ns. to_clear) }
-    ensures max_resets { Decodes hs_language (codes "hs.max_resets") 9 (λ ns. to_limit (slice_index ns 0)) }
+    ensures max_resets { Decodes hs_language (codes "hs.max_resets") 9
+        (λ ns. to_limit (slice_index ns 0)) }
 {}

@@ -13,10 +13,14 @@ ghost use Rattle.telecommand_decoding.specs.Decoding.{Decodes, codes_of};
 /// command's name, the packet that they say is decoded as this instruction with the numbers that they say, in their order.
 pub fn lc_words_are_decoded()
     ensures codes { codes_of lc_command ≡ map (λ row. row.0) lc_codes }
-    ensures request { (epoch : Option ℕ) (n : ℕ) → command_said epoch n dictionary (codes "lc.housekeeping" ∷ []) ≡ Ok (command_of lc_request 0 []) }
+    ensures request { (epoch : Option ℕ) (n : ℕ)
+        → command_said epoch n dictionary (codes "lc.housekeeping" ∷ [])
+        ≡ Ok (command_of lc_request 0 []) }
     ensures requests { codes_of lc_request ≡ 0 ∷ [] }
     ensures no_op { Decodes lc_language (codes "lc.no_op") 0 (λ ns. to_nothing) }
     ensures reset_counts { Decodes lc_language (codes "lc.reset_counts") 1 (λ ns. to_nothing) }
-    ensures set_active { Decodes lc_language (codes "lc.set_active") 2 (λ ns. to_switch (slice_index ns 0) true) }
-    ensures set_passive { Decodes lc_language (codes "lc.set_passive") 3 (λ ns. to_switch (slice_index ns 0) false) }
+    ensures set_active { Decodes lc_language (codes "lc.set_active") 2
+        (λ ns. to_switch (slice_index ns 0) true) }
+    ensures set_passive { Decodes lc_language (codes "lc.set_passive") 3
+        (λ ns. to_switch (slice_index ns 0) false) }
 {}

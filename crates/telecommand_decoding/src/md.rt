@@ -13,11 +13,15 @@ ghost use Rattle.telecommand_decoding.specs.Decoding.{Decodes, codes_of};
 /// command's name, the packet that they say is decoded as this instruction with the numbers that they say, in their order.
 pub fn md_words_are_decoded()
     ensures codes { codes_of md_command ≡ map (λ row. row.0) md_codes }
-    ensures request { (epoch : Option ℕ) (n : ℕ) → command_said epoch n dictionary (codes "md.housekeeping" ∷ []) ≡ Ok (command_of md_request 0 []) }
+    ensures request { (epoch : Option ℕ) (n : ℕ)
+        → command_said epoch n dictionary (codes "md.housekeeping" ∷ [])
+        ≡ Ok (command_of md_request 0 []) }
     ensures requests { codes_of md_request ≡ 0 ∷ [] }
     ensures no_op { Decodes md_language (codes "md.no_op") 0 (λ ns. to_nothing) }
     ensures reset_counts { Decodes md_language (codes "md.reset_counts") 1 (λ ns. to_nothing) }
     ensures start { Decodes md_language (codes "md.start") 2 (λ ns. to_start (slice_index ns 0)) }
     ensures stop { Decodes md_language (codes "md.stop") 3 (λ ns. to_stop (slice_index ns 0)) }
-    ensures jam { Decodes md_language (codes "md.jam") 4 (λ ns. to_jam (slice_index ns 0) (slice_index ns 1) (slice_index ns 2) (slice_index ns 3) (slice_index ns 4)) }
+    ensures jam { Decodes md_language (codes "md.jam") 4
+        (λ ns. to_jam (slice_index ns 0) (slice_index ns 1) (slice_index ns 2) (slice_index ns 3)
+        (slice_index ns 4)) }
 {}

@@ -15,16 +15,27 @@ ghost use Rattle.row_forms.specs.RowNumbers.{numbers_said};
 /// command's name, the packet that they say is decoded as this instruction with the numbers that they say, in their order.
 pub fn mm_words_are_decoded()
     ensures codes { codes_of mm_command ≡ map (λ row. row.0) mm_codes }
-    ensures request { (epoch : Option ℕ) (n : ℕ) → command_said epoch n dictionary (codes "mm.housekeeping" ∷ []) ≡ Ok (command_of mm_request 0 []) }
+    ensures request { (epoch : Option ℕ) (n : ℕ)
+        → command_said epoch n dictionary (codes "mm.housekeeping" ∷ [])
+        ≡ Ok (command_of mm_request 0 []) }
     ensures requests { codes_of mm_request ≡ 0 ∷ [] }
     ensures no_op { Decodes mm_language (codes "mm.no_op") 0 (λ ns. to_nothing) }
     ensures reset_counts { Decodes mm_language (codes "mm.reset_counts") 1 (λ ns. to_nothing) }
-    ensures peek { Decodes mm_language (codes "mm.peek") 2 (λ ns. to_peek (slice_index ns 0) (slice_index ns 1)) }
-    ensures poke { Decodes mm_language (codes "mm.poke") 3 (λ ns. to_poke (slice_index ns 0) (slice_index ns 1) (slice_index ns 2)) }
-    ensures load { (epoch : Option ℕ) (n : ℕ) (ws : List (List ℕ)) (packet : List ℕ) → command_said epoch n dictionary (codes "mm.load" ∷ ws) ≡ Ok packet → IsLoadDecoded (numbers_said epoch (fields_of (codes "mm.load")) ws) packet }
-    ensures load_file { Decodes mm_language (codes "mm.load_file") 5 (λ ns. to_load_file (slice_index ns 0)) }
-    ensures fill { Decodes mm_language (codes "mm.fill") 8 (λ ns. to_fill (slice_index ns 0) (slice_index ns 1) (slice_index ns 2)) }
-    ensures eeprom_enable { Decodes mm_language (codes "mm.eeprom_enable") 11 (λ ns. to_protect (slice_index ns 0) false) }
-    ensures eeprom_disable { Decodes mm_language (codes "mm.eeprom_disable") 12 (λ ns. to_protect (slice_index ns 0) true) }
-    ensures dump { Decodes mm_language (codes "mm.dump") 13 (λ ns. to_dump (slice_index ns 0) (slice_index ns 1)) }
+    ensures peek { Decodes mm_language (codes "mm.peek") 2
+        (λ ns. to_peek (slice_index ns 0) (slice_index ns 1)) }
+    ensures poke { Decodes mm_language (codes "mm.poke") 3
+        (λ ns. to_poke (slice_index ns 0) (slice_index ns 1) (slice_index ns 2)) }
+    ensures load { (epoch : Option ℕ) (n : ℕ) (ws : List (List ℕ)) (packet : List ℕ)
+        → command_said epoch n dictionary (codes "mm.load" ∷ ws) ≡ Ok packet
+        → IsLoadDecoded (numbers_said epoch (fields_of (codes "mm.load")) ws) packet }
+    ensures load_file { Decodes mm_language (codes "mm.load_file") 5
+        (λ ns. to_load_file (slice_index ns 0)) }
+    ensures fill { Decodes mm_language (codes "mm.fill") 8
+        (λ ns. to_fill (slice_index ns 0) (slice_index ns 1) (slice_index ns 2)) }
+    ensures eeprom_enable { Decodes mm_language (codes "mm.eeprom_enable") 11
+        (λ ns. to_protect (slice_index ns 0) false) }
+    ensures eeprom_disable { Decodes mm_language (codes "mm.eeprom_disable") 12
+        (λ ns. to_protect (slice_index ns 0) true) }
+    ensures dump { Decodes mm_language (codes "mm.dump") 13
+        (λ ns. to_dump (slice_index ns 0) (slice_index ns 1)) }
 {}

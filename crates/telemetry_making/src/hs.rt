@@ -12,5 +12,12 @@ ghost use Rattle.telemetry_making.specs.Making.{AreCounts, Shows};
 /// monitoring is on, the resets made and their maximum, the message actions sent, the monitors that watch, and the counter of each of
 /// the 32 entries.
 pub fn hs_telemetry_is_shown()
-    ensures { (counts : Counts) (apps events : Bool) (made most sent watching : ℕ) (rows : List CountRow) (counters : List Counter) → AreCounts counts → made < 2 ^ 16 → most < 2 ^ 16 → sent < 2 ^ 16 → watching < 2 ^ 32 → length rows ≡ 32 → AllByRecursion (λ row. shown_of counters (entry_of row) < 2 ^ 32) rows → Shows (codes "hs.housekeeping") ((counts.accepted ∷ counts.errors ∷ flag_of apps ∷ flag_of events ∷ made ∷ most ∷ sent ∷ watching ∷ []) ++ map (λ row. shown_of counters (entry_of row)) rows) (λ time. housekeeping_of time counts apps events made most sent watching rows counters) }
+    ensures { (counts : Counts) (apps events : Bool) (made most sent watching : ℕ)
+        (rows : List CountRow) (counters : List Counter) → AreCounts counts → made < 2 ^ 16
+        → most < 2 ^ 16 → sent < 2 ^ 16 → watching < 2 ^ 32 → length rows ≡ 32
+        → AllByRecursion (λ row. shown_of counters (entry_of row) < 2 ^ 32) rows
+        → Shows (codes "hs.housekeeping") ((counts.accepted ∷ counts.errors ∷ flag_of apps
+        ∷ flag_of events ∷ made ∷ most ∷ sent ∷ watching ∷ [])
+        ++ map (λ row. shown_of counters (entry_of row)) rows)
+        (λ time. housekeeping_of time counts apps events made most sent watching rows counters) }
 {}

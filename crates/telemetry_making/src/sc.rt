@@ -10,5 +10,11 @@ ghost use Rattle.telemetry_making.specs.Making.{AreCounts, Shows};
 /// sequence that runs, the commands left, sent and with a wrong checksum, and the relative sequences that run and that are enabled,
 /// those behind the 32nd first.
 pub fn sc_telemetry_is_shown()
-    ensures { (counts : Counts) (s : Sequences) → AreCounts counts → length s.all ≡ 66 → shown_ats (running_ats s.all) < 256 → left_in s.all (running_ats s.all) < 2 ^ 16 → Shows (codes "sc.housekeeping") (counts.accepted ∷ counts.errors ∷ shown_ats (running_ats s.all) ∷ left_in s.all (running_ats s.all) ∷ s.sent % 2 ^ 16 ∷ s.wrong % 2 ^ 16 ∷ running_mask s.all / 2 ^ 32 ∷ running_mask s.all % 2 ^ 32 ∷ enabled_mask s.all / 2 ^ 32 ∷ enabled_mask s.all % 2 ^ 32 ∷ []) (λ time. housekeeping_of time counts (report_of s)) }
+    ensures { (counts : Counts) (s : Sequences) → AreCounts counts → length s.all ≡ 66
+        → shown_ats (running_ats s.all) < 256 → left_in s.all (running_ats s.all) < 2 ^ 16
+        → Shows (codes "sc.housekeeping") (counts.accepted ∷ counts.errors
+        ∷ shown_ats (running_ats s.all) ∷ left_in s.all (running_ats s.all) ∷ s.sent % 2 ^ 16
+        ∷ s.wrong % 2 ^ 16 ∷ running_mask s.all / 2 ^ 32 ∷ running_mask s.all % 2 ^ 32
+        ∷ enabled_mask s.all / 2 ^ 32 ∷ enabled_mask s.all % 2 ^ 32
+        ∷ []) (λ time. housekeeping_of time counts (report_of s)) }
 {}

@@ -48,7 +48,8 @@ fn fault_at_line(numbers: &[u32], line: u32, reason: u8) -> PlanFault
 
 /// What a reader answers behind the items of a whole text.
 pub(crate) fn last_answer(reader: &mut Reader, text: &[u8]) -> Item
-    requires { Stands reader.old (record { bytes = []; closed = false }) [] × (is_finished reader.old ≡ false) }
+    requires { Stands reader.old (record { bytes = []; closed = false }) []
+        × (is_finished reader.old ≡ false) }
     ensures { result ≡ answered text.now }
 {
     let mut rest = text;

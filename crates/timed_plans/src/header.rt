@@ -32,7 +32,9 @@ fn pass(
     line: &PlanLine<'_>,
     head: &mut Vec<ScheduledLine>,
 ) -> Result<Stage, LineError>
-    ensures { GivesStage (scheduled (held_in head.old.items) (passed line.now.number stage (line.now.first.now ∷ words line.now.rest.now))) (held_in head.new.items) result }
+    ensures { GivesStage (scheduled (held_in head.old.items)
+        (passed line.now.number stage (line.now.first.now ∷ words line.now.rest.now)))
+        (held_in head.new.items) result }
 {
     let mut text = Vec::new(alloc);
     if let Err(error) = put_line(line.first, line.rest, &mut text) {
@@ -50,7 +52,9 @@ fn read_epoch(
     line: &PlanLine<'_>,
     head: &mut Vec<ScheduledLine>,
 ) -> Result<Stage, LineError>
-    ensures { GivesStage (scheduled (held_in head.old.items) (epoch_line line.now.number line.now.first.now (words line.now.rest.now))) (held_in head.new.items) result }
+    ensures { GivesStage (scheduled (held_in head.old.items)
+        (epoch_line line.now.number line.now.first.now (words line.now.rest.now)))
+        (held_in head.new.items) result }
 {
     let Some((text, rest)) = split_word(line.rest) else {
         return Err(LineError::Because(word_fault(2, Reason::Missing)));
@@ -82,7 +86,9 @@ fn read_start(
     line: &PlanLine<'_>,
     head: &mut Vec<ScheduledLine>,
 ) -> Result<Stage, LineError>
-    ensures { GivesStage (scheduled (held_in head.old.items) (start_line line.now.number epoch line.now.first.now (words line.now.rest.now))) (held_in head.new.items) result }
+    ensures { GivesStage (scheduled (held_in head.old.items)
+        (start_line line.now.number epoch line.now.first.now (words line.now.rest.now)))
+        (held_in head.new.items) result }
 {
     if let Err(reason) = no_word(line.rest) {
         return Err(LineError::Because(reason));
@@ -103,7 +109,9 @@ pub(crate) fn read_opening(
     line: &PlanLine<'_>,
     head: &mut Vec<ScheduledLine>,
 ) -> Result<Stage, LineError>
-    ensures { GivesStage (scheduled (held_in head.old.items) (opening_line line.now.number kind line.now.first.now (words line.now.rest.now))) (held_in head.new.items) result }
+    ensures { GivesStage (scheduled (held_in head.old.items)
+        (opening_line line.now.number kind line.now.first.now (words line.now.rest.now)))
+        (held_in head.new.items) result }
 {
     match kind {
         None => Err(LineError::Because(PlanReason::Word)),
@@ -133,7 +141,9 @@ pub(crate) fn read_header(
     line: &PlanLine<'_>,
     head: &mut Vec<ScheduledLine>,
 ) -> Result<Stage, LineError>
-    ensures { GivesStage (scheduled (held_in head.old.items) (header_line line.now.number epoch kind line.now.first.now (words line.now.rest.now))) (held_in head.new.items) result }
+    ensures { GivesStage (scheduled (held_in head.old.items)
+        (header_line line.now.number epoch kind line.now.first.now (words line.now.rest.now)))
+        (held_in head.new.items) result }
 {
     match kind {
         None => Err(LineError::Because(PlanReason::Word)),

@@ -26,8 +26,11 @@ pub fn worked_plan()
 pub fn scenarios_give_their_frames()
     ensures ends { (cs : List Command) (text made : List ℕ) → scenario_said cs text ≡ Ok made
         → (reading (record { bytes = made; closed = true })).ending ≡ Ended }
-    ensures items { (cs : List Command) (text made : List ℕ) (s : Schedule) → are_good cs ≡ true → scenario_said cs text ≡ Ok made → schedule_said cs text ≡ Ok s
-        → (reading (record { bytes = made; closed = true })).items ≡ head_said [] (words_of (scenario_lines s)) ∷ frames_said s.frames 0 (timed_items s.lines) }
+    ensures items { (cs : List Command) (text made : List ℕ) (s : Schedule) → are_good cs ≡ true
+        → scenario_said cs text ≡ Ok made → schedule_said cs text ≡ Ok s
+        → (reading (record { bytes = made; closed = true })).items
+        ≡ head_said [] (words_of (scenario_lines s))
+        ∷ frames_said s.frames 0 (timed_items s.lines) }
 {}
 
 /// What the lines of items say in their frames: that of a `send` the packet that the words behind it say, and that of a counter its name
@@ -46,17 +49,27 @@ pub fn items_say_their_values()
 pub fn worked_faults()
     ensures place { schedule_said [] (codes "epoch 5\nhold MM\n") ≡ Err (fault_on 2 reasons.Place) }
     ensures word { schedule_said [] (codes "epoch 5\n\nplay\n") ≡ Err (fault_on 3 reasons.Word) }
-    ensures early { schedule_said [] (codes "epoch 5\nstart\nat 4\nend\n") ≡ Err (fault_on 3 reasons.Early) }
-    ensures backward { schedule_said [] (codes "epoch 5\nstart\nfrom +0:00:02 to 7\nend\n") ≡ Err (fault_on 3 reasons.Backward) }
-    ensures span { schedule_said [] (codes "epoch 5\nstart\nfrom 5 until 7\nend\n") ≡ Err (fault_on 3 reasons.Span) }
-    ensures period { schedule_said [] (codes "epoch 5\nstart\nevery 0s from 5 to 7\nend\n") ≡ Err (fault_on 3 reasons.Period) }
-    ensures hold { schedule_said [] (codes "epoch 5\nstart\nhold MM for 0\nend\n") ≡ Err (fault_on 3 reasons.Hold) }
-    ensures counter { schedule_said [] (codes "epoch 5\nstart\ncounter NAV runs\nend\n") ≡ Err (fault_on 3 reasons.Counter) }
-    ensures past { schedule_said [] (codes "epoch 5\nstart\nat 8\nhold MM\nend at 8\n") ≡ Err (fault_on 5 reasons.Past) }
+    ensures early { schedule_said [] (codes "epoch 5\nstart\nat 4\nend\n")
+        ≡ Err (fault_on 3 reasons.Early) }
+    ensures backward { schedule_said [] (codes "epoch 5\nstart\nfrom +0:00:02 to 7\nend\n")
+        ≡ Err (fault_on 3 reasons.Backward) }
+    ensures span { schedule_said [] (codes "epoch 5\nstart\nfrom 5 until 7\nend\n")
+        ≡ Err (fault_on 3 reasons.Span) }
+    ensures period { schedule_said [] (codes "epoch 5\nstart\nevery 0s from 5 to 7\nend\n")
+        ≡ Err (fault_on 3 reasons.Period) }
+    ensures hold { schedule_said [] (codes "epoch 5\nstart\nhold MM for 0\nend\n")
+        ≡ Err (fault_on 3 reasons.Hold) }
+    ensures counter { schedule_said [] (codes "epoch 5\nstart\ncounter NAV runs\nend\n")
+        ≡ Err (fault_on 3 reasons.Counter) }
+    ensures past { schedule_said [] (codes "epoch 5\nstart\nat 8\nhold MM\nend at 8\n")
+        ≡ Err (fault_on 5 reasons.Past) }
     ensures end { schedule_said [] (codes "epoch 5\nstart\ntick\n") ≡ Err (fault_on 4 reasons.End) }
-    ensures behind { schedule_said [] (codes "epoch 5\nstart\nend\n# late\ntick\n") ≡ Err (fault_on 5 reasons.Behind) }
-    ensures frames { schedule_said [] (codes "epoch 5\nstart\nframe 100000\nhold MM\nend\n") ≡ Err (fault_on 4 reasons.Frames) }
-    ensures held { schedule_said [] (codes "epoch 5\nstart\nat 100003\nhold MM for 3\nend\n") ≡ Err (fault_on 4 reasons.Frames) }
+    ensures behind { schedule_said [] (codes "epoch 5\nstart\nend\n# late\ntick\n")
+        ≡ Err (fault_on 5 reasons.Behind) }
+    ensures frames { schedule_said [] (codes "epoch 5\nstart\nframe 100000\nhold MM\nend\n")
+        ≡ Err (fault_on 4 reasons.Frames) }
+    ensures held { schedule_said [] (codes "epoch 5\nstart\nat 100003\nhold MM for 3\nend\n")
+        ≡ Err (fault_on 4 reasons.Frames) }
     ensures seconds { period_said (codes "10s") ≡ Some 10 }
     ensures minutes { period_said (codes "10m") ≡ None }
 {}
@@ -68,11 +81,21 @@ pub fn worked_dates()
 
 /// Faults of dates with their lines and words.
 pub fn worked_date_faults()
-    ensures form { schedule_said [] (codes "epoch 5 is today\n") ≡ Err (fault_on 1 (reasons.Date 4 dates.Form)) }
-    ensures day { schedule_said [] (codes "epoch 5 is 2026-02-30T18:00:00Z\n") ≡ Err (fault_on 1 (reasons.Date 4 dates.Day)) }
-    ensures clock { schedule_said [] (codes "epoch 5 is 2026-11-29T18:00:00Z\nstart\nat 24:00:00\n") ≡ Err (fault_on 3 (reasons.Date 2 dates.Clock)) }
-    ensures unbound { schedule_said [] (codes "epoch 5\nstart\nat 2026-11-29T18:00:00Z\n") ≡ Err (fault_on 3 (reasons.Date 2 dates.Unbound)) }
-    ensures early { schedule_said [] (codes "epoch 5 is 2026-11-29T18:00:00Z\nstart\nfrom 18:00:00 to 2026-11-29T17:59:59Z\n") ≡ Err (fault_on 3 (reasons.Date 4 dates.Early)) }
-    ensures late { schedule_said [] (codes "epoch 5 is 2026-11-29T18:00:00Z\nstart\nsend sc.jump_ats time=2199-01-01T00:00:00Z\n") ≡ Err (fault_on 3 (reasons.Date 3 dates.Late)) }
-    ensures frames { schedule_said [] (codes "epoch 5 is 2026-11-29T18:00:00Z\nstart\nat 2026-12-31T18:00:00Z\n") ≡ Err (fault_on 3 reasons.Frames) }
+    ensures form { schedule_said [] (codes "epoch 5 is today\n")
+        ≡ Err (fault_on 1 (reasons.Date 4 dates.Form)) }
+    ensures day { schedule_said [] (codes "epoch 5 is 2026-02-30T18:00:00Z\n")
+        ≡ Err (fault_on 1 (reasons.Date 4 dates.Day)) }
+    ensures clock { schedule_said [] (codes "epoch 5 is 2026-11-29T18:00:00Z\nstart\nat 24:00:00\n")
+        ≡ Err (fault_on 3 (reasons.Date 2 dates.Clock)) }
+    ensures unbound { schedule_said [] (codes "epoch 5\nstart\nat 2026-11-29T18:00:00Z\n")
+        ≡ Err (fault_on 3 (reasons.Date 2 dates.Unbound)) }
+    ensures early { schedule_said [] (codes
+        "epoch 5 is 2026-11-29T18:00:00Z\nstart\nfrom 18:00:00 to 2026-11-29T17:59:59Z\n")
+        ≡ Err (fault_on 3 (reasons.Date 4 dates.Early)) }
+    ensures late { schedule_said [] (codes
+        "epoch 5 is 2026-11-29T18:00:00Z\nstart\nsend sc.jump_ats time=2199-01-01T00:00:00Z\n")
+        ≡ Err (fault_on 3 (reasons.Date 3 dates.Late)) }
+    ensures frames { schedule_said [] (codes
+        "epoch 5 is 2026-11-29T18:00:00Z\nstart\nat 2026-12-31T18:00:00Z\n")
+        ≡ Err (fault_on 3 reasons.Frames) }
 {}

@@ -30,7 +30,8 @@ fn add_item(
 ) -> Result<Stage, LineError>
     requires { span ≤ 100000 }
     ensures { (line : List (List ℕ)) → text.now ≡ line_text line
-        → GivesStage (scheduled (held_in lines.old.items) (item_line course.now span number line)) (held_in lines.new.items) result }
+        → GivesStage (scheduled (held_in lines.old.items) (item_line course.now span number line))
+        (held_in lines.new.items) result }
 {
     let more = match extended(course, span) {
         Ok(more) => more,
@@ -51,7 +52,9 @@ fn pass(
     lines: &mut Vec<ScheduledLine>,
 ) -> Result<Stage, LineError>
     requires { span ≤ 100000 }
-    ensures { GivesStage (scheduled (held_in lines.old.items) (item_line course.now span line.now.number (line.now.first.now ∷ words line.now.rest.now))) (held_in lines.new.items) result }
+    ensures { GivesStage (scheduled (held_in lines.old.items)
+        (item_line course.now span line.now.number (line.now.first.now ∷ words line.now.rest.now)))
+        (held_in lines.new.items) result }
 {
     let mut text = Vec::new(alloc);
     match put_line(line.first, line.rest, &mut text) {
@@ -69,7 +72,9 @@ fn read_send(
     lines: &mut Vec<ScheduledLine>,
 ) -> Result<Stage, LineError>
     requires { are_good commands.now ≡ true }
-    ensures { GivesStage (scheduled (held_in lines.old.items) (send_line commands.now course.now line.now.number (words line.now.rest.now))) (held_in lines.new.items) result }
+    ensures { GivesStage (scheduled (held_in lines.old.items)
+        (send_line commands.now course.now line.now.number (words line.now.rest.now)))
+        (held_in lines.new.items) result }
 {
     let mut words = Vec::new(alloc);
     if let Err(error) = put_dated(&course.epoch, line.rest, &mut words) {
@@ -96,7 +101,9 @@ fn read_hold(
     line: &PlanLine<'_>,
     lines: &mut Vec<ScheduledLine>,
 ) -> Result<Stage, LineError>
-    ensures { GivesStage (scheduled (held_in lines.old.items) (hold_line course.now line.now.number line.now.first.now (words line.now.rest.now))) (held_in lines.new.items) result }
+    ensures { GivesStage (scheduled (held_in lines.old.items)
+        (hold_line course.now line.now.number line.now.first.now (words line.now.rest.now)))
+        (held_in lines.new.items) result }
 {
     let Some((app, rest)) = split_word(line.rest) else {
         return Err(LineError::Because(PlanReason::Hold));
@@ -123,7 +130,8 @@ fn read_counts(
     name: &[u8],
     lines: &mut Vec<ScheduledLine>,
 ) -> Result<Stage, LineError>
-    ensures { GivesStage (scheduled (held_in lines.old.items) (counts_line course.now number name.now)) (held_in lines.new.items) result }
+    ensures { GivesStage (scheduled (held_in lines.old.items)
+        (counts_line course.now number name.now)) (held_in lines.new.items) result }
 {
     let more = match extended(course, 1) {
         Ok(more) => more,
@@ -144,7 +152,9 @@ fn read_value(
     value: u32,
     lines: &mut Vec<ScheduledLine>,
 ) -> Result<Stage, LineError>
-    ensures { GivesStage (scheduled (held_in lines.old.items) (item_line course.now 1 number (app_line name.now value))) (held_in lines.new.items) result }
+    ensures { GivesStage (scheduled (held_in lines.old.items)
+        (item_line course.now 1 number (app_line name.now value)))
+        (held_in lines.new.items) result }
 {
     let mut text = Vec::new(alloc);
     match put_app(name, value, &mut text) {
@@ -160,7 +170,9 @@ fn read_counter(
     line: &PlanLine<'_>,
     lines: &mut Vec<ScheduledLine>,
 ) -> Result<Stage, LineError>
-    ensures { GivesStage (scheduled (held_in lines.old.items) (counter_line course.now line.now.number (words line.now.rest.now))) (held_in lines.new.items) result }
+    ensures { GivesStage (scheduled (held_in lines.old.items)
+        (counter_line course.now line.now.number (words line.now.rest.now)))
+        (held_in lines.new.items) result }
 {
     let Some((name, rest)) = split_word(line.rest) else {
         return Err(LineError::Because(PlanReason::Counter));
@@ -189,7 +201,8 @@ fn read_counter(
 
 /// The stage that a heading or the end comes to.
 fn staged(read: Result<Stage, PlanReason>) -> Result<Stage, LineError>
-    ensures { MatchResult read (λ stage. result ≡ Ok stage) (λ reason. result ≡ Err (line_errors.Because reason)) }
+    ensures { MatchResult read (λ stage. result ≡ Ok stage) (λ reason. result
+        ≡ Err (line_errors.Because reason)) }
 {
     match read {
         Ok(stage) => Ok(stage),
@@ -207,7 +220,9 @@ pub(crate) fn read_course(
     lines: &mut Vec<ScheduledLine>,
 ) -> Result<Stage, LineError>
     requires { are_good commands.now ≡ true }
-    ensures { GivesStage (scheduled (held_in lines.old.items) (course_line commands.now course.now line.now.number kind line.now.first.now (words line.now.rest.now))) (held_in lines.new.items) result }
+    ensures { GivesStage (scheduled (held_in lines.old.items)
+        (course_line commands.now course.now line.now.number kind line.now.first.now
+        (words line.now.rest.now))) (held_in lines.new.items) result }
 {
     match kind {
         None => Err(LineError::Because(PlanReason::Word)),

@@ -26,7 +26,8 @@ impl Page {
 
     /// Appends a line, by its text.
     fn put(&mut self, number: u32, text: &[u8]) -> Result<(), AllocError>
-        ensures { OnOk result (written_on self.new ≡ with_rows (written_on self.old) (row number text.now ∷ [])) }
+        ensures { OnOk result (written_on self.new
+            ≡ with_rows (written_on self.old) (row number text.now ∷ [])) }
     {
         self.text.extend_from_slice(text)?;
         self.numbers.push(number)?;
@@ -35,7 +36,8 @@ impl Page {
 
     /// Appends so many lines `tick`.
     fn put_ticks(&mut self, count: u64, number: u32) -> Result<(), AllocError>
-        ensures { OnOk result (written_on self.new ≡ with_rows (written_on self.old) (replicate count (tick_row number))) }
+        ensures { OnOk result (written_on self.new
+            ≡ with_rows (written_on self.old) (replicate count (tick_row number))) }
     {
         for _done in 0..count {
             self.put(number, b"tick\n")?;
@@ -45,7 +47,8 @@ impl Page {
 
     /// Appends the lines of the header.
     pub(crate) fn put_head(&mut self, lines: &[ScheduledLine]) -> Result<(), AllocError>
-        ensures { OnOk result (written_on self.new ≡ with_rows (written_on self.old) (rows_of (held_in lines.now))) }
+        ensures { OnOk result (written_on self.new
+            ≡ with_rows (written_on self.old) (rows_of (held_in lines.now))) }
     {
         for line in lines {
             self.put(line.number, line.text.as_slice())?;
@@ -60,7 +63,9 @@ impl Page {
         frames: u32,
         number: u32,
     ) -> Result<(), AllocError>
-        ensures { OnOk result (written_on self.new ≡ with_rows (written_on self.old) (merged 0 frames number (held_in lines.now) ++ end_row number ∷ [])) }
+        ensures { OnOk result (written_on self.new
+            ≡ with_rows (written_on self.old) (merged 0 frames number (held_in lines.now)
+            ++ end_row number ∷ [])) }
     {
         let mut come = 0;
         for line in lines {

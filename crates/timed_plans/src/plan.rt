@@ -50,7 +50,11 @@ fn read_words(
     draft: &mut Draft,
 ) -> Result<Stage, LineError>
     requires { are_good commands.now ≡ true }
-    ensures { GivesRead commands.now (record { number = line.now.number; words = line.now.first.now ∷ words line.now.rest.now }) draft.old draft.new result }
+    ensures { GivesRead commands.now (record {
+      number = line.now.number;
+      words = line.now.first.now
+          ∷ words line.now.rest.now;
+    }) draft.old draft.new result }
 {
     let kind = kind_of(line.first);
     match draft.stage {
@@ -72,7 +76,8 @@ fn read_line(
     draft: &mut Draft,
 ) -> Result<(), LineError>
     requires { are_good commands.now ≡ true }
-    ensures { GivesDraft commands.now (record { number = number; words = words line.now }) draft.old draft.new result }
+    ensures { GivesDraft commands.now (record { number = number; words = words line.now }) draft.old
+        draft.new result }
 {
     let Some((first, rest)) = split_word(line) else {
         return Err(LineError::Because(PlanReason::Word));

@@ -29,7 +29,8 @@ pub(crate) fn add_line(
     text: &[u8],
     lines: &mut Vec<ScheduledLine>,
 ) -> Result<(), AllocError>
-    ensures { OnOk result (held_in lines.new.items ≡ held_in lines.old.items ++ record { frame = frame; number = number; text = text.now } ∷ []) }
+    ensures { OnOk result (held_in lines.new.items ≡ held_in lines.old.items
+        ++ record { frame = frame; number = number; text = text.now } ∷ []) }
 {
     let text = Vec::from_slice(alloc, text)?;
     lines.push(ScheduledLine {
@@ -49,7 +50,8 @@ fn add_each(
     text: &[u8],
     lines: &mut Vec<ScheduledLine>,
 ) -> Result<(), AllocError>
-    ensures { OnOk result (held_in lines.new.items ≡ held_in lines.old.items ++ texts_in heading.now later number text.now) }
+    ensures { OnOk result (held_in lines.new.items ≡ held_in lines.old.items
+        ++ texts_in heading.now later number text.now) }
 {
     let last = u64::from(heading.last);
     let mut frame = u64::from(heading.first);
@@ -73,7 +75,8 @@ pub(crate) fn add_spread(
     lines: &mut Vec<ScheduledLine>,
 ) -> Result<(), AllocError>
     ensures { OnOk result ((line : List (List ℕ)) → text.now ≡ line_text line
-        → held_in lines.new.items ≡ held_in lines.old.items ++ map shown (spread span heading.now number line)) }
+        → held_in lines.new.items ≡ held_in lines.old.items
+        ++ map shown (spread span heading.now number line)) }
 {
     for later in 0..span {
         add_each(alloc, heading, later, number, text, lines)?;
@@ -102,7 +105,8 @@ pub(crate) fn add_counts(
     lines: &mut Vec<ScheduledLine>,
 ) -> Result<(), AllocError>
     requires { heading.now.last < 100000 }
-    ensures { OnOk result (held_in lines.new.items ≡ held_in lines.old.items ++ map shown (counted_in heading.now number name.now)) }
+    ensures { OnOk result (held_in lines.new.items ≡ held_in lines.old.items
+        ++ map shown (counted_in heading.now number name.now)) }
 {
     let last = u64::from(heading.last);
     let mut frame = u64::from(heading.first);
@@ -121,7 +125,8 @@ pub(crate) fn add_counts(
 /// Puts lines into the order of their frames. Those of one frame keep their order.
 pub(crate) fn sort_lines(lines: &mut Vec<ScheduledLine>) -> Result<(), AllocError>
     ensures rising { OnOk result (IsNonDecreasingBy (λ (l : Line). l.frame) lines.new.items) }
-    ensures stable { OnOk result (IsStableByKey (λ (l : Line). l.frame) nat_cmp lines.old.items lines.new.items) }
+    ensures stable { OnOk result (IsStableByKey
+        (λ (l : Line). l.frame) nat_cmp lines.old.items lines.new.items) }
     ensures moved { OnOk result (IsPermutation lines.old.items lines.new.items) }
 {
     lines.sort_by_key(|line| line.frame)

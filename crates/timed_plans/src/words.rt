@@ -8,7 +8,8 @@ use row_forms::{number, split_word};
 
 /// What stands before the last byte, where that is an `s`.
 fn before_s(word: &[u8]) -> Option<&[u8]>
-    ensures { MatchOption result (before_s word.now ≡ None) (λ digits. before_s word.now ≡ Some digits.now) }
+    ensures { MatchOption result (before_s word.now ≡ None) (λ digits. before_s word.now
+        ≡ Some digits.now) }
 {
     let count = word.len();
     if count > 0 && word[count - 1] == b's' {
