@@ -38,17 +38,15 @@ fn can_activate(kind: TableKind) -> bool
     ensures { result ≡ can_activate kind }
 {
     match kind {
-        TableKind::AppMon => true,
-        TableKind::EventMon => true,
-        TableKind::ExeCount => true,
-        TableKind::MsgActs => false,
-        TableKind::Ats(_) => true,
-        TableKind::Rts(_) => true,
-        TableKind::Dwell(_) => true,
-        TableKind::Eeprom => true,
-        TableKind::Memory => true,
-        TableKind::Wdt => false,
-        TableKind::Adt => false,
+        TableKind::AppMon
+        | TableKind::EventMon
+        | TableKind::ExeCount
+        | TableKind::Ats(_)
+        | TableKind::Rts(_)
+        | TableKind::Dwell(_)
+        | TableKind::Eeprom
+        | TableKind::Memory => true,
+        TableKind::MsgActs | TableKind::Wdt | TableKind::Adt => false,
     }
 }
 
@@ -114,15 +112,15 @@ fn hand_over_segments(tables: &Tables<'_>, kind: TableKind, cs: &mut CsSlot)
     match kind {
         TableKind::Eeprom => cs.state.activate(tables.eeprom(), tables.memory(), 1),
         TableKind::Memory => cs.state.activate(tables.eeprom(), tables.memory(), 2),
-        TableKind::AppMon => {}
-        TableKind::EventMon => {}
-        TableKind::ExeCount => {}
-        TableKind::MsgActs => {}
-        TableKind::Ats(_) => {}
-        TableKind::Rts(_) => {}
-        TableKind::Dwell(_) => {}
-        TableKind::Wdt => {}
-        TableKind::Adt => {}
+        TableKind::AppMon
+        | TableKind::EventMon
+        | TableKind::ExeCount
+        | TableKind::MsgActs
+        | TableKind::Ats(_)
+        | TableKind::Rts(_)
+        | TableKind::Dwell(_)
+        | TableKind::Wdt
+        | TableKind::Adt => {}
     }
 }
 

@@ -44,14 +44,14 @@ impl Hs {
             TableKind::AppMon => self.duty.take_apps(&tables.apps),
             TableKind::EventMon => {}
             TableKind::ExeCount => {}
-            TableKind::MsgActs => {}
-            TableKind::Ats(_) => {}
-            TableKind::Rts(_) => {}
-            TableKind::Dwell(_) => {}
-            TableKind::Eeprom => {}
-            TableKind::Memory => {}
-            TableKind::Wdt => {}
-            TableKind::Adt => {}
+            TableKind::MsgActs
+            | TableKind::Ats(_)
+            | TableKind::Rts(_)
+            | TableKind::Dwell(_)
+            | TableKind::Eeprom
+            | TableKind::Memory
+            | TableKind::Wdt
+            | TableKind::Adt => {}
         }
     }
 

@@ -37,15 +37,15 @@ pub(crate) fn sequence_place(kind: TableKind) -> Option<usize>
     match kind {
         TableKind::Ats(number) => ats_place(u16::from(number)),
         TableKind::Rts(number) => rts_place(u16::from(number)),
-        TableKind::AppMon => None,
-        TableKind::EventMon => None,
-        TableKind::ExeCount => None,
-        TableKind::MsgActs => None,
-        TableKind::Dwell(_) => None,
-        TableKind::Eeprom => None,
-        TableKind::Memory => None,
-        TableKind::Wdt => None,
-        TableKind::Adt => None,
+        TableKind::AppMon
+        | TableKind::EventMon
+        | TableKind::ExeCount
+        | TableKind::MsgActs
+        | TableKind::Dwell(_)
+        | TableKind::Eeprom
+        | TableKind::Memory
+        | TableKind::Wdt
+        | TableKind::Adt => None,
     }
 }
 
