@@ -4,6 +4,7 @@ use Rattle.std.specs.Prelude.{slice_set}
 use Rattle.std.specs.List.{AllPass}
 use Rattle.std.proofs.lemmas.List.Elements.{All-set, All-replicate}
 use Rattle.memory_window.specs.declared.regions.Region.{Region}
+use Rattle.table_files.specs.Entries.{where_well}
 use Rattle.table_files.specs.declared.fault.EntryFault.{EntryFault}
 use Rattle.md_dwell.specs.Tables.{DwellTable, dwell_of, dwell_fault_of, blank_table, blank_entry}
 use Rattle.md_dwell.specs.declared.tables.DwellEntry.{DwellEntry}
@@ -28,7 +29,7 @@ use Rattle.cs_slices.proofs.Refusing.{none_refused as no_segment_refused}
 use Rattle.table_files.specs.declared.kinds.TableKind.{TableKind}
 use Rattle.table_files.specs.declared.kinds.TableKind.TheVariants.{AppMon, EventMon, ExeCount, MsgActs, Ats, Rts, Dwell, Eeprom, Memory, Wdt, Adt}
 use Rattle.table_files.specs.Headers.{kind_of_file, payload_of_file}
-use Rattle.active_tables.specs.Tables.{TableSet, Loaded, AreLoaded, AreGiven, SetGiven, blank_tables, by_kind, by_file, where_well, with_table, with_file, tables_of, said_or, first_said, refused_entry, refused_in, tables_fault, region_fault}
+use Rattle.active_tables.specs.Tables.{TableSet, Loaded, AreLoaded, AreGiven, SetGiven, blank_tables, by_kind, by_file, with_table, with_file, tables_of, said_or, first_said, refused_entry, refused_in, tables_fault, region_fault}
 
 -- one table more
 module _ (regions : List Region) (tables : TableSet) (given : SetGiven regions tables) where

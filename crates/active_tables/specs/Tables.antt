@@ -3,6 +3,7 @@ use Rattle.std.specs.Prelude.{◌≡◌, ℕ, ◌+◌, ◌-◌, Bool, true, fals
 use Rattle.std.specs.List.{list_any}
 use Rattle.memory_window.specs.declared.regions.Region.{Region}
 use Rattle.table_files.specs.Headers.{kind_of_file, payload_of_file}
+use Rattle.table_files.specs.Entries.{where_well}
 use Rattle.table_files.specs.declared.fault.EntryFault.{EntryFault}
 use Rattle.table_files.specs.declared.kinds.TableKind.{TableKind}
 use Rattle.table_files.specs.declared.kinds.TableKind.TheVariants.{AppMon, EventMon, ExeCount, MsgActs, Ats, Rts, Dwell, Eeprom, Memory, Wdt, Adt}
@@ -57,11 +58,6 @@ by_kind none say (Some kind) payload = say kind payload
 -- what is said of a file
 unfoldable pub by_file : {A : Type 0} → A → (TableKind → List ℕ → A) → List ℕ → A
 by_file none say file = by_kind none say (kind_of_file file) (payload_of_file file)
-
--- what is said where the entries have no fault, or else
-abbrev pub where_well : {A : Type 0} → A → A → Option EntryFault → A
-where_well well faulty None = well
-where_well well faulty (Some fault) = faulty
 
 -- whether an application has the tables of this kind
 abbrev pub is_loaded : TableKind → Bool

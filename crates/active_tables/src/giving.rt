@@ -7,7 +7,8 @@ ghost use Rattle.cs_slices.specs.Tables.{segments_of, segments_fault_of};
 ghost use Rattle.cs_slices.specs.Given.{first_refused as first_refused_segment};
 ghost use Rattle.md_dwell.specs.Tables.{dwell_of, dwell_fault_of};
 ghost use Rattle.md_dwell.specs.Given.{first_refused};
-ghost use Rattle.active_tables.specs.Tables.{where_well, refused_entry, refused_in, region_fault};
+ghost use Rattle.table_files.specs.Entries.{where_well};
+ghost use Rattle.active_tables.specs.Tables.{refused_entry, refused_in, region_fault};
 
 use cs_slices::load_segments;
 use md_dwell::load_dwell;

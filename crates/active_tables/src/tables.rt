@@ -7,10 +7,7 @@ ghost use Rattle.table_files.specs.Kinds.{IsTable};
 ghost use Rattle.table_files.specs.declared.kinds.TableKind.{TableKind};
 ghost use Rattle.active_tables.specs.Tables.{with_table, with_file, entry_fault, entry_fault_in, tables_fault, tables_of};
 
-use crate::loading::{
-    TablesFault, earlier_fault, put_actionpoints, put_application_monitors, put_counters,
-    put_event_monitors, put_message_actions, put_segments, put_watchpoints,
-};
+use crate::loading::{TablesFault, earlier_fault};
 use cs_slices::Segments;
 use hs_tables::HsTables;
 use lc_watch::{Adt, Wdt};
@@ -190,16 +187,16 @@ impl<'f> Tables<'f> {
     {
         match kind {
             TableKind::Dwell(n) => self.put_dwell(n, payload),
-            TableKind::Eeprom => put_segments(&mut self.eeprom, payload),
-            TableKind::Memory => put_segments(&mut self.memory, payload),
-            TableKind::AppMon => put_application_monitors(&mut self.hs.apps, payload),
-            TableKind::EventMon => put_event_monitors(&mut self.hs.events, payload),
-            TableKind::ExeCount => put_counters(&mut self.hs.counts, payload),
-            TableKind::MsgActs => put_message_actions(&mut self.hs.acts, payload),
+            TableKind::Eeprom => self.eeprom.read(payload),
+            TableKind::Memory => self.memory.read(payload),
+            TableKind::AppMon => self.hs.apps.read(payload),
+            TableKind::EventMon => self.hs.events.read(payload),
+            TableKind::ExeCount => self.hs.counts.read(payload),
+            TableKind::MsgActs => self.hs.acts.read(payload),
             TableKind::Ats(n) => self.put_ats(n, payload),
             TableKind::Rts(n) => self.put_rts(n, payload),
-            TableKind::Wdt => put_watchpoints(&mut self.wdt, payload),
-            TableKind::Adt => put_actionpoints(&mut self.adt, payload),
+            TableKind::Wdt => self.wdt.read(payload),
+            TableKind::Adt => self.adt.read(payload),
         }
     }
 

@@ -27,7 +27,8 @@ use Rattle.hs_monitors.specs.State.{Stands, activation_of}
 use Rattle.hs_monitors.specs.declared.state.Hs.{Hs}
 use Rattle.md_dwell.specs.Tables.{dwell_of, dwell_fault_of}
 use Rattle.std.specs.Prelude.{slice_set}
-use Rattle.active_tables.specs.Tables.{TableSet, where_well, with_table, by_file, with_file, refused_in, first_said, region_fault}
+use Rattle.table_files.specs.Entries.{where_well}
+use Rattle.active_tables.specs.Tables.{TableSet, with_table, by_file, with_file, refused_in, first_said, region_fault}
 use Rattle.std.proofs.lemmas.Bool.Decides.{nat_tests}
 use Rattle.std.proofs.lemmas.List.{set-set, set-get_or}
 use Rattle.cs_slices.specs.Tables.{TablePair, pair_of, segments_of, segments_fault_of}

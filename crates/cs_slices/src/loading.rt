@@ -38,6 +38,8 @@ impl Entry for Segment {
 
     const REASONS: u8 = 2;
 
+    const BLANK: Segment = Segment::BLANK;
+
     fn read(payload: &[u8], place: u32) -> Segment {
         let from = 12 * place as usize;
         Segment {

@@ -1,9 +1,10 @@
 //! Checksum tables.
-ghost use Rattle.std.specs.Prelude.{◌≡◌, ◌≤◌, ◌<◌, ◌-◌, length, slice_index_or, IfSome, IfNone};
+ghost use Rattle.std.specs.Prelude.{◌≡◌, ◌≤◌, ◌<◌, ◌-◌, length, slice_index_or, IfSome};
 ghost use Rattle.cs_slices.specs.Tables.{pair_of, entry_in};
+ghost use Rattle.table_files.specs.Entries.{where_well};
 
 use std::marker::Model;
-use table_files::{EntryFault, load_entries};
+use table_files::{EntryFault, read_in_place};
 
 /// How many entries a checksum table has.
 pub(crate) const ENTRIES: usize = 16;
@@ -58,23 +59,15 @@ impl Segments {
         }
     }
 
-    /// Reads the table of a payload into this one, as `load_segments` reads it, and copies it once. Where an entry is refused the table
-    /// stays as it was.
+    /// Reads the table of a payload into this one, as `load_segments` reads it. Where an entry is refused the table stays as it was.
+    #[tactic(auto, unfolding(crate::specs::Tables::segments_of, crate::specs::Tables::segments_fault_of, table_files::specs::Entries::entries_in))]
     pub fn read(&mut self, payload: &[u8]) -> Option<EntryFault>
         requires { length payload.now ≡ 192 }
-        ensures table { IfNone result (self.new ≡ segments_of payload.now) }
-        ensures kept { IfSome result (λ _. self.new ≡ self.old) }
+        ensures table { self.new ≡ where_well (segments_of payload.now) self.old (segments_fault_of payload.now) }
         ensures fault { result ≡ segments_fault_of payload.now }
         ensures small { IfSome result (λ fault. fault.reason ≤ 2) }
     {
-        let mut entries = [Segment::BLANK; ENTRIES];
-        match load_entries(payload, &mut entries) {
-            Some(fault) => Some(fault),
-            None => {
-                self.entries = entries;
-                None
-            }
-        }
+        read_in_place(payload, &mut self.entries)
     }
 
     /// Entry n, from 1 to 16.

@@ -1,10 +1,11 @@
 //! Message actions.
-ghost use Rattle.std.specs.Prelude.{◌≡◌, ◌≤◌, ◌-◌, length, slice_index_or, IfSome, IfNone, IfOk, IfErr, MatchResult, Some, None};
+ghost use Rattle.std.specs.Prelude.{◌≡◌, ◌≤◌, ◌-◌, length, slice_index_or, IfSome, IfOk, IfErr, MatchResult, Some, None};
 ghost use Rattle.hs_tables.specs.Actions.{packet_in, row_at, row_reason, is_used, rows_of, rows_fault_of};
+ghost use Rattle.table_files.specs.Entries.{where_well};
 
 use packet_forms::{Packet, be16};
 use std::marker::Model;
-use table_files::{Entry, EntryFault, load_entries};
+use table_files::{Entry, EntryFault, read_in_place};
 
 /// How many entries the table has.
 const ENTRIES: usize = 8;
@@ -79,23 +80,15 @@ impl MsgActs {
         }
     }
 
-    /// Reads the table of a payload into this one, as `load_msgacts` reads it, and copies it once. Where an entry is refused the table stays as
-    /// it was.
+    /// Reads the table of a payload into this one, as `load_msgacts` reads it. Where an entry is refused the table stays as it was.
+    #[tactic(auto, unfolding(crate::specs::Actions::rows_of, crate::specs::Actions::rows_fault_of))]
     pub fn read(&mut self, payload: &[u8]) -> Option<EntryFault>
         requires { length payload.now ≡ 544 }
-        ensures table { IfNone result (self.new ≡ rows_of payload.now) }
-        ensures kept { IfSome result (λ _. self.new ≡ self.old) }
+        ensures table { self.new ≡ where_well (rows_of payload.now) self.old (rows_fault_of payload.now) }
         ensures fault { result ≡ rows_fault_of payload.now }
         ensures small { IfSome result (λ fault. fault.reason ≤ 5) }
     {
-        let mut rows = [ActRow::BLANK; ENTRIES];
-        match load_entries(payload, &mut rows) {
-            Some(fault) => Some(fault),
-            None => {
-                self.rows = rows;
-                None
-            }
-        }
+        read_in_place(payload, &mut self.rows)
     }
 
     /// Entry n, from 1 to 8, where it is used.
@@ -163,6 +156,8 @@ impl Entry for ActRow {
     const ENTRIES: u32 = 8;
 
     const REASONS: u8 = 5;
+
+    const BLANK: ActRow = ActRow::BLANK;
 
     fn read(payload: &[u8], place: u32) -> ActRow {
         let from = 68 * place as usize;

@@ -1,10 +1,11 @@
 //! Application monitors.
-ghost use Rattle.std.specs.Prelude.{◌≡◌, ◌≤◌, ◌-◌, length, slice_index_or, IfSome, IfNone, IfOk, IfErr, MatchResult, Some, None};
+ghost use Rattle.std.specs.Prelude.{◌≡◌, ◌≤◌, ◌-◌, length, slice_index_or, IfSome, IfOk, IfErr, MatchResult, Some, None};
 ghost use Rattle.hs_tables.specs.Apps.{row_at, row_reason, is_used, rows_of, rows_fault_of};
+ghost use Rattle.table_files.specs.Entries.{where_well};
 
 use packet_forms::{Name, be16};
 use std::marker::Model;
-use table_files::{Entry, EntryFault, load_entries};
+use table_files::{Entry, EntryFault, read_in_place};
 
 /// How many entries the table has.
 const ENTRIES: usize = 32;
@@ -78,23 +79,15 @@ impl AppMon {
         }
     }
 
-    /// Reads the table of a payload into this one, as `load_appmon` reads it, and copies it once. Where an entry is refused the table stays as
-    /// it was.
+    /// Reads the table of a payload into this one, as `load_appmon` reads it. Where an entry is refused the table stays as it was.
+    #[tactic(auto, unfolding(crate::specs::Apps::rows_of, crate::specs::Apps::rows_fault_of))]
     pub fn read(&mut self, payload: &[u8]) -> Option<EntryFault>
         requires { length payload.now ≡ 768 }
-        ensures table { IfNone result (self.new ≡ rows_of payload.now) }
-        ensures kept { IfSome result (λ _. self.new ≡ self.old) }
+        ensures table { self.new ≡ where_well (rows_of payload.now) self.old (rows_fault_of payload.now) }
         ensures fault { result ≡ rows_fault_of payload.now }
         ensures small { IfSome result (λ fault. fault.reason ≤ 2) }
     {
-        let mut rows = [AppRow::BLANK; ENTRIES];
-        match load_entries(payload, &mut rows) {
-            Some(fault) => Some(fault),
-            None => {
-                self.rows = rows;
-                None
-            }
-        }
+        read_in_place(payload, &mut self.rows)
     }
 
     /// How many entries there are: 32.
@@ -158,6 +151,8 @@ impl Entry for AppRow {
     const ENTRIES: u32 = 32;
 
     const REASONS: u8 = 2;
+
+    const BLANK: AppRow = AppRow::BLANK;
 
     fn read(payload: &[u8], place: u32) -> AppRow {
         let from = 24 * place as usize;

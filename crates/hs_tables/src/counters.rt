@@ -1,10 +1,11 @@
 //! Execution counters.
-ghost use Rattle.std.specs.Prelude.{◌≡◌, ◌≤◌, ◌-◌, length, slice_index_or, IfSome, IfNone, IfOk, IfErr, MatchResult, Some, None};
+ghost use Rattle.std.specs.Prelude.{◌≡◌, ◌≤◌, ◌-◌, length, slice_index_or, IfSome, IfOk, IfErr, MatchResult, Some, None};
 ghost use Rattle.hs_tables.specs.Counters.{row_at, row_reason, is_used, rows_of, rows_fault_of};
+ghost use Rattle.table_files.specs.Entries.{where_well};
 
 use packet_forms::{Name, be16};
 use std::marker::Model;
-use table_files::{Entry, EntryFault, load_entries};
+use table_files::{Entry, EntryFault, read_in_place};
 
 /// How many entries the table has.
 const ENTRIES: usize = 32;
@@ -64,23 +65,15 @@ impl ExeCount {
         }
     }
 
-    /// Reads the table of a payload into this one, as `load_execount` reads it, and copies it once. Where an entry is refused the table stays as
-    /// it was.
+    /// Reads the table of a payload into this one, as `load_execount` reads it. Where an entry is refused the table stays as it was.
+    #[tactic(auto, unfolding(crate::specs::Counters::rows_of, crate::specs::Counters::rows_fault_of))]
     pub fn read(&mut self, payload: &[u8]) -> Option<EntryFault>
         requires { length payload.now ≡ 704 }
-        ensures table { IfNone result (self.new ≡ rows_of payload.now) }
-        ensures kept { IfSome result (λ _. self.new ≡ self.old) }
+        ensures table { self.new ≡ where_well (rows_of payload.now) self.old (rows_fault_of payload.now) }
         ensures fault { result ≡ rows_fault_of payload.now }
         ensures small { IfSome result (λ fault. fault.reason ≤ 3) }
     {
-        let mut rows = [CountRow::BLANK; ENTRIES];
-        match load_entries(payload, &mut rows) {
-            Some(fault) => Some(fault),
-            None => {
-                self.rows = rows;
-                None
-            }
-        }
+        read_in_place(payload, &mut self.rows)
     }
 
     /// How many entries there are: 32.
@@ -139,6 +132,8 @@ impl Entry for CountRow {
     const ENTRIES: u32 = 32;
 
     const REASONS: u8 = 3;
+
+    const BLANK: CountRow = CountRow::BLANK;
 
     fn read(payload: &[u8], place: u32) -> CountRow {
         let from = 22 * place as usize;

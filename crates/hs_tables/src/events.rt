@@ -1,11 +1,12 @@
 //! Event monitors.
-ghost use Rattle.std.specs.Prelude.{◌≡◌, ◌≤◌, ◌-◌, length, slice_index_or, IfSome, IfNone, IfOk, IfErr, MatchResult, Some, None};
+ghost use Rattle.std.specs.Prelude.{◌≡◌, ◌≤◌, ◌-◌, length, slice_index_or, IfSome, IfOk, IfErr, MatchResult, Some, None};
 ghost use Rattle.std.specs.List.{list_any};
 ghost use Rattle.hs_tables.specs.Events.{row_at, row_reason, is_used, rows_of, rows_fault_of};
+ghost use Rattle.table_files.specs.Entries.{where_well};
 
 use packet_forms::{Name, be16};
 use std::marker::Model;
-use table_files::{Entry, EntryFault, load_entries};
+use table_files::{Entry, EntryFault, read_in_place};
 
 /// How many entries the table has.
 const ENTRIES: usize = 16;
@@ -79,23 +80,15 @@ impl EventMon {
         }
     }
 
-    /// Reads the table of a payload into this one, as `load_eventmon` reads it, and copies it once. Where an entry is refused the table stays as
-    /// it was.
+    /// Reads the table of a payload into this one, as `load_eventmon` reads it. Where an entry is refused the table stays as it was.
+    #[tactic(auto, unfolding(crate::specs::Events::rows_of, crate::specs::Events::rows_fault_of))]
     pub fn read(&mut self, payload: &[u8]) -> Option<EntryFault>
         requires { length payload.now ≡ 384 }
-        ensures table { IfNone result (self.new ≡ rows_of payload.now) }
-        ensures kept { IfSome result (λ _. self.new ≡ self.old) }
+        ensures table { self.new ≡ where_well (rows_of payload.now) self.old (rows_fault_of payload.now) }
         ensures fault { result ≡ rows_fault_of payload.now }
         ensures small { IfSome result (λ fault. fault.reason ≤ 2) }
     {
-        let mut rows = [EventRow::BLANK; ENTRIES];
-        match load_entries(payload, &mut rows) {
-            Some(fault) => Some(fault),
-            None => {
-                self.rows = rows;
-                None
-            }
-        }
+        read_in_place(payload, &mut self.rows)
     }
 
     /// How many entries there are: 16.
@@ -167,6 +160,8 @@ impl Entry for EventRow {
     const ENTRIES: u32 = 16;
 
     const REASONS: u8 = 2;
+
+    const BLANK: EventRow = EventRow::BLANK;
 
     fn read(payload: &[u8], place: u32) -> EventRow {
         let from = 24 * place as usize;

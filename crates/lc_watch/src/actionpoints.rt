@@ -1,10 +1,11 @@
 //! Actionpoints.
-ghost use Rattle.std.specs.Prelude.{◌≡◌, ◌≤◌, ◌<◌, ◌-◌, true, length, take, if◌then◌else◌, Some, None, IfSome, IfNone};
+ghost use Rattle.std.specs.Prelude.{◌≡◌, ◌≤◌, ◌<◌, ◌-◌, true, length, take, if◌then◌else◌, Some, None, IfSome};
 ghost use Rattle.lc_watch.specs.Actionpoints.{is_used, is_whole, is_startable, expression, act_at, uses_any, AreAble, AbleWhereUsed};
+ghost use Rattle.table_files.specs.Entries.{where_well};
 
 use crate::expressions::{WORDS, Word, leaves_one};
 use std::marker::Model;
-use table_files::{EntryFault, load_entries};
+use table_files::{EntryFault, read_in_place};
 
 /// How many actionpoints the table has.
 pub(crate) const ACTIONPOINTS: usize = 16;
@@ -104,24 +105,16 @@ impl Adt {
         }
     }
 
-    /// Reads the table of a payload into this one, as `load_adt` reads it, and copies it once. Where an entry is refused the table stays as
-    /// it was.
+    /// Reads the table of a payload into this one, as `load_adt` reads it. Where an entry is refused the table stays as it was.
+    #[tactic(auto, unfolding(crate::specs::Actionpoints::rows_of, crate::specs::Actionpoints::rows_fault_of))]
     pub fn read(&mut self, payload: &[u8]) -> Option<EntryFault>
         requires { length payload.now ≡ 640 }
-        ensures table { IfNone result (self.new ≡ rows_of payload.now) }
-        ensures able { IfNone result (AreAble self.new) }
-        ensures kept { IfSome result (λ _. self.new ≡ self.old) }
+        ensures table { self.new ≡ where_well (rows_of payload.now) self.old (rows_fault_of payload.now) }
+        ensures able { AreAble self.new }
         ensures fault { result ≡ rows_fault_of payload.now }
         ensures small { IfSome result (λ fault. fault.reason ≤ 3) }
     {
-        let mut rows = [ActRow::BLANK; ACTIONPOINTS];
-        match load_entries(payload, &mut rows) {
-            Some(fault) => Some(fault),
-            None => {
-                self.rows = rows;
-                None
-            }
-        }
+        read_in_place(payload, &mut self.rows)
     }
 
     /// Entry n, from 1 to 16, where it is used.

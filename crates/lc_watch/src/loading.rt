@@ -61,6 +61,8 @@ impl Entry for WatchRow {
 
     const REASONS: u8 = 2;
 
+    const BLANK: WatchRow = WatchRow::BLANK;
+
     fn read(payload: &[u8], place: u32) -> WatchRow {
         let from = 16 * place as usize;
         WatchRow {
@@ -101,6 +103,8 @@ impl Entry for ActRow {
     const ENTRIES: u32 = 16;
 
     const REASONS: u8 = 3;
+
+    const BLANK: ActRow = ActRow::BLANK;
 
     fn read(payload: &[u8], place: u32) -> ActRow {
         let from = 40 * place as usize;

@@ -1,9 +1,10 @@
 //! Watchpoints.
-ghost use Rattle.std.specs.Prelude.{◌≡◌, ◌≤◌, ◌-◌, length, if◌then◌else◌, Some, None, IfSome, IfNone};
+ghost use Rattle.std.specs.Prelude.{◌≡◌, ◌≤◌, ◌-◌, length, if◌then◌else◌, Some, None, IfSome};
 ghost use Rattle.lc_watch.specs.Watchpoints.{operator_of, is_used, watch_at};
+ghost use Rattle.table_files.specs.Entries.{where_well};
 
 use std::marker::Model;
-use table_files::{EntryFault, load_entries};
+use table_files::{EntryFault, read_in_place};
 
 /// How many watchpoints the table has.
 pub(crate) const WATCHPOINTS: usize = 32;
@@ -104,23 +105,15 @@ impl Wdt {
         }
     }
 
-    /// Reads the table of a payload into this one, as `load_wdt` reads it, and copies it once. Where an entry is refused the table stays as
-    /// it was.
+    /// Reads the table of a payload into this one, as `load_wdt` reads it. Where an entry is refused the table stays as it was.
+    #[tactic(auto, unfolding(crate::specs::Watchpoints::rows_of, crate::specs::Watchpoints::rows_fault_of))]
     pub fn read(&mut self, payload: &[u8]) -> Option<EntryFault>
         requires { length payload.now ≡ 512 }
-        ensures table { IfNone result (self.new ≡ rows_of payload.now) }
-        ensures kept { IfSome result (λ _. self.new ≡ self.old) }
+        ensures table { self.new ≡ where_well (rows_of payload.now) self.old (rows_fault_of payload.now) }
         ensures fault { result ≡ rows_fault_of payload.now }
         ensures small { IfSome result (λ fault. fault.reason ≤ 2) }
     {
-        let mut rows = [WatchRow::BLANK; WATCHPOINTS];
-        match load_entries(payload, &mut rows) {
-            Some(fault) => Some(fault),
-            None => {
-                self.rows = rows;
-                None
-            }
-        }
+        read_in_place(payload, &mut self.rows)
     }
 
     /// Entry n, from 1 to 32, where it is used.

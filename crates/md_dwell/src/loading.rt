@@ -1,9 +1,8 @@
 //! The reading of a table's payload.
-ghost use Rattle.std.specs.Prelude.{◌≡◌, ◌≤◌, length, IfOk, IfErr, IfSome, MatchResult, Some, None};
-ghost use Rattle.table_files.specs.Entries.{first_fault};
-ghost use Rattle.md_dwell.specs.Tables.{entry_at, entries_in, entry_reason, dwell_fault_of, dwell_of};
+ghost use Rattle.std.specs.Prelude.{◌≡◌, ◌≤◌, length, IfOk, IfErr, MatchResult, Some, None};
+ghost use Rattle.md_dwell.specs.Tables.{entry_at, entry_reason, dwell_fault_of, dwell_of};
 
-use crate::tables::{Dwell, DwellEntry, ENTRIES};
+use crate::tables::{Dwell, DwellEntry};
 use packet_forms::{be16, be32};
 use table_files::{Entry, EntryFault};
 
@@ -23,34 +22,6 @@ pub fn load_dwell(payload: &[u8]) -> Result<Dwell, EntryFault>
     }
 }
 
-/// The first faulty entry of a payload of 204 bytes, counted from 1, with its least reason: 1 or 3. None where all 25 entries are good.
-pub(crate) fn find_fault(payload: &[u8]) -> Option<EntryFault>
-    requires { length payload.now ≡ 204 }
-    ensures fault { result ≡ first_fault entry_reason 1 (entries_in payload.now) }
-    ensures small { IfSome result (λ fault. fault.reason ≤ 3) }
-{
-    for i in 0..DwellEntry::ENTRIES {
-        if let Some(reason) = DwellEntry::read(payload, i).reason() {
-            return Some(EntryFault {
-                entry: i + 1,
-                reason,
-            });
-        }
-    }
-    None
-}
-
-/// Reads the 25 entries of a payload of 204 bytes, each into its place. It asks none of them for a fault.
-pub(crate) fn read_entries(payload: &[u8], entries: &mut [DwellEntry; ENTRIES])
-    requires { length payload.now ≡ 204 }
-    ensures entries { entries.new ≡ entries_in payload.now }
-    ensures whole { length entries.new ≡ 25 }
-{
-    for i in 0..DwellEntry::ENTRIES {
-        entries[i as usize] = DwellEntry::read(payload, i);
-    }
-}
-
 impl Entry for DwellEntry {
     ghost entry_at = { entry_at };
 
@@ -67,6 +38,8 @@ impl Entry for DwellEntry {
     const ENTRIES: u32 = 25;
 
     const REASONS: u8 = 3;
+
+    const BLANK: DwellEntry = DwellEntry::BLANK;
 
     fn read(payload: &[u8], place: u32) -> DwellEntry {
         let from = 4 + 8 * place as usize;

@@ -3,13 +3,12 @@ ghost use Rattle.std.specs.Prelude.{◌≡◌, ◌≤◌, ◌<◌, ◌-◌, ℕ,
 ghost use Rattle.md_dwell.specs.Lists.{list_of, delays};
 ghost use Rattle.md_dwell.specs.Tables.{is_length, is_aligned};
 
-use crate::loading::{find_fault, read_entries};
 use packet_forms::be16;
 use std::marker::Model;
-use table_files::EntryFault;
+use table_files::{EntryFault, first_fault, store_entries};
 
 /// How many entries a dwell table has.
-pub(crate) const ENTRIES: usize = 25;
+const ENTRIES: usize = 25;
 
 /// An entry of a dwell table: a value of memory, and how long after its reading the next entry is read.
 #[derive(Clone, Copy, Debug, PartialEq, Eq)]
@@ -123,7 +122,7 @@ impl Dwell {
                 reason: 2,
             });
         }
-        match find_fault(payload) {
+        match first_fault::<DwellEntry>(payload) {
             Some(fault) => Some(fault),
             None => {
                 self.enabled = enabled == 1;
@@ -201,11 +200,12 @@ impl Plan {
     }
 
     /// Reads the 25 entries of a payload of 204 bytes, each into its place.
+    #[tactic(auto, unfolding(crate::specs::Tables::entries_in, table_files::specs::Entries::entries_in))]
     pub(crate) fn read(&mut self, payload: &[u8])
         requires { length payload.now ≡ 204 }
         ensures { self.new ≡ entries_in payload.now }
     {
-        read_entries(payload, &mut self.entries);
+        store_entries(payload, &mut self.entries);
         self.count = list_len(&self.entries);
         self.period = delays(&self.entries[..self.count]);
     }

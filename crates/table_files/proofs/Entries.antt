@@ -4,7 +4,7 @@ use Rattle.std.specs.List.{range_with_len}
 use Rattle.std.proofs.lemmas.List.{drop_more, drop_all}
 use Rattle.std.proofs.lemmas.List.FromFn.{length-map-range_with_len, get_or-map-range_with_len}
 use Rattle.table_files.specs.declared.fault.EntryFault.{EntryFault}
-use Rattle.table_files.specs.Entries.{fault_or, first_fault, IsFirstReason}
+use Rattle.table_files.specs.Entries.{fault_or, first_fault, where_well, IsFirstReason}
 
 -- the fault of the first of some entries, or else that of those behind it
 first_fault_cons : {E : Type 0} (reason_of : E → Option ℕ) (n : ℕ) (e : E) (entries : List E) → first_fault reason_of n (e ∷ entries) ≡ fault_or n (reason_of e) (first_fault reason_of (n + 1) entries)
@@ -94,3 +94,8 @@ none_silent (None ∷ reasons) n none (suc k) within = none_silent reasons (n + 
 
 pub none_told : (reasons : List (Option ℕ)) → (first_fault (λ r. r) 1 reasons ≡ None) ↔ Silent reasons
 none_told reasons = (none_silent reasons 1, silent_none reasons 1)
+
+-- what holds of the payload's entries where they have no fault, and of what was there before, holds of what is there afterwards
+pub where_well_holds : {A : Type 0} (holds : A → Type 0) (well old : A) (fault : Option EntryFault) → (fault ≡ None → holds well) → holds old → holds (where_well well old fault)
+where_well_holds holds well old None good kept = good refl
+where_well_holds holds well old (Some fault) good kept = kept

@@ -17,6 +17,11 @@ first_fault reason_of n (e ∷ entries) = fault_or n (reason_of e) (first_fault 
 unfoldable pub entries_in : {E : Type 0} → (List ℕ → ℕ → E) → ℕ → List ℕ → List E
 entries_in entry_at count payload = map (entry_at payload) (range_with_len 0 count)
 
+-- What is said where the entries have no fault, or else.
+abbrev pub where_well : {A : Type 0} → A → A → Option EntryFault → A
+where_well well faulty None = well
+where_well well faulty (Some fault) = faulty
+
 -- The first of some reasons to refuse an entry is this one, and stands in this place.
 pub record IsFirstReason (reasons : List (Option ℕ)) (place reason : ℕ) : Type 0 where
   pub within : place < length reasons

@@ -12,4 +12,4 @@ pub use fault::{AddFault, EntryFault, FileFault};
 pub use files::Files;
 pub use headers::{FileImage, read_file};
 pub use kinds::TableKind;
-pub use loading::{Entry, load_entries};
+pub use loading::{Entry, first_fault, read_in_place, store_entries};

@@ -1,21 +1,13 @@
-use Rattle.std.proofs.Common.{sym, refl, ap, ◌∙◌, arith}
-use Rattle.table_files.specs.Entries.{first_fault}
-use Rattle.hs_tables.specs.Events.{row_reason, rows_of, rows_fault_of}
+use Rattle.std.proofs.Common.{List, arith, sym, subst}
+use Rattle.table_files.specs.Entries.{first_fault, entries_in}
+use Rattle.table_files.proofs.Entries.{where_well_holds}
+use Rattle.hs_tables.specs.Events.{AreListed, row_at, row_reason}
+use Rattle.hs_tables.specs.declared.events.EventRow.{EventRow}
 use Rattle.hs_tables.proofs.Listed.{events_listed}
 use Rattle.hs_tables.proofs.events.EventMon.read.Goals as goal
 
-pub returns-in-Some-clause-fault : goal.returns-in-Some-clause-fault
-unfolding rows_fault_of rows_of
-returns-in-Some-clause-fault c = c.in-Some.ensures.fault
-
-pub returns-in-None-clause-fault : goal.returns-in-None-clause-fault
-unfolding rows_fault_of rows_of
-returns-in-None-clause-fault c = c.in-None.ensures.fault
-
-pub returns-in-None-clause-table : goal.returns-in-None-clause-table
-unfolding rows_of
-returns-in-None-clause-table c = c.in-None.ensures.entries refl
-
 pub invariant_of-self : goal.invariant_of-self
 invariant_of-self c =
-    (omega arith, events_listed 1 c.load_entries.new.entries (ap (first_fault row_reason 1) (c.in-None.ensures.entries refl) ∙ sym c.in-None.ensures.fault))
+    let rows = entries_in row_at 16 c.args.payload.now in
+    let held = where_well_holds (λ (rows : List EventRow). AreListed rows) rows c.self.inside.rows (first_fault row_reason 1 rows) (events_listed 1 rows) c.self.invariant.1 in
+    (omega (arith, c.read_in_place.ensures.same_length), subst (λ (rows : List EventRow). AreListed rows) (sym c.read_in_place.ensures.place) held)

@@ -1,24 +1,17 @@
-use Rattle.std.proofs.Common.{sym, refl, ap, ◌∙◌, arith}
-use Rattle.table_files.specs.Entries.{first_fault}
-use Rattle.lc_watch.specs.Actionpoints.{row_reason, rows_of, rows_fault_of}
+use Rattle.std.proofs.Common.{arith, sym, subst}
+use Rattle.table_files.specs.Entries.{first_fault, entries_in}
+use Rattle.table_files.proofs.Entries.{where_well_holds}
+use Rattle.lc_watch.specs.Actionpoints.{AreAble, row_at, row_reason}
 use Rattle.lc_watch.proofs.Ables.{all_able}
 use Rattle.lc_watch.proofs.actionpoints.Adt.read.Goals as goal
 
-pub returns-in-Some-clause-fault : goal.returns-in-Some-clause-fault
-unfolding rows_fault_of rows_of
-returns-in-Some-clause-fault c = c.in-Some.ensures.fault
+able_rows : (c : goal.After-read_in_place) → AreAble c.read_in_place.new.place
+able_rows c =
+    let rows = entries_in row_at 16 c.args.payload.now in
+    subst AreAble (sym c.read_in_place.ensures.place) (where_well_holds AreAble rows c.self.inside.rows (first_fault row_reason 1 rows) (all_able 1 rows) c.self.invariant.1)
 
-pub returns-in-None-clause-fault : goal.returns-in-None-clause-fault
-unfolding rows_fault_of rows_of
-returns-in-None-clause-fault c = c.in-None.ensures.fault
-
-pub returns-in-None-clause-table : goal.returns-in-None-clause-table
-unfolding rows_of
-returns-in-None-clause-table c = c.in-None.ensures.entries refl
-
-pub returns-in-None-clause-able : goal.returns-in-None-clause-able
-returns-in-None-clause-able c = all_able 1 c.load_entries.new.entries (ap (first_fault row_reason 1) (c.in-None.ensures.entries refl) ∙ sym c.in-None.ensures.fault)
+pub returns-clause-able : goal.returns-clause-able
+returns-clause-able c = able_rows c
 
 pub invariant_of-self : goal.invariant_of-self
-invariant_of-self c =
-    (omega arith, all_able 1 c.load_entries.new.entries (ap (first_fault row_reason 1) (c.in-None.ensures.entries refl) ∙ sym c.in-None.ensures.fault))
+invariant_of-self c = (omega (arith, c.read_in_place.ensures.same_length), able_rows c)
