@@ -35,7 +35,8 @@ pub struct EntryPlace {
 
 /// The first entry of the files that memory of the map refuses.
 pub fn refused_place(map: &Map, files: &Files) -> Option<EntryPlace>
-    ensures { option_map (λ (place : EntryPlace). (place.file, place.entry)) result ≡ region_fault map.now files.now }
+    ensures { option_map (λ (place : EntryPlace). (place.file, place.entry)) result
+        ≡ region_fault map.now files.now }
 {
     'files: for i in 0..files.len() {
         if let Some(entry) = refused_in(map, files.get(i + 1)) {
@@ -63,23 +64,23 @@ fn refused_entry(map: &Map, kind: TableKind, payload: &[u8]) -> Option<u32>
 {
     match kind {
         TableKind::Dwell(_) => refused_dwell(map, payload),
-        TableKind::Eeprom => refused_segment(map, payload),
-        TableKind::Memory => refused_segment(map, payload),
-        TableKind::AppMon => None,
-        TableKind::EventMon => None,
-        TableKind::ExeCount => None,
-        TableKind::MsgActs => None,
-        TableKind::Ats(_) => None,
-        TableKind::Rts(_) => None,
-        TableKind::Wdt => None,
-        TableKind::Adt => None,
+        TableKind::Eeprom | TableKind::Memory => refused_segment(map, payload),
+        TableKind::AppMon
+        | TableKind::EventMon
+        | TableKind::ExeCount
+        | TableKind::MsgActs
+        | TableKind::Ats(_)
+        | TableKind::Rts(_)
+        | TableKind::Wdt
+        | TableKind::Adt => None,
     }
 }
 
 /// The first entry of a dwell table whose read memory of the map refuses.
 fn refused_dwell(map: &Map, payload: &[u8]) -> Option<u32>
     requires { length payload.now ≡ 204 }
-    ensures { result ≡ where_well (first_refused map.now (dwell_of payload.now).entries) None (dwell_fault_of payload.now) }
+    ensures { result ≡ where_well (first_refused map.now (dwell_of payload.now).entries) None
+        (dwell_fault_of payload.now) }
 {
     match load_dwell(payload) {
         Ok(table) => table.first_refused(map),
@@ -90,7 +91,8 @@ fn refused_dwell(map: &Map, payload: &[u8]) -> Option<u32>
 /// The first entry of a checksum table whose bytes memory of the map refuses.
 fn refused_segment(map: &Map, payload: &[u8]) -> Option<u32>
     requires { length payload.now ≡ 192 }
-    ensures { result ≡ where_well (first_refused_segment map.now (segments_of payload.now)) None (segments_fault_of payload.now) }
+    ensures { result ≡ where_well (first_refused_segment map.now (segments_of payload.now)) None
+        (segments_fault_of payload.now) }
 {
     match load_segments(payload) {
         Ok(table) => table.first_refused(map),

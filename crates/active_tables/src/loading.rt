@@ -21,8 +21,10 @@ pub(crate) fn earlier_fault(
     fault: Option<EntryFault>,
     behind: Option<TablesFault>,
 ) -> Option<TablesFault>
-    ensures fault { (said : Option (ℕ × EntryFault)) → behind ≡ option_map fault_at said → result ≡ option_map fault_at (said_or file fault said) }
-    ensures small { IfSome fault (λ fault. fault.reason ≤ 5) → IfSome behind (λ fault. fault.reason ≤ 5) → IfSome result (λ fault. fault.reason ≤ 5) }
+    ensures fault { (said : Option (ℕ × EntryFault)) → behind ≡ option_map fault_at said
+        → result ≡ option_map fault_at (said_or file fault said) }
+    ensures small { IfSome fault (λ fault. fault.reason ≤ 5)
+        → IfSome behind (λ fault. fault.reason ≤ 5) → IfSome result (λ fault. fault.reason ≤ 5) }
 {
     match fault {
         Some(fault) => Some(TablesFault {

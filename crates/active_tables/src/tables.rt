@@ -102,7 +102,10 @@ impl<'f> Tables<'f> {
     /// Makes the table of this FILE the active one of its kind.
     pub fn activate(&mut self, file: u32)
         requires { (kind : TableKind) × (kind_at self.old.files file ≡ Some kind) }
-        ensures { self.new ≡ record self.old { set = with_file self.old.set (file_at self.old.files file) } }
+        ensures { self.new ≡ record self.old {
+          set = with_file self.old.set
+              (file_at self.old.files file);
+        } }
     {
         let files = self.files();
         let _ = self.put_file(files.get(file));
@@ -168,7 +171,8 @@ impl<'f> Tables<'f> {
     /// Puts the table of a file in its place, if it is one and its entries have no fault.
     fn put_file(&mut self, image: FileImage<'f>) -> Option<EntryFault>
         requires { (file : List ℕ) × Shows file image }
-        ensures table { (file : List ℕ) → Shows file image.entry → self.new ≡ record self.old { set = with_file self.old.set file } }
+        ensures table { (file : List ℕ) → Shows file image.entry
+            → self.new ≡ record self.old { set = with_file self.old.set file } }
         ensures fault { (file : List ℕ) → Shows file image.entry → result ≡ entry_fault_in file }
         ensures small { IfSome result (λ fault. fault.reason ≤ 5) }
     {
@@ -181,7 +185,8 @@ impl<'f> Tables<'f> {
     /// Puts a table in its place, unless its entries have a fault.
     fn put(&mut self, kind: TableKind, payload: &'f [u8]) -> Option<EntryFault>
         requires { IsTable kind (length payload.now) }
-        ensures table { self.new ≡ record self.old { set = with_table self.old.set kind payload.now } }
+        ensures table { self.new ≡ record self.old
+            { set = with_table self.old.set kind payload.now } }
         ensures fault { result ≡ entry_fault kind payload.now }
         ensures small { IfSome result (λ fault. fault.reason ≤ 5) }
     {
@@ -204,7 +209,8 @@ impl<'f> Tables<'f> {
     fn put_dwell(&mut self, n: u8, payload: &[u8]) -> Option<EntryFault>
         requires number { (1 ≤ n) × (n ≤ 4) }
         requires size { length payload.now ≡ 204 }
-        ensures table { self.new ≡ record self.old { set = with_table self.old.set (TableKind.Dwell n) payload.now } }
+        ensures table { self.new ≡ record self.old
+            { set = with_table self.old.set (TableKind.Dwell n) payload.now } }
         ensures fault { result ≡ entry_fault (TableKind.Dwell n) payload.now }
         ensures small { IfSome result (λ fault. fault.reason ≤ 5) }
     {
@@ -215,7 +221,8 @@ impl<'f> Tables<'f> {
     /// Puts absolute sequence n, 1 or 2, in its place.
     fn put_ats(&mut self, n: u8, payload: &'f [u8]) -> Option<EntryFault>
         requires { (1 ≤ n) × (n ≤ 2) }
-        ensures table { self.new ≡ record self.old { set = with_table self.old.set (TableKind.Ats n) payload.now } }
+        ensures table { self.new ≡ record self.old
+            { set = with_table self.old.set (TableKind.Ats n) payload.now } }
         ensures fault { result ≡ entry_fault (TableKind.Ats n) payload.now }
         ensures small { IfSome result (λ fault. fault.reason ≤ 5) }
     {
@@ -226,7 +233,8 @@ impl<'f> Tables<'f> {
     fn put_rts(&mut self, n: u8, payload: &'f [u8]) -> Option<EntryFault>
         requires number { (1 ≤ n) × (n ≤ 64) }
         requires size { length payload.now ≤ 2048 }
-        ensures table { self.new ≡ record self.old { set = with_table self.old.set (TableKind.Rts n) payload.now } }
+        ensures table { self.new ≡ record self.old
+            { set = with_table self.old.set (TableKind.Rts n) payload.now } }
         ensures fault { result ≡ entry_fault (TableKind.Rts n) payload.now }
         ensures small { IfSome result (λ fault. fault.reason ≤ 5) }
     {

@@ -34,16 +34,15 @@ fn is_limits(kind: TableKind) -> bool
     ensures { result ≡ is_limits kind }
 {
     match kind {
-        TableKind::Wdt => true,
-        TableKind::Adt => true,
-        TableKind::Dwell(_) => false,
-        TableKind::Eeprom => false,
-        TableKind::Memory => false,
-        TableKind::AppMon => false,
-        TableKind::EventMon => false,
-        TableKind::ExeCount => false,
-        TableKind::MsgActs => false,
-        TableKind::Ats(_) => false,
-        TableKind::Rts(_) => false,
+        TableKind::Wdt | TableKind::Adt => true,
+        TableKind::Dwell(_)
+        | TableKind::Eeprom
+        | TableKind::Memory
+        | TableKind::AppMon
+        | TableKind::EventMon
+        | TableKind::ExeCount
+        | TableKind::MsgActs
+        | TableKind::Ats(_)
+        | TableKind::Rts(_) => false,
     }
 }

@@ -21,8 +21,10 @@ use packet_forms::{Packet, telemetry};
 pub(crate) fn reply(tally: &Tally, order: &Instruction, now: u32, out: &mut Outbox)
     requires named { IsNamed order.now }
     requires room { length out.old.items < out.old.room }
-    ensures items { (happened : List Happening) → TallyStands happened tally.now → out.new ≡ adding out.old (replies_to now happened order.now) }
-    ensures counted { AllPass is_item_counted out.old.items → AllPass is_item_counted out.new.items }
+    ensures items { (happened : List Happening) → TallyStands happened tally.now
+        → out.new ≡ adding out.old (replies_to now happened order.now) }
+    ensures counted { AllPass is_item_counted out.old.items
+        → AllPass is_item_counted out.new.items }
     ensures few { length out.new.items ≤ length out.old.items + 1 }
     ensures room { out.new.room ≡ out.old.room }
 {
@@ -55,7 +57,8 @@ fn baseline_packet(table: u16, number: u16, base: Option<u16>, now: u32) -> Pack
 pub(crate) fn put_event(event: Event, now: u32, out: &mut Outbox)
     requires room { length out.old.items < out.old.room }
     ensures items { out.new ≡ adding out.old (cs_event event now ∷ []) }
-    ensures counted { AllPass is_item_counted out.old.items → AllPass is_item_counted out.new.items }
+    ensures counted { AllPass is_item_counted out.old.items
+        → AllPass is_item_counted out.new.items }
     ensures few { length out.new.items ≡ length out.old.items + 1 }
     ensures room { out.new.room ≡ out.old.room }
 {

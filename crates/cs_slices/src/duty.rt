@@ -32,7 +32,10 @@ impl Duty {
 
     /// Takes another table of this number.
     pub(crate) fn renew(&mut self, table: u16, segments: &Segments)
-        ensures { (tables : TablePair) (happened : List Happening) → DutyStands tables happened self.old → DutyStands (with_table table segments.now tables) (happened ++ Renewed table ∷ []) self.new }
+        ensures { (tables : TablePair) (happened : List Happening)
+            → DutyStands tables happened self.old
+            → DutyStands (with_table table segments.now tables) (happened ++ Renewed table
+            ∷ []) self.new }
     {
         self.switches.renew(table, segments);
         self.passing.renew(table);

@@ -13,7 +13,9 @@ use packet_forms::{Packet, telemetry};
 /// The packet with both counts, the flags, the miscompares of both tables and the number of whole passes.
 #[tactic(auto, unfolding(crate::specs::Housekeeping::housekeeping_of, packet_forms::specs::Numbers::be16_bytes, packet_forms::specs::Numbers::be32_bytes, bus_pipes::specs::Counted::is_counted))]
 pub(crate) fn housekeeping(counts: Counts, switches: &Switches, tally: &Tally, now: u32) -> Packet
-    ensures packet { result ≡ housekeeping_of now counts (flags_of switches.now.cs switches.now.eeprom switches.now.memory) tally.now.eeprom tally.now.memory tally.now.passes }
+    ensures packet { result ≡ housekeeping_of now counts
+        (flags_of switches.now.cs switches.now.eeprom switches.now.memory) tally.now.eeprom
+        tally.now.memory tally.now.passes }
     ensures counted { is_item_counted (outs.Made result) ≡ true }
 {
     let flags = switches.flags();

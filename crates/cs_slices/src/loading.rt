@@ -11,7 +11,8 @@ use table_files::{Entry, EntryFault};
 pub fn load_segments(payload: &[u8]) -> Result<Segments, EntryFault>
     requires { length payload.now ≡ 192 }
     ensures table { IfOk result (λ table. table ≡ segments_of payload.now) }
-    ensures fault { MatchResult result (λ _. segments_fault_of payload.now ≡ None) (λ fault. segments_fault_of payload.now ≡ Some fault) }
+    ensures fault { MatchResult result (λ _. segments_fault_of payload.now
+        ≡ None) (λ fault. segments_fault_of payload.now ≡ Some fault) }
     ensures small { IfErr result (λ fault. fault.reason ≤ 2) }
 {
     let mut table = Segments::blank();

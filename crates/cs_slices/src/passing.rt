@@ -37,7 +37,8 @@ impl Passing {
     /// Abandons the pass where an order switches its place off.
     pub(crate) fn obey(&mut self, order: &Instruction)
         requires { IsNamed order.now }
-        ensures { (happened : List Happening) → PassingStands happened self.old → PassingStands (happened ++ Ordered order.now ∷ []) self.new }
+        ensures { (happened : List Happening) → PassingStands happened self.old
+            → PassingStands (happened ++ Ordered order.now ∷ []) self.new }
     {
         if turns_off(self.place, order) {
             self.abandon();
@@ -46,7 +47,8 @@ impl Passing {
 
     /// Abandons the pass where the table of its place becomes active.
     pub(crate) fn renew(&mut self, table: u16)
-        ensures { (happened : List Happening) → PassingStands happened self.old → PassingStands (happened ++ Renewed table ∷ []) self.new }
+        ensures { (happened : List Happening) → PassingStands happened self.old
+            → PassingStands (happened ++ Renewed table ∷ []) self.new }
     {
         if table == u16::from(self.place / 16 + 1) {
             self.abandon();
@@ -65,8 +67,10 @@ impl Passing {
 
     /// The first place that takes part, from the current place on and round again.
     pub(crate) fn next_place(&self, switches: &Switches) -> Option<u8>
-        ensures place { (tables : TablePair) (happened : List Happening) → SwitchesStand tables happened switches.now → PassingStands happened self.now
-            → result ≡ find (takes_part tables happened) (ring_from (current_place (slices_among happened))) }
+        ensures place { (tables : TablePair) (happened : List Happening)
+            → SwitchesStand tables happened switches.now → PassingStands happened self.now
+            → result ≡ find (takes_part tables happened)
+            (ring_from (current_place (slices_among happened))) }
         ensures within { IfSome result (λ place. place < 32) }
     {
         for k in 0..32u32 {
@@ -80,15 +84,20 @@ impl Passing {
 
     /// The offset at which the next slice of a place begins.
     pub(crate) fn offset_at(&self, place: u8) -> u32
-        ensures { (happened : List Happening) → PassingStands happened self.now → result ≡ offset_at place (slices_among happened) (since_slice happened) }
+        ensures { (happened : List Happening) → PassingStands happened self.now
+            → result ≡ offset_at place (slices_among happened) (since_slice happened) }
     {
         if place == self.place { self.offset } else { 0 }
     }
 
     /// The check of the bytes of a place's pass after a slice that begins at this offset.
     pub(crate) fn check_after(&self, place: u8, from: u32, bytes: &[u8]) -> u16
-        ensures { (happened : List Happening) (s : Slice) → PassingStands happened self.now → s.place ≡ place → s.from ≡ from → from ≡ offset_at place (slices_among happened) (since_slice happened) → s.bytes ≡ bytes.now
-            → result ≡ crc_of 0 (pass_bytes place (slices_since (table_of place) happened ++ s ∷ [])) }
+        ensures { (happened : List Happening) (s : Slice) → PassingStands happened self.now
+            → s.place ≡ place → s.from ≡ from
+            → from ≡ offset_at place (slices_among happened) (since_slice happened)
+            → s.bytes ≡ bytes.now
+            → result ≡ crc_of 0 (pass_bytes place (slices_since (table_of place) happened ++ s
+            ∷ [])) }
     {
         if from == 0 {
             return crc16(0, bytes);
@@ -98,7 +107,9 @@ impl Passing {
 
     /// After a slice that ends before its entry's end: the pass goes on.
     pub(crate) fn begun(place: u8, till: u32, check: u16) -> Passing
-        ensures { (happened : List Happening) (s : Slice) → s.place ≡ place → s.till ≡ till → s.ends ≡ false → check ≡ crc_of 0 (pass_bytes place (slices_since (table_of place) happened ++ s ∷ []))
+        ensures { (happened : List Happening) (s : Slice) → s.place ≡ place → s.till ≡ till
+            → s.ends ≡ false → check ≡ crc_of 0
+            (pass_bytes place (slices_since (table_of place) happened ++ s ∷ []))
             → PassingStands (happened ++ Read s ∷ []) result }
     {
         Passing {
@@ -111,7 +122,8 @@ impl Passing {
     /// After a slice that ends at its entry's end: the next place, and no pass.
     pub(crate) fn behind(place: u8) -> Passing
         requires { place < 32 }
-        ensures { (happened : List Happening) (s : Slice) → s.place ≡ place → s.ends ≡ true → PassingStands (happened ++ Read s ∷ []) result }
+        ensures { (happened : List Happening) (s : Slice) → s.place ≡ place
+            → s.ends ≡ true → PassingStands (happened ++ Read s ∷ []) result }
     {
         Passing {
             place: (place + 1) % 32,

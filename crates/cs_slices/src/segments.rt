@@ -63,7 +63,8 @@ impl Segments {
     #[tactic(auto, unfolding(crate::specs::Tables::segments_of, crate::specs::Tables::segments_fault_of, table_files::specs::Entries::entries_in))]
     pub fn read(&mut self, payload: &[u8]) -> Option<EntryFault>
         requires { length payload.now ≡ 192 }
-        ensures table { self.new ≡ where_well (segments_of payload.now) self.old (segments_fault_of payload.now) }
+        ensures table { self.new ≡ where_well (segments_of payload.now) self.old
+            (segments_fault_of payload.now) }
         ensures fault { result ≡ segments_fault_of payload.now }
         ensures small { IfSome result (λ fault. fault.reason ≤ 2) }
     {

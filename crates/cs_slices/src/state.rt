@@ -36,8 +36,11 @@ impl Cs {
     /// baselines are forgotten, and so is a pass of its own that has begun.
     pub fn activate(&mut self, eeprom: &Segments, memory: &Segments, table: u16)
         requires table { IsTable table }
-        ensures stands { (tables : TablePair) (history : List CsEntry) → Stands tables history self.old
-            → Stands tables (history ++ Activated (activation_of table (table_named table (pair_of eeprom.now memory.now))) ∷ []) self.new }
+        ensures stands { (tables : TablePair) (history : List CsEntry)
+            → Stands tables history self.old
+            → Stands tables (history ++ Activated
+            (activation_of table (table_named table (pair_of eeprom.now memory.now)))
+            ∷ []) self.new }
     {
         self.duty.renew(table, table_named(eeprom, memory, table));
     }
@@ -45,9 +48,14 @@ impl Cs {
     /// Whether a wakeup with these packets does nothing.
     #[inline(always)]
     pub fn is_idle(&self, commands: &[Packet]) -> bool
-        ensures exact { (tables : TablePair) (history : List CsEntry) → Stands tables history self.now → result ≡ is_idle_on tables history commands.now }
-        ensures stands { (tables : TablePair) (history : List CsEntry) (input : Input) → result ≡ true → input.commands ≡ commands.now → Stands tables history self.now → Stands tables (history ++ Woken input ∷ []) self.now }
-        ensures items { (tables : TablePair) (history : List CsEntry) (input : Input) → result ≡ true → input.commands ≡ commands.now → Stands tables history self.now → cs_items tables history input ≡ [] }
+        ensures exact { (tables : TablePair) (history : List CsEntry)
+            → Stands tables history self.now → result ≡ is_idle_on tables history commands.now }
+        ensures stands { (tables : TablePair) (history : List CsEntry) (input : Input)
+            → result ≡ true → input.commands ≡ commands.now → Stands tables history self.now
+            → Stands tables (history ++ Woken input ∷ []) self.now }
+        ensures items { (tables : TablePair) (history : List CsEntry) (input : Input)
+            → result ≡ true → input.commands ≡ commands.now → Stands tables history self.now
+            → cs_items tables history input ≡ [] }
     {
         commands.is_empty() && !self.duty.switches.any_takes_part()
     }

@@ -117,10 +117,16 @@ impl Cs {
         requires commands { length commands.now ≤ 16 }
         requires empty { out.old.items ≡ [] }
         requires room { MOST_ITEMS ≤ out.old.room }
-        requires gives { SegmentsGiven (regions_of (seen window).areas) eeprom.now × SegmentsGiven (regions_of (seen window).areas) memory.now }
-        ensures stands { (tables : TablePair) (history : List CsEntry) → pair_of eeprom.now memory.now ≡ tables_after tables history → Stands tables history self.now
-            → Stands tables (history ++ Woken (input_of now commands.now window.entry) ∷ []) next.new }
-        ensures items { (tables : TablePair) (history : List CsEntry) → pair_of eeprom.now memory.now ≡ tables_after tables history → Stands tables history self.now
+        requires gives { SegmentsGiven (regions_of (seen window).areas) eeprom.now
+            × SegmentsGiven (regions_of (seen window).areas) memory.now }
+        ensures stands { (tables : TablePair) (history : List CsEntry)
+            → pair_of eeprom.now memory.now ≡ tables_after tables history
+            → Stands tables history self.now
+            → Stands tables (history ++ Woken (input_of now commands.now window.entry)
+            ∷ []) next.new }
+        ensures items { (tables : TablePair) (history : List CsEntry)
+            → pair_of eeprom.now memory.now ≡ tables_after tables history
+            → Stands tables history self.now
             → out.new.items ≡ cs_items tables history (input_of now commands.now window.entry) }
         ensures counted { AllPass is_item_counted out.new.items }
         ensures few { length out.new.items ≤ MOST_ITEMS }
@@ -145,10 +151,16 @@ impl Cs {
         requires commands { length commands.now ≤ 16 }
         requires empty { out.old.items ≡ [] }
         requires room { MOST_ITEMS ≤ out.old.room }
-        requires gives { SegmentsGiven (regions_of (seen window).areas) eeprom.now × SegmentsGiven (regions_of (seen window).areas) memory.now }
-        ensures stands { (tables : TablePair) (history : List CsEntry) → pair_of eeprom.now memory.now ≡ tables_after tables history → Stands tables history self.old
-            → Stands tables (history ++ Woken (input_of now commands.now window.entry) ∷ []) self.new }
-        ensures items { (tables : TablePair) (history : List CsEntry) → pair_of eeprom.now memory.now ≡ tables_after tables history → Stands tables history self.old
+        requires gives { SegmentsGiven (regions_of (seen window).areas) eeprom.now
+            × SegmentsGiven (regions_of (seen window).areas) memory.now }
+        ensures stands { (tables : TablePair) (history : List CsEntry)
+            → pair_of eeprom.now memory.now ≡ tables_after tables history
+            → Stands tables history self.old
+            → Stands tables (history ++ Woken (input_of now commands.now window.entry)
+            ∷ []) self.new }
+        ensures items { (tables : TablePair) (history : List CsEntry)
+            → pair_of eeprom.now memory.now ≡ tables_after tables history
+            → Stands tables history self.old
             → out.new.items ≡ cs_items tables history (input_of now commands.now window.entry) }
         ensures counted { AllPass is_item_counted out.new.items }
         ensures few { length out.new.items ≤ MOST_ITEMS }
@@ -179,11 +191,17 @@ fn read_next(
     out: &mut Outbox,
 )
     requires room { length out.old.items < out.old.room }
-    ensures stands { (happened : List Happening) → DutyStands (pair_of eeprom.now memory.now) happened duty.old
-        → DutyStands (pair_of eeprom.now memory.now) (happened ++ reading (next_slice (pair_of eeprom.now memory.now) happened (seen window.entry))) duty.new }
-    ensures items { (happened : List Happening) → DutyStands (pair_of eeprom.now memory.now) happened duty.old
-        → out.new ≡ adding out.old (slice_items now happened (next_slice (pair_of eeprom.now memory.now) happened (seen window.entry))) }
-    ensures counted { AllPass is_item_counted out.old.items → AllPass is_item_counted out.new.items }
+    ensures stands { (happened : List Happening)
+        → DutyStands (pair_of eeprom.now memory.now) happened duty.old
+        → DutyStands (pair_of eeprom.now memory.now) (happened
+        ++ reading (next_slice (pair_of eeprom.now memory.now) happened (seen window.entry)))
+        duty.new }
+    ensures items { (happened : List Happening)
+        → DutyStands (pair_of eeprom.now memory.now) happened duty.old
+        → out.new ≡ adding out.old (slice_items now happened
+        (next_slice (pair_of eeprom.now memory.now) happened (seen window.entry))) }
+    ensures counted { AllPass is_item_counted out.old.items
+        → AllPass is_item_counted out.new.items }
     ensures few { length out.new.items ≤ length out.old.items + 1 }
     ensures room { out.new.room ≡ out.old.room }
 {
@@ -206,11 +224,20 @@ fn read_slice(
 )
     requires within { place < 32 }
     requires room { length out.old.items < out.old.room }
-    ensures stands { (happened : List Happening) → DutyStands (pair_of eeprom.now memory.now) happened duty.old
-        → DutyStands (pair_of eeprom.now memory.now) (happened ++ Read (slice_from (seen window.entry) (entry_in (pair_of eeprom.now memory.now) place) place (offset_at place (slices_among happened) (since_slice happened))) ∷ []) duty.new }
-    ensures items { (happened : List Happening) → DutyStands (pair_of eeprom.now memory.now) happened duty.old
-        → out.new ≡ adding out.old (slice_items now happened (Some (slice_from (seen window.entry) (entry_in (pair_of eeprom.now memory.now) place) place (offset_at place (slices_among happened) (since_slice happened))))) }
-    ensures counted { AllPass is_item_counted out.old.items → AllPass is_item_counted out.new.items }
+    ensures stands { (happened : List Happening)
+        → DutyStands (pair_of eeprom.now memory.now) happened duty.old
+        → DutyStands (pair_of eeprom.now memory.now) (happened
+        ++ Read (slice_from (seen window.entry)
+        (entry_in (pair_of eeprom.now memory.now) place) place
+        (offset_at place (slices_among happened) (since_slice happened))) ∷ []) duty.new }
+    ensures items { (happened : List Happening)
+        → DutyStands (pair_of eeprom.now memory.now) happened duty.old
+        → out.new ≡ adding out.old (slice_items now happened
+        (Some (slice_from (seen window.entry)
+        (entry_in (pair_of eeprom.now memory.now) place) place
+        (offset_at place (slices_among happened) (since_slice happened))))) }
+    ensures counted { AllPass is_item_counted out.old.items
+        → AllPass is_item_counted out.new.items }
     ensures few { length out.new.items ≤ length out.old.items + 1 }
     ensures room { out.new.room ≡ out.old.room }
 {

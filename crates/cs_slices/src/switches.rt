@@ -44,7 +44,9 @@ impl Switches {
     /// Switches what an order asks for.
     pub(crate) fn obey(&mut self, order: &Instruction)
         requires { IsNamed order.now }
-        ensures { (tables : TablePair) (happened : List Happening) → SwitchesStand tables happened self.old → SwitchesStand tables (happened ++ Ordered order.now ∷ []) self.new }
+        ensures { (tables : TablePair) (happened : List Happening)
+            → SwitchesStand tables happened self.old
+            → SwitchesStand tables (happened ++ Ordered order.now ∷ []) self.new }
     {
         match order {
             Instruction::Plain => {}
@@ -65,7 +67,10 @@ impl Switches {
 
     /// Takes another table of this number: its entries are on by their state.
     pub(crate) fn renew(&mut self, table: u16, segments: &Segments)
-        ensures { (tables : TablePair) (happened : List Happening) → SwitchesStand tables happened self.old → SwitchesStand (with_table table segments.now tables) (happened ++ Renewed table ∷ []) self.new }
+        ensures { (tables : TablePair) (happened : List Happening)
+            → SwitchesStand tables happened self.old
+            → SwitchesStand (with_table table segments.now tables) (happened ++ Renewed table
+            ∷ []) self.new }
     {
         let mut entries = [false; PLACES];
         for place in 0..PLACES {
@@ -77,7 +82,8 @@ impl Switches {
     /// Whether a place takes part.
     pub(crate) fn takes_part(&self, place: u8) -> bool
         requires { place < 32 }
-        ensures { (tables : TablePair) (happened : List Happening) → SwitchesStand tables happened self.now → result ≡ takes_part tables happened place }
+        ensures { (tables : TablePair) (happened : List Happening)
+            → SwitchesStand tables happened self.now → result ≡ takes_part tables happened place }
     {
         if !self.cs {
             return false;
@@ -91,7 +97,8 @@ impl Switches {
     /// Whether any place takes part.
     #[inline(always)]
     pub(crate) fn any_takes_part(&self) -> bool
-        ensures { (tables : TablePair) (happened : List Happening) → SwitchesStand tables happened self.now → result ≡ some_take_part tables happened }
+        ensures { (tables : TablePair) (happened : List Happening)
+            → SwitchesStand tables happened self.now → result ≡ some_take_part tables happened }
     {
         let mut any = false;
         for place in 0..PLACES {
@@ -103,7 +110,9 @@ impl Switches {
     /// Whether the table of a place is on.
     fn is_table_on(&self, place: u8) -> bool
         requires { place < 32 }
-        ensures { (tables : TablePair) (happened : List Happening) → SwitchesStand tables happened self.now → result ≡ is_table_on (table_of place) (orders_among happened) }
+        ensures { (tables : TablePair) (happened : List Happening)
+            → SwitchesStand tables happened self.now
+            → result ≡ is_table_on (table_of place) (orders_among happened) }
     {
         if place < 16 { self.eeprom } else { self.memory }
     }
@@ -120,7 +129,8 @@ impl Switches {
 /// Whether the entry of a place is on once a table of this number became active: one of that table by its state.
 fn renewed(was: bool, table: u16, segments: &Segments, place: u8) -> bool
     requires { place < 32 }
-    ensures { result ≡ (if table == table_of place then (entry_in (pair_of segments.now segments.now) place).state == 1 else was) }
+    ensures { result ≡ (if table == table_of place
+        then (entry_in (pair_of segments.now segments.now) place).state == 1 else was) }
 {
     if table != u16::from(place / 16 + 1) {
         return was;

@@ -34,9 +34,13 @@ impl Tally {
     /// Notes the check of a whole pass, and tells whether it differs from the baseline: the first one is the baseline.
     pub(crate) fn judge(&mut self, place: u8, check: u16) -> bool
         requires { place < 32 }
-        ensures stands { (happened : List Happening) (s : Slice) → TallyStands happened self.old → s.place ≡ place → s.ends ≡ true → check ≡ crc_of 0 (pass_bytes place (slices_since (table_of place) happened ++ s ∷ []))
+        ensures stands { (happened : List Happening) (s : Slice) → TallyStands happened self.old
+            → s.place ≡ place → s.ends ≡ true
+            → check ≡ crc_of 0 (pass_bytes place (slices_since (table_of place) happened ++ s ∷ []))
             → TallyStands (happened ++ Read s ∷ []) self.new }
-        ensures found { (happened : List Happening) (s : Slice) → TallyStands happened self.old → s.place ≡ place → s.ends ≡ true → check ≡ crc_of 0 (pass_bytes place (slices_since (table_of place) happened ++ s ∷ []))
+        ensures found { (happened : List Happening) (s : Slice) → TallyStands happened self.old
+            → s.place ≡ place → s.ends ≡ true
+            → check ≡ crc_of 0 (pass_bytes place (slices_since (table_of place) happened ++ s ∷ []))
             → result ≡ differs_behind happened s }
     {
         self.passes = self.passes.wrapping_add(1);
@@ -57,7 +61,8 @@ impl Tally {
 
     /// Forgets the baselines of a table.
     pub(crate) fn renew(&mut self, table: u16)
-        ensures { (happened : List Happening) → TallyStands happened self.old → TallyStands (happened ++ Renewed table ∷ []) self.new }
+        ensures { (happened : List Happening) → TallyStands happened self.old
+            → TallyStands (happened ++ Renewed table ∷ []) self.new }
     {
         let mut baselines = [None; PLACES];
         for place in 0..PLACES {

@@ -84,7 +84,8 @@ impl MsgActs {
     #[tactic(auto, unfolding(crate::specs::Actions::rows_of, crate::specs::Actions::rows_fault_of))]
     pub fn read(&mut self, payload: &[u8]) -> Option<EntryFault>
         requires { length payload.now ≡ 544 }
-        ensures table { self.new ≡ where_well (rows_of payload.now) self.old (rows_fault_of payload.now) }
+        ensures table { self.new ≡ where_well (rows_of payload.now) self.old
+            (rows_fault_of payload.now) }
         ensures fault { result ≡ rows_fault_of payload.now }
         ensures small { IfSome result (λ fault. fault.reason ≤ 5) }
     {
@@ -115,7 +116,8 @@ impl MsgActs {
 pub fn load_msgacts(payload: &[u8]) -> Result<MsgActs, EntryFault>
     requires { length payload.now ≡ 544 }
     ensures table { IfOk result (λ table. table ≡ rows_of payload.now) }
-    ensures fault { MatchResult result (λ _. rows_fault_of payload.now ≡ None) (λ fault. rows_fault_of payload.now ≡ Some fault) }
+    ensures fault { MatchResult result (λ _. rows_fault_of payload.now
+        ≡ None) (λ fault. rows_fault_of payload.now ≡ Some fault) }
     ensures small { IfErr result (λ fault. fault.reason ≤ 5) }
 {
     let mut table = MsgActs::blank();

@@ -83,7 +83,8 @@ impl AppMon {
     #[tactic(auto, unfolding(crate::specs::Apps::rows_of, crate::specs::Apps::rows_fault_of))]
     pub fn read(&mut self, payload: &[u8]) -> Option<EntryFault>
         requires { length payload.now ≡ 768 }
-        ensures table { self.new ≡ where_well (rows_of payload.now) self.old (rows_fault_of payload.now) }
+        ensures table { self.new ≡ where_well (rows_of payload.now) self.old
+            (rows_fault_of payload.now) }
         ensures fault { result ≡ rows_fault_of payload.now }
         ensures small { IfSome result (λ fault. fault.reason ≤ 2) }
     {
@@ -125,7 +126,8 @@ impl AppMon {
 pub fn load_appmon(payload: &[u8]) -> Result<AppMon, EntryFault>
     requires { length payload.now ≡ 768 }
     ensures table { IfOk result (λ table. table ≡ rows_of payload.now) }
-    ensures fault { MatchResult result (λ _. rows_fault_of payload.now ≡ None) (λ fault. rows_fault_of payload.now ≡ Some fault) }
+    ensures fault { MatchResult result (λ _. rows_fault_of payload.now
+        ≡ None) (λ fault. rows_fault_of payload.now ≡ Some fault) }
     ensures small { IfErr result (λ fault. fault.reason ≤ 2) }
 {
     let mut table = AppMon::blank();

@@ -69,7 +69,8 @@ impl ExeCount {
     #[tactic(auto, unfolding(crate::specs::Counters::rows_of, crate::specs::Counters::rows_fault_of))]
     pub fn read(&mut self, payload: &[u8]) -> Option<EntryFault>
         requires { length payload.now ≡ 704 }
-        ensures table { self.new ≡ where_well (rows_of payload.now) self.old (rows_fault_of payload.now) }
+        ensures table { self.new ≡ where_well (rows_of payload.now) self.old
+            (rows_fault_of payload.now) }
         ensures fault { result ≡ rows_fault_of payload.now }
         ensures small { IfSome result (λ fault. fault.reason ≤ 3) }
     {
@@ -106,7 +107,8 @@ impl ExeCount {
 pub fn load_execount(payload: &[u8]) -> Result<ExeCount, EntryFault>
     requires { length payload.now ≡ 704 }
     ensures table { IfOk result (λ table. table ≡ rows_of payload.now) }
-    ensures fault { MatchResult result (λ _. rows_fault_of payload.now ≡ None) (λ fault. rows_fault_of payload.now ≡ Some fault) }
+    ensures fault { MatchResult result (λ _. rows_fault_of payload.now
+        ≡ None) (λ fault. rows_fault_of payload.now ≡ Some fault) }
     ensures small { IfErr result (λ fault. fault.reason ≤ 3) }
 {
     let mut table = ExeCount::blank();

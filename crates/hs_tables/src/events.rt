@@ -84,7 +84,8 @@ impl EventMon {
     #[tactic(auto, unfolding(crate::specs::Events::rows_of, crate::specs::Events::rows_fault_of))]
     pub fn read(&mut self, payload: &[u8]) -> Option<EntryFault>
         requires { length payload.now ≡ 384 }
-        ensures table { self.new ≡ where_well (rows_of payload.now) self.old (rows_fault_of payload.now) }
+        ensures table { self.new ≡ where_well (rows_of payload.now) self.old
+            (rows_fault_of payload.now) }
         ensures fault { result ≡ rows_fault_of payload.now }
         ensures small { IfSome result (λ fault. fault.reason ≤ 2) }
     {
@@ -134,7 +135,8 @@ impl EventMon {
 pub fn load_eventmon(payload: &[u8]) -> Result<EventMon, EntryFault>
     requires { length payload.now ≡ 384 }
     ensures table { IfOk result (λ table. table ≡ rows_of payload.now) }
-    ensures fault { MatchResult result (λ _. rows_fault_of payload.now ≡ None) (λ fault. rows_fault_of payload.now ≡ Some fault) }
+    ensures fault { MatchResult result (λ _. rows_fault_of payload.now
+        ≡ None) (λ fault. rows_fault_of payload.now ≡ Some fault) }
     ensures small { IfErr result (λ fault. fault.reason ≤ 2) }
 {
     let mut table = EventMon::blank();

@@ -16,10 +16,14 @@ ghost use Rattle.hs_tables.specs.Rows.{name_bytes, longest_bytes, whole_packet, 
 
 /// A used entry that isn't refused has a name, or a packet: where a table was loaded, `entry` is None exactly where the entry isn't used.
 pub fn used_entries_are_whole()
-    ensures apps { (row : AppRow) → apps.row_reason row ≡ None → apps.is_used row ≡ true → IsSome (apps.entry_of row) }
-    ensures events { (row : EventRow) → events.row_reason row ≡ None → events.is_used row ≡ true → IsSome (events.entry_of row) }
-    ensures counters { (row : CountRow) → counters.row_reason row ≡ None → counters.is_used row ≡ true → IsSome (counters.entry_of row) }
-    ensures actions { (row : ActRow) → actions.row_reason row ≡ None → actions.is_used row ≡ true → IsSome (actions.entry_of row) }
+    ensures apps { (row : AppRow) → apps.row_reason row ≡ None → apps.is_used row ≡ true
+        → IsSome (apps.entry_of row) }
+    ensures events { (row : EventRow) → events.row_reason row ≡ None → events.is_used row ≡ true
+        → IsSome (events.entry_of row) }
+    ensures counters { (row : CountRow) → counters.row_reason row ≡ None
+        → counters.is_used row ≡ true → IsSome (counters.entry_of row) }
+    ensures actions { (row : ActRow) → actions.row_reason row ≡ None → actions.is_used row ≡ true
+        → IsSome (actions.entry_of row) }
 {}
 
 /// Of a payload without a fault, an entry answers nothing exactly where it isn't used.
@@ -57,26 +61,35 @@ pub fn blank_tables()
 
 /// One entry of each table, byte by byte, with fields that differ.
 pub fn entry_rows()
-    ensures app { apps.row_at app_bytes 0 ≡ record { name = Some name_bytes; cycles = 0x0102; action = 0x0304 } }
-    ensures event { events.row_at event_bytes 0 ≡ record { name = Some name_bytes; id = 0x0102; action = 0x0304 } }
-    ensures count { counters.row_at count_bytes 0 ≡ record { name = Some name_bytes; sort = 0x0102 } }
-    ensures act { actions.row_at act_bytes 0 ≡ record { state = 0x0102; cooldown = 0x0304; packet = Some noop_bytes } }
+    ensures app { apps.row_at app_bytes 0 ≡ record
+        { name = Some name_bytes; cycles = 0x0102; action = 0x0304 } }
+    ensures event { events.row_at event_bytes 0
+        ≡ record { name = Some name_bytes; id = 0x0102; action = 0x0304 } }
+    ensures count { counters.row_at count_bytes 0
+        ≡ record { name = Some name_bytes; sort = 0x0102 } }
+    ensures act { actions.row_at act_bytes 0 ≡ record
+        { state = 0x0102; cooldown = 0x0304; packet = Some noop_bytes } }
 {}
 
 /// The reasons of each table, in their order.
 pub fn reason_rows()
     ensures app { apps.row_reason (record { name = None; cycles = 1; action = 12 }) ≡ Some 1 }
-    ensures app_action { apps.row_reason (record { name = None; cycles = 0; action = 12 }) ≡ Some 2 }
+    ensures app_action { apps.row_reason (record { name = None; cycles = 0; action = 12 })
+        ≡ Some 2 }
     ensures app_unused { apps.row_reason (record { name = None; cycles = 0; action = 11 }) ≡ None }
     ensures event { events.row_reason (record { name = None; id = 0; action = 12 }) ≡ Some 1 }
-    ensures event_action { events.row_reason (record { name = Some name_bytes; id = 0; action = 12 }) ≡ Some 2 }
+    ensures event_action { events.row_reason (record
+        { name = Some name_bytes; id = 0; action = 12 }) ≡ Some 2 }
     ensures event_unused { events.row_reason (record { name = None; id = 7; action = 0 }) ≡ None }
     ensures count { counters.row_reason (record { name = None; sort = 5 }) ≡ Some 1 }
-    ensures count_sort { counters.row_reason (record { name = Some name_bytes; sort = 5 }) ≡ Some 3 }
+    ensures count_sort { counters.row_reason (record { name = Some name_bytes; sort = 5 })
+        ≡ Some 3 }
     ensures count_used { counters.row_reason (record { name = Some name_bytes; sort = 4 }) ≡ None }
     ensures act { actions.row_reason (record { state = 3; cooldown = 0; packet = None }) ≡ Some 4 }
-    ensures act_state { actions.row_reason (record { state = 3; cooldown = 0; packet = Some noop_bytes }) ≡ Some 5 }
-    ensures act_unused { actions.row_reason (record { state = 0; cooldown = 9; packet = None }) ≡ None }
+    ensures act_state { actions.row_reason (record
+        { state = 3; cooldown = 0; packet = Some noop_bytes }) ≡ Some 5 }
+    ensures act_unused { actions.row_reason (record { state = 0; cooldown = 9; packet = None })
+        ≡ None }
 {}
 
 /// The first and the last entry of each table alone in a payload of zero bytes.
@@ -85,13 +98,15 @@ pub fn place_rows()
         ≡ (record { name = Some name_bytes; cycles = 0x0102; action = 0x0304 })
         ∷ replicate 31 apps.blank_row }
     ensures last_app { apps.rows_of (replicate 744 0 ++ app_bytes)
-        ≡ replicate 31 apps.blank_row ++ (record { name = Some name_bytes; cycles = 0x0102; action = 0x0304 })
+        ≡ replicate 31 apps.blank_row ++ (record
+        { name = Some name_bytes; cycles = 0x0102; action = 0x0304 })
         ∷ [] }
     ensures first_event { events.rows_of (event_bytes ++ replicate 360 0)
         ≡ (record { name = Some name_bytes; id = 0x0102; action = 0x0304 })
         ∷ replicate 15 events.blank_row }
     ensures last_event { events.rows_of (replicate 360 0 ++ event_bytes)
-        ≡ replicate 15 events.blank_row ++ (record { name = Some name_bytes; id = 0x0102; action = 0x0304 })
+        ≡ replicate 15 events.blank_row ++ (record
+        { name = Some name_bytes; id = 0x0102; action = 0x0304 })
         ∷ [] }
     ensures first_count { counters.rows_of (count_bytes ++ replicate 682 0)
         ≡ (record { name = Some name_bytes; sort = 0x0102 }) ∷ replicate 31 counters.blank_row }
@@ -102,13 +117,15 @@ pub fn place_rows()
         ≡ (record { state = 0x0102; cooldown = 0x0304; packet = Some noop_bytes })
         ∷ replicate 7 actions.blank_row }
     ensures last_act { actions.rows_of (replicate 476 0 ++ act_bytes)
-        ≡ replicate 7 actions.blank_row ++ (record { state = 0x0102; cooldown = 0x0304; packet = Some noop_bytes })
+        ≡ replicate 7 actions.blank_row ++ (record
+        { state = 0x0102; cooldown = 0x0304; packet = Some noop_bytes })
         ∷ [] }
 {}
 
 /// A stored packet of 64 bytes, one that says 65, 8, 7 and 263 bytes, and one of another version and of other sequence flags.
 pub fn stored_packet_rows()
-    ensures whole { actions.row_at whole_act_bytes 0 ≡ record { state = 2; cooldown = 0x0506; packet = Some whole_packet } }
+    ensures whole { actions.row_at whole_act_bytes 0
+        ≡ record { state = 2; cooldown = 0x0506; packet = Some whole_packet } }
     ensures well { actions.row_reason (actions.row_at whole_act_bytes 0) ≡ None }
     ensures lengths { map (λ n. actions.packet_in (slice_set whole_packet 5 n)) (0x3A ∷ 0 ∷ [])
         ≡ None ∷ None ∷ [] }

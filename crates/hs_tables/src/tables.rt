@@ -22,7 +22,13 @@ pub struct HsTables {
 impl HsTables {
     /// Tables without a used entry.
     pub fn blank() -> HsTables
-        ensures { result ≡ record { apps = apps.blank_rows; events = events.blank_rows; counts = counters.blank_rows; acts = actions.blank_rows } }
+        ensures { result ≡ record {
+          apps = apps.blank_rows;
+          events = events.blank_rows;
+          counts
+              = counters.blank_rows;
+          acts = actions.blank_rows;
+        } }
     {
         HsTables {
             apps: AppMon::blank(),

@@ -109,7 +109,8 @@ impl Adt {
     #[tactic(auto, unfolding(crate::specs::Actionpoints::rows_of, crate::specs::Actionpoints::rows_fault_of))]
     pub fn read(&mut self, payload: &[u8]) -> Option<EntryFault>
         requires { length payload.now ≡ 640 }
-        ensures table { self.new ≡ where_well (rows_of payload.now) self.old (rows_fault_of payload.now) }
+        ensures table { self.new ≡ where_well (rows_of payload.now) self.old
+            (rows_fault_of payload.now) }
         ensures able { AreAble self.new }
         ensures fault { result ≡ rows_fault_of payload.now }
         ensures small { IfSome result (λ fault. fault.reason ≤ 3) }
@@ -120,7 +121,8 @@ impl Adt {
     /// Entry n, from 1 to 16, where it is used.
     pub fn entry(&self, n: u32) -> Option<ActRow>
         requires { (1 ≤ n) × (n ≤ 16) }
-        ensures { result ≡ (if is_used (act_at self.now (n - 1)) then Some (act_at self.now (n - 1)) else None) }
+        ensures { result ≡ (if is_used (act_at self.now (n - 1)) then Some (act_at self.now (n - 1))
+            else None) }
     {
         let row = self.rows[n as usize - 1];
         if row.is_used() { Some(row) } else { None }

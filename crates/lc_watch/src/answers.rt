@@ -16,8 +16,10 @@ use packet_forms::{Packet, command};
 #[inline(never)]
 pub(crate) fn put_firing(rts: u16, now: u32, out: &mut Outbox)
     requires room { length out.old.items + 2 ≤ out.old.room }
-    ensures items { out.new ≡ adding out.old (outs.Stored (start_of rts) ∷ lc_event Fired now ∷ []) }
-    ensures counted { AllPass is_item_counted out.old.items → AllPass is_item_counted out.new.items }
+    ensures items { out.new ≡ adding out.old (outs.Stored (start_of rts) ∷ lc_event Fired now
+        ∷ []) }
+    ensures counted { AllPass is_item_counted out.old.items
+        → AllPass is_item_counted out.new.items }
     ensures few { length out.new.items ≤ length out.old.items + 2 }
     ensures room { out.new.room ≡ out.old.room }
 {
@@ -38,7 +40,8 @@ fn start_command(rts: u16) -> Packet
 fn put_event(event: Event, now: u32, out: &mut Outbox)
     requires room { length out.old.items < out.old.room }
     ensures items { out.new ≡ adding out.old (lc_event event now ∷ []) }
-    ensures counted { AllPass is_item_counted out.old.items → AllPass is_item_counted out.new.items }
+    ensures counted { AllPass is_item_counted out.old.items
+        → AllPass is_item_counted out.new.items }
     ensures few { length out.new.items ≡ length out.old.items + 1 }
     ensures room { out.new.room ≡ out.old.room }
 {

@@ -45,7 +45,9 @@ impl Duty {
     /// Does what an accepted command asks for.
     pub(crate) fn obey(&mut self, instruction: &Instruction)
         requires { NamesPoint instruction.now }
-        ensures { (setup : Setup) (history : List Input) (orders : List Instruction) → DutyStands setup history orders self.old → DutyStands setup history (orders ++ instruction.now ∷ []) self.new }
+        ensures { (setup : Setup) (history : List Input) (orders : List Instruction)
+            → DutyStands setup history orders self.old
+            → DutyStands setup history (orders ++ instruction.now ∷ []) self.new }
     {
         match instruction {
             Instruction::Plain => {}
@@ -58,7 +60,9 @@ impl Duty {
 
     /// Takes these packets in order: of each watchpoint the last of its id counts.
     pub(crate) fn take(&mut self, watch: &Wdt, telemetry: &[Packet])
-        ensures outcomes { (before : List (List ℕ)) → OutcomesStand watch.now before self.old.outcomes → OutcomesStand watch.now (before ++ telemetry.now) self.new.outcomes }
+        ensures outcomes { (before : List (List ℕ))
+            → OutcomesStand watch.now before self.old.outcomes
+            → OutcomesStand watch.now (before ++ telemetry.now) self.new.outcomes }
         ensures points { self.new.points ≡ self.old.points }
         ensures fired { self.new.fired ≡ self.old.fired }
         ensures whole { length watch.now ≡ 32 }
@@ -69,10 +73,15 @@ impl Duty {
     /// Evaluates the actionpoints in table order, and puts what those give that fire behind the items.
     pub(crate) fn fire(&mut self, actions: &Adt, now: u32, out: &mut Outbox)
         requires room { length out.old.items + 32 ≤ out.old.room }
-        ensures stands { (watch : List WatchRow) (history : List Input) (input : Input) → HasTaken (setup_of watch actions.now) history input self.old → DutyStands (setup_of watch actions.now) (history ++ input ∷ []) [] self.new }
-        ensures items { (watch : List WatchRow) (history : List Input) (input : Input) → HasTaken (setup_of watch actions.now) history input self.old
-            → out.new ≡ adding out.old (flat_map (point_items now actions.now) (fired_at (setup_of watch actions.now) history input)) }
-        ensures counted { AllPass is_item_counted out.old.items → AllPass is_item_counted out.new.items }
+        ensures stands { (watch : List WatchRow) (history : List Input) (input : Input)
+            → HasTaken (setup_of watch actions.now) history input self.old
+            → DutyStands (setup_of watch actions.now) (history ++ input ∷ []) [] self.new }
+        ensures items { (watch : List WatchRow) (history : List Input) (input : Input)
+            → HasTaken (setup_of watch actions.now) history input self.old
+            → out.new ≡ adding out.old (flat_map (point_items now actions.now)
+            (fired_at (setup_of watch actions.now) history input)) }
+        ensures counted { AllPass is_item_counted out.old.items
+            → AllPass is_item_counted out.new.items }
         ensures few { length out.new.items ≤ length out.old.items + 32 }
         ensures room { out.new.room ≡ out.old.room }
     {
@@ -89,7 +98,9 @@ impl Duty {
     /// The active actionpoints: bit n - 1 is actionpoint n.
     #[tactic(auto, unfolding(crate::specs::Housekeeping::active_bits))]
     pub(crate) fn active_bits(&self) -> u16
-        ensures { (setup : Setup) (history : List Input) (orders : List Instruction) → DutyStands setup history orders self.now → result ≡ active_bits (is_active setup history orders) }
+        ensures { (setup : Setup) (history : List Input) (orders : List Instruction)
+            → DutyStands setup history orders self.now
+            → result ≡ active_bits (is_active setup history orders) }
     {
         let mut bits = [false; ACTIONPOINTS];
         for place in 0..ACTIONPOINTS {
@@ -100,7 +111,9 @@ impl Duty {
 
     /// The outcomes of the watchpoints, two bits each, the first lowest.
     pub(crate) fn results(&self) -> u64
-        ensures { (watch : List WatchRow) (telemetry : List (List ℕ)) → OutcomesStand watch telemetry self.now.outcomes → result ≡ results_of (outcome_at watch telemetry) }
+        ensures { (watch : List WatchRow) (telemetry : List (List ℕ))
+            → OutcomesStand watch telemetry self.now.outcomes
+            → result ≡ results_of (outcome_at watch telemetry) }
     {
         codes_of(&self.outcomes)
     }
@@ -127,14 +140,27 @@ fn serve_all(
     out: &mut Outbox,
 )
     requires room { length out.old.items + 32 ≤ out.old.room }
-    ensures points { (watch : List WatchRow) (history : List Input) (input : Input) → ((k : ℕ) → kept_at outcomes.now k ≡ outcome_at watch (telemetry_of (history ++ input ∷ [])) k)
-        → PointsStand (setup_of watch actions.now) history (ordered_at (setup_of watch actions.now) input) points.old → PointsStand (setup_of watch actions.now) (history ++ input ∷ []) [] points.new }
-    ensures items { (watch : List WatchRow) (history : List Input) (input : Input) → ((k : ℕ) → kept_at outcomes.now k ≡ outcome_at watch (telemetry_of (history ++ input ∷ [])) k)
-        → PointsStand (setup_of watch actions.now) history (ordered_at (setup_of watch actions.now) input) points.old → out.new ≡ adding out.old (flat_map (point_items now actions.now) (fired_at (setup_of watch actions.now) history input)) }
-    ensures fired { (watch : List WatchRow) (history : List Input) (input : Input) (count : ℕ) → ((k : ℕ) → kept_at outcomes.now k ≡ outcome_at watch (telemetry_of (history ++ input ∷ [])) k)
-        → PointsStand (setup_of watch actions.now) history (ordered_at (setup_of watch actions.now) input) points.old → fired.old ≡ count % 65536
+    ensures points { (watch : List WatchRow) (history : List Input) (input : Input)
+        → ((k : ℕ) → kept_at outcomes.now k ≡ outcome_at watch (telemetry_of (history ++ input
+        ∷ [])) k)
+        → PointsStand (setup_of watch actions.now) history
+        (ordered_at (setup_of watch actions.now) input) points.old
+        → PointsStand (setup_of watch actions.now) (history ++ input ∷ []) [] points.new }
+    ensures items { (watch : List WatchRow) (history : List Input) (input : Input)
+        → ((k : ℕ) → kept_at outcomes.now k ≡ outcome_at watch (telemetry_of (history ++ input
+        ∷ [])) k)
+        → PointsStand (setup_of watch actions.now) history
+        (ordered_at (setup_of watch actions.now) input) points.old
+        → out.new ≡ adding out.old (flat_map (point_items now actions.now)
+        (fired_at (setup_of watch actions.now) history input)) }
+    ensures fired { (watch : List WatchRow) (history : List Input) (input : Input) (count : ℕ)
+        → ((k : ℕ) → kept_at outcomes.now k ≡ outcome_at watch (telemetry_of (history ++ input
+        ∷ [])) k)
+        → PointsStand (setup_of watch actions.now) history
+        (ordered_at (setup_of watch actions.now) input) points.old → fired.old ≡ count % 65536
         → fired.new ≡ (count + length (fired_at (setup_of watch actions.now) history input)) % 65536 }
-    ensures counted { AllPass is_item_counted out.old.items → AllPass is_item_counted out.new.items }
+    ensures counted { AllPass is_item_counted out.old.items
+        → AllPass is_item_counted out.new.items }
     ensures few { length out.new.items ≤ length out.old.items + 32 }
     ensures room { out.new.room ≡ out.old.room }
 {

@@ -34,8 +34,11 @@ pub(crate) fn evaluation(row: &ActRow, outcomes: &[Outcome; WATCHPOINTS]) -> Opt
 fn stack_after(stack: u32, word: Word, outcomes: &[Outcome; WATCHPOINTS]) -> Option<u32>
     requires { stack ≤ 65535 }
     ensures unknown { result ≡ None → names_known (kept_at outcomes.now) word ≡ false }
-    ensures known { (next : ℕ) → result ≡ Some next → names_known (kept_at outcomes.now) word ≡ true }
-    ensures left { (values left : List Bool) (next : ℕ) → stack ≡ bits_of values → worked (tripped_in (kept_at outcomes.now)) values word ≡ Some left → result ≡ Some next → next ≡ bits_of left }
+    ensures known { (next : ℕ) → result ≡ Some next
+        → names_known (kept_at outcomes.now) word ≡ true }
+    ensures left { (values left : List Bool) (next : ℕ) → stack ≡ bits_of values
+        → worked (tripped_in (kept_at outcomes.now)) values word ≡ Some left → result ≡ Some next
+        → next ≡ bits_of left }
     ensures small { IfSome result (λ next. next ≤ 2 * stack + 1) }
 {
     match word {
@@ -54,7 +57,8 @@ fn put_outcome(stack: u32, outcome: Outcome) -> Option<u32>
     requires { stack ≤ 65535 }
     ensures unknown { result ≡ None → is_known outcome ≡ false }
     ensures known { (next : ℕ) → result ≡ Some next → is_known outcome ≡ true }
-    ensures left { (next : ℕ) → result ≡ Some next → next ≡ (if is_tripped outcome then 1 else 0) + 2 * stack }
+    ensures left { (next : ℕ) → result ≡ Some next
+        → next ≡ (if is_tripped outcome then 1 else 0) + 2 * stack }
     ensures small { IfSome result (λ next. next ≤ 2 * stack + 1) }
 {
     match outcome {

@@ -55,7 +55,8 @@ pub(crate) fn leaves_one(words: &[Word]) -> bool
 /// How many values stand after a word, of at most 16 before it. None where it lacks an operand or is no word.
 fn count_after(count: u32, word: Word) -> Option<u32>
     requires { count ≤ 16 }
-    ensures values { (value : ℕ → Bool) (values : List Bool) → count ≡ length values → result ≡ option_map length (worked value values word) }
+    ensures values { (value : ℕ → Bool) (values : List Bool) → count ≡ length values
+        → result ≡ option_map length (worked value values word) }
     ensures few { IfSome result (λ next. next ≤ count + 1) }
 {
     match word {
@@ -75,7 +76,8 @@ fn count_after(count: u32, word: Word) -> Option<u32>
 
 /// How many values stand after an operator with two operands. None where it lacks one.
 fn count_after_two(count: u32) -> Option<u32>
-    ensures values { (f : Bool → Bool → Bool) (values : List Bool) → count ≡ length values → result ≡ option_map length (with_two f values) }
+    ensures values { (f : Bool → Bool → Bool) (values : List Bool) → count ≡ length values
+        → result ≡ option_map length (with_two f values) }
     ensures few { IfSome result (λ next. next ≤ count + 1) }
 {
     if count < 2 {

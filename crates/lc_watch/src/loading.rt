@@ -16,7 +16,8 @@ use table_files::{Entry, EntryFault};
 pub fn load_wdt(payload: &[u8]) -> Result<Wdt, EntryFault>
     requires { length payload.now ≡ 512 }
     ensures table { IfOk result (λ table. table ≡ watchpoints.rows_of payload.now) }
-    ensures fault { MatchResult result (λ _. watchpoints.rows_fault_of payload.now ≡ None) (λ fault. watchpoints.rows_fault_of payload.now ≡ Some fault) }
+    ensures fault { MatchResult result (λ _. watchpoints.rows_fault_of payload.now
+        ≡ None) (λ fault. watchpoints.rows_fault_of payload.now ≡ Some fault) }
     ensures small { IfErr result (λ fault. fault.reason ≤ 2) }
 {
     let mut table = Wdt::blank();
@@ -33,7 +34,8 @@ pub fn load_wdt(payload: &[u8]) -> Result<Wdt, EntryFault>
 pub fn load_adt(payload: &[u8]) -> Result<Adt, EntryFault>
     requires { length payload.now ≡ 640 }
     ensures table { IfOk result (λ table. table ≡ actionpoints.rows_of payload.now) }
-    ensures fault { MatchResult result (λ _. actionpoints.rows_fault_of payload.now ≡ None) (λ fault. actionpoints.rows_fault_of payload.now ≡ Some fault) }
+    ensures fault { MatchResult result (λ _. actionpoints.rows_fault_of payload.now
+        ≡ None) (λ fault. actionpoints.rows_fault_of payload.now ≡ Some fault) }
     ensures able { IfOk result (λ table. AreAble table) }
     ensures small { IfErr result (λ fault. fault.reason ≤ 3) }
 {

@@ -26,7 +26,8 @@ pub(crate) fn take_telemetry(
     rows: &[WatchRow; WATCHPOINTS],
     telemetry: &[Packet],
 )
-    ensures { (before : List (List ℕ)) → OutcomesStand rows.now before outcomes.old → OutcomesStand rows.now (before ++ telemetry.now) outcomes.new }
+    ensures { (before : List (List ℕ)) → OutcomesStand rows.now before outcomes.old
+        → OutcomesStand rows.now (before ++ telemetry.now) outcomes.new }
 {
     if telemetry.is_empty() {
         return;
@@ -39,7 +40,8 @@ pub(crate) fn take_telemetry(
 /// The outcome of a watchpoint after these packets.
 #[inline(always)]
 fn outcome_after(row: &WatchRow, telemetry: &[Packet], before: Outcome) -> Outcome
-    ensures { (seen : List (List ℕ)) → before ≡ outcome_of row.now seen → result ≡ outcome_of row.now (seen ++ telemetry.now) }
+    ensures { (seen : List (List ℕ)) → before ≡ outcome_of row.now seen
+        → result ≡ outcome_of row.now (seen ++ telemetry.now) }
 {
     if !row.is_used() {
         return before;
@@ -50,7 +52,8 @@ fn outcome_after(row: &WatchRow, telemetry: &[Packet], before: Outcome) -> Outco
 /// The outcome of a watchpoint that is used after these packets, which are looked at from the last one on, until one has its id.
 fn last_outcome(row: &WatchRow, telemetry: &[Packet], before: Outcome) -> Outcome
     requires { is_used row.now ≡ true }
-    ensures { (seen : List (List ℕ)) → before ≡ outcome_of row.now seen → result ≡ outcome_of row.now (seen ++ telemetry.now) }
+    ensures { (seen : List (List ℕ)) → before ≡ outcome_of row.now seen
+        → result ≡ outcome_of row.now (seen ++ telemetry.now) }
 {
     let count = telemetry.len();
     for back in 0..count {

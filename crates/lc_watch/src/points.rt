@@ -49,7 +49,9 @@ impl Point {
 
     /// What a command makes of it.
     pub(crate) fn set(self, on: bool) -> Point
-        ensures { (start : Bool) (n : ℕ) (evaluations settings : List Bool) → PointStands start n evaluations settings self → PointStands start n evaluations (settings ++ on ∷ []) result }
+        ensures { (start : Bool) (n : ℕ) (evaluations settings : List Bool)
+            → PointStands start n evaluations settings self
+            → PointStands start n evaluations (settings ++ on ∷ []) result }
     {
         Point {
             active: on,
@@ -61,9 +63,13 @@ impl Point {
     /// fail, and is then passive.
     pub(crate) fn judge(self, failures: u16, evaluation: Option<bool>) -> Judged
         requires { (fails : Bool) → evaluation ≡ Some fails → 0 < failures }
-        ensures stands { (start : Bool) (evaluations settings : List Bool) → PointStands start failures evaluations settings self
-            → PointStands start failures (evaluations ++ option_to_list evaluation) (settings ++ by_firing (fires_by start failures evaluations settings evaluation)) result.point }
-        ensures fires { (start : Bool) (evaluations settings : List Bool) → PointStands start failures evaluations settings self → result.fires ≡ fires_by start failures evaluations settings evaluation }
+        ensures stands { (start : Bool) (evaluations settings : List Bool)
+            → PointStands start failures evaluations settings self
+            → PointStands start failures (evaluations ++ option_to_list evaluation) (settings
+            ++ by_firing (fires_by start failures evaluations settings evaluation)) result.point }
+        ensures fires { (start : Bool) (evaluations settings : List Bool)
+            → PointStands start failures evaluations settings self
+            → result.fires ≡ fires_by start failures evaluations settings evaluation }
     {
         let Some(fails) = evaluation else {
             return Judged {
@@ -110,13 +116,22 @@ pub(crate) fn serve(
 ) -> Point
     requires able { AbleWhereUsed row.now }
     requires room { length out.old.items + 2 ≤ out.old.room }
-    ensures stands { (start : Bool) (evaluations settings : List Bool) → PointStands start row.now.failures evaluations settings point
-        → PointStands start row.now.failures (evaluations ++ option_to_list (evaluation_of (kept_at outcomes.now) row.now)) (settings ++ by_firing (fires_by start row.now.failures evaluations settings (evaluation_of (kept_at outcomes.now) row.now))) result }
-    ensures items { (start : Bool) (evaluations settings : List Bool) → PointStands start row.now.failures evaluations settings point
-        → out.new ≡ adding out.old (if fires_by start row.now.failures evaluations settings (evaluation_of (kept_at outcomes.now) row.now) then firing_items now row.now else []) }
-    ensures fired { (start : Bool) (evaluations settings : List Bool) (count : ℕ) → PointStands start row.now.failures evaluations settings point → fired.old ≡ count % 65536
-        → fired.new ≡ (count + (if fires_by start row.now.failures evaluations settings (evaluation_of (kept_at outcomes.now) row.now) then 1 else 0)) % 65536 }
-    ensures counted { AllPass is_item_counted out.old.items → AllPass is_item_counted out.new.items }
+    ensures stands { (start : Bool) (evaluations settings : List Bool)
+        → PointStands start row.now.failures evaluations settings point
+        → PointStands start row.now.failures (evaluations
+        ++ option_to_list (evaluation_of (kept_at outcomes.now) row.now)) (settings
+        ++ by_firing (fires_by start row.now.failures evaluations settings
+        (evaluation_of (kept_at outcomes.now) row.now))) result }
+    ensures items { (start : Bool) (evaluations settings : List Bool)
+        → PointStands start row.now.failures evaluations settings point
+        → out.new ≡ adding out.old (if fires_by start row.now.failures evaluations settings
+        (evaluation_of (kept_at outcomes.now) row.now) then firing_items now row.now else []) }
+    ensures fired { (start : Bool) (evaluations settings : List Bool) (count : ℕ)
+        → PointStands start row.now.failures evaluations settings point → fired.old ≡ count % 65536
+        → fired.new ≡ (count + (if fires_by start row.now.failures evaluations settings
+        (evaluation_of (kept_at outcomes.now) row.now) then 1 else 0)) % 65536 }
+    ensures counted { AllPass is_item_counted out.old.items
+        → AllPass is_item_counted out.new.items }
     ensures few { length out.new.items ≤ length out.old.items + 2 }
     ensures room { out.new.room ≡ out.old.room }
 {

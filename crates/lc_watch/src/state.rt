@@ -36,10 +36,16 @@ impl Lc {
     /// Whether a wakeup with these packets does nothing: none was taken, and no actionpoint is used.
     #[inline(always)]
     pub fn is_idle(&self, commands: &[Packet], telemetry: &[Packet]) -> bool
-        ensures exact { (watch : List WatchRow) (actions : List ActRow) (history : List Input) → Stands watch actions history self.now → result ≡ is_idle_on actions commands.now telemetry.now }
-        ensures stands { (watch : List WatchRow) (actions : List ActRow) (history : List Input) (input : Input) → result ≡ true → input.commands ≡ commands.now → input.seen ≡ telemetry.now → Stands watch actions history self.now
+        ensures exact { (watch : List WatchRow) (actions : List ActRow) (history : List Input)
+            → Stands watch actions history self.now
+            → result ≡ is_idle_on actions commands.now telemetry.now }
+        ensures stands { (watch : List WatchRow) (actions : List ActRow) (history : List Input)
+            (input : Input) → result ≡ true → input.commands ≡ commands.now
+            → input.seen ≡ telemetry.now → Stands watch actions history self.now
             → Stands watch actions (history ++ input ∷ []) self.now }
-        ensures items { (watch : List WatchRow) (actions : List ActRow) (history : List Input) (input : Input) → result ≡ true → input.commands ≡ commands.now → input.seen ≡ telemetry.now → Stands watch actions history self.now
+        ensures items { (watch : List WatchRow) (actions : List ActRow) (history : List Input)
+            (input : Input) → result ≡ true → input.commands ≡ commands.now
+            → input.seen ≡ telemetry.now → Stands watch actions history self.now
             → lc_items (setup_of watch actions) history input ≡ [] }
     {
         if !are_none(commands, telemetry) {

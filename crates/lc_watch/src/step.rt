@@ -97,8 +97,12 @@ impl Lc {
         requires commands { length commands.now ≤ 16 }
         requires empty { out.old.items ≡ [] }
         requires room { MOST_ITEMS ≤ out.old.room }
-        ensures stands { (history : List Input) → Stands watch.now actions.now history self.now → Stands watch.now actions.now (history ++ input_of now commands.now telemetry.now ∷ []) next.new }
-        ensures items { (history : List Input) → Stands watch.now actions.now history self.now → out.new.items ≡ lc_items (setup_of watch.now actions.now) history (input_of now commands.now telemetry.now) }
+        ensures stands { (history : List Input) → Stands watch.now actions.now history self.now
+            → Stands watch.now actions.now (history ++ input_of now commands.now telemetry.now
+            ∷ []) next.new }
+        ensures items { (history : List Input) → Stands watch.now actions.now history self.now
+            → out.new.items ≡ lc_items (setup_of watch.now actions.now) history
+            (input_of now commands.now telemetry.now) }
         ensures counted { AllPass is_item_counted out.new.items }
         ensures few { length out.new.items ≤ MOST_ITEMS }
         ensures room { out.new.room ≡ out.old.room }
@@ -123,8 +127,12 @@ impl Lc {
         requires commands { length commands.now ≤ 16 }
         requires empty { out.old.items ≡ [] }
         requires room { MOST_ITEMS ≤ out.old.room }
-        ensures stands { (history : List Input) → Stands watch.now actions.now history self.old → Stands watch.now actions.now (history ++ input_of now commands.now telemetry.now ∷ []) self.new }
-        ensures items { (history : List Input) → Stands watch.now actions.now history self.old → out.new.items ≡ lc_items (setup_of watch.now actions.now) history (input_of now commands.now telemetry.now) }
+        ensures stands { (history : List Input) → Stands watch.now actions.now history self.old
+            → Stands watch.now actions.now (history ++ input_of now commands.now telemetry.now
+            ∷ []) self.new }
+        ensures items { (history : List Input) → Stands watch.now actions.now history self.old
+            → out.new.items ≡ lc_items (setup_of watch.now actions.now) history
+            (input_of now commands.now telemetry.now) }
         ensures counted { AllPass is_item_counted out.new.items }
         ensures few { length out.new.items ≤ MOST_ITEMS }
         ensures room { out.new.room ≡ out.old.room }

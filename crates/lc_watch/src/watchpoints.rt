@@ -109,7 +109,8 @@ impl Wdt {
     #[tactic(auto, unfolding(crate::specs::Watchpoints::rows_of, crate::specs::Watchpoints::rows_fault_of))]
     pub fn read(&mut self, payload: &[u8]) -> Option<EntryFault>
         requires { length payload.now ≡ 512 }
-        ensures table { self.new ≡ where_well (rows_of payload.now) self.old (rows_fault_of payload.now) }
+        ensures table { self.new ≡ where_well (rows_of payload.now) self.old
+            (rows_fault_of payload.now) }
         ensures fault { result ≡ rows_fault_of payload.now }
         ensures small { IfSome result (λ fault. fault.reason ≤ 2) }
     {
@@ -119,7 +120,8 @@ impl Wdt {
     /// Entry n, from 1 to 32, where it is used.
     pub fn entry(&self, n: u32) -> Option<WatchRow>
         requires { (1 ≤ n) × (n ≤ 32) }
-        ensures { result ≡ (if is_used (watch_at self.now (n - 1)) then Some (watch_at self.now (n - 1)) else None) }
+        ensures { result ≡ (if is_used (watch_at self.now (n - 1))
+            then Some (watch_at self.now (n - 1)) else None) }
     {
         let row = self.rows[n as usize - 1];
         if row.is_used() { Some(row) } else { None }

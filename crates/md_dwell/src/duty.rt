@@ -25,7 +25,8 @@ impl Duty {
     /// The streams before the first wakeup.
     pub(crate) fn start(tables: &[Dwell; 4]) -> Duty
         ensures stands { DutyStands tables.now [] [] result }
-        ensures given { (regions : List Region) → TablesGiven regions tables.now → StreamsGiven regions result }
+        ensures given { (regions : List Region) → TablesGiven regions tables.now
+            → StreamsGiven regions result }
     {
         Duty {
             first: Stream::start(&tables[0]),
@@ -38,8 +39,12 @@ impl Duty {
     /// Table n, 1 to 4, becomes active.
     pub(crate) fn activate(&mut self, n: u8, table: &Dwell)
         requires { (1 ≤ n) × (n ≤ 4) }
-        ensures stands { (tables : List DwellTable) (history : List MdEntry) → DutyStands tables history [] self.old → DutyStands tables (history ++ Activated (activation_of n table.now) ∷ []) [] self.new }
-        ensures given { (regions : List Region) → AllPass (is_given regions) table.now.entries → StreamsGiven regions self.old → StreamsGiven regions self.new }
+        ensures stands { (tables : List DwellTable) (history : List MdEntry)
+            → DutyStands tables history [] self.old
+            → DutyStands tables (history ++ Activated (activation_of n table.now)
+            ∷ []) [] self.new }
+        ensures given { (regions : List Region) → AllPass (is_given regions) table.now.entries
+            → StreamsGiven regions self.old → StreamsGiven regions self.new }
     {
         match n {
             1 => self.first.activate(table),
@@ -52,8 +57,11 @@ impl Duty {
     /// Whether a table is enabled whose list has a delay.
     #[inline(always)]
     pub(crate) fn dwell(&self) -> bool
-        ensures { result ≡ ((self.now.first.enabled && nat_lt 0 (delays (list_of self.now.first.plan))) || (self.now.second.enabled && nat_lt 0 (delays (list_of self.now.second.plan)))
-            || (self.now.third.enabled && nat_lt 0 (delays (list_of self.now.third.plan))) || (self.now.fourth.enabled && nat_lt 0 (delays (list_of self.now.fourth.plan)))) }
+        ensures { result ≡ ((self.now.first.enabled
+            && nat_lt 0 (delays (list_of self.now.first.plan)))
+            || (self.now.second.enabled && nat_lt 0 (delays (list_of self.now.second.plan)))
+            || (self.now.third.enabled && nat_lt 0 (delays (list_of self.now.third.plan)))
+            || (self.now.fourth.enabled && nat_lt 0 (delays (list_of self.now.fourth.plan)))) }
     {
         self.first.dwells() || self.second.dwells() || self.third.dwells() || self.fourth.dwells()
     }

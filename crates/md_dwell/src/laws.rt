@@ -32,30 +32,53 @@ pub fn blank_dwell()
 
 /// A payload with one entry, its fields all different; the enabled flag; and each fault.
 pub fn table_rows()
-    ensures entry { dwell_of ((0 ∷ 1 ∷ 0 ∷ 0 ∷ 0 ∷ 4 ∷ 0 ∷ 3 ∷ 0 ∷ 1 ∷ 2 ∷ 8 ∷ []) ++ replicate 192 0) ≡ record { enabled = true; entries = (record { len = 4; delay = 3; at = 0x00010208 }) ∷ replicate 24 blank_entry } }
-    ensures last { dwell_of (replicate 196 0 ++ (0 ∷ 2 ∷ 5 ∷ 6 ∷ 7 ∷ 8 ∷ 9 ∷ 0x0A ∷ [])) ≡ record { enabled = false; entries = replicate 24 blank_entry ++ (record { len = 2; delay = 0x0506; at = 0x0708090A }) ∷ [] } }
-    ensures accepted { dwell_fault_of ((0 ∷ 1 ∷ 0 ∷ 0 ∷ 0 ∷ 4 ∷ 0 ∷ 3 ∷ 0 ∷ 1 ∷ 2 ∷ 8 ∷ []) ++ replicate 192 0) ≡ None }
-    ensures length { dwell_fault_of ((0 ∷ 1 ∷ 0 ∷ 0 ∷ 0 ∷ 4 ∷ 0 ∷ 3 ∷ 0 ∷ 1 ∷ 2 ∷ 8 ∷ 0 ∷ 3 ∷ 0 ∷ 0 ∷ 0 ∷ 0 ∷ 0 ∷ 0 ∷ []) ++ replicate 184 0) ≡ Some (record { entry = 2; reason = 1 }) }
-    ensures flag { dwell_fault_of ((0 ∷ 2 ∷ 0 ∷ 0 ∷ 0 ∷ 3 ∷ 0 ∷ 0 ∷ 0 ∷ 0 ∷ 0 ∷ 0 ∷ []) ++ replicate 192 0) ≡ Some (record { entry = 0; reason = 2 }) }
-    ensures alignment { dwell_fault_of ((0 ∷ 0 ∷ 0 ∷ 0 ∷ 0 ∷ 4 ∷ 0 ∷ 0 ∷ 0 ∷ 0 ∷ 0 ∷ 2 ∷ []) ++ replicate 192 0) ≡ Some (record { entry = 1; reason = 3 }) }
+    ensures entry { dwell_of ((0 ∷ 1 ∷ 0 ∷ 0 ∷ 0 ∷ 4 ∷ 0 ∷ 3 ∷ 0 ∷ 1 ∷ 2 ∷ 8 ∷ [])
+        ++ replicate 192 0) ≡ record {
+          enabled = true;
+          entries
+              = (record { len = 4; delay = 3; at = 0x00010208 }) ∷ replicate 24 blank_entry;
+        } }
+    ensures last { dwell_of (replicate 196 0 ++ (0 ∷ 2 ∷ 5 ∷ 6 ∷ 7 ∷ 8 ∷ 9 ∷ 0x0A ∷ []))
+        ≡ record {
+          enabled = false;
+          entries = replicate 24 blank_entry
+              ++ (record { len = 2; delay = 0x0506; at = 0x0708090A }) ∷ [];
+        } }
+    ensures accepted { dwell_fault_of ((0 ∷ 1 ∷ 0 ∷ 0 ∷ 0 ∷ 4 ∷ 0 ∷ 3 ∷ 0 ∷ 1 ∷ 2 ∷ 8 ∷ [])
+        ++ replicate 192 0) ≡ None }
+    ensures length { dwell_fault_of ((0 ∷ 1 ∷ 0 ∷ 0 ∷ 0 ∷ 4 ∷ 0 ∷ 3 ∷ 0 ∷ 1 ∷ 2 ∷ 8 ∷ 0 ∷ 3 ∷ 0 ∷ 0
+        ∷ 0 ∷ 0 ∷ 0 ∷ 0 ∷ []) ++ replicate 184 0) ≡ Some (record { entry = 2; reason = 1 }) }
+    ensures flag { dwell_fault_of ((0 ∷ 2 ∷ 0 ∷ 0 ∷ 0 ∷ 3 ∷ 0 ∷ 0 ∷ 0 ∷ 0 ∷ 0 ∷ 0 ∷ [])
+        ++ replicate 192 0) ≡ Some (record { entry = 0; reason = 2 }) }
+    ensures alignment { dwell_fault_of ((0 ∷ 0 ∷ 0 ∷ 0 ∷ 0 ∷ 4 ∷ 0 ∷ 0 ∷ 0 ∷ 0 ∷ 0 ∷ 2 ∷ [])
+        ++ replicate 192 0) ≡ Some (record { entry = 1; reason = 3 }) }
 {}
 
 /// A round ends in the last wakeup exactly where it is `since + r * R + D` for some round r, with R all delays of the list and D those
 /// before its last entry, and then it is round r that ends.
 pub fn rounds_end_by_number()
-    ensures ends { (list : List DwellEntry) (since r : ℕ) (images : List Memory) → 0 < delays list → length images - 1 ≡ since + r * delays list + delays_to_last list
+    ensures ends { (list : List DwellEntry) (since r : ℕ) (images : List Memory) → 0 < delays list
+        → length images - 1 ≡ since + r * delays list + delays_to_last list
         → round_at list since images ≡ Some (round_bytes list since images r) }
-    ensures none { (list : List DwellEntry) (since : ℕ) (images : List Memory) → 0 < delays list → ((r : ℕ) → length images - 1 ≢ since + r * delays list + delays_to_last list)
+    ensures none { (list : List DwellEntry) (since : ℕ) (images : List Memory) → 0 < delays list
+        → ((r : ℕ) → length images - 1 ≢ since + r * delays list + delays_to_last list)
         → round_at list since images ≡ None }
 {}
 
 /// A table that is enabled and has a delay, and whose stream starts in the next wakeup, begins there with its first entry and has no bytes.
 /// A stream starts there before all wakeups, and where no wakeup followed the table's last activation.
 pub fn streams_begin_in_the_next_wakeup()
-    ensures begin { (tables : List DwellTable) (history : List MdEntry) (md : Md) → Stands tables history md → AllBegin tables history md }
-    ensures before_all { (n : ℕ) → started_at n [] ≡ length (wakeups {W = Input} {A = Activation} []) }
-    ensures activated { (history : List MdEntry) (n : ℕ) (table : DwellTable) → started_at n (history ++ Activated (activation_of n table) ∷ []) ≡ length (wakeups (history ++ Activated (activation_of n table) ∷ [])) }
-    ensures kept { (history : List MdEntry) (n : ℕ) (a : Activation) → started_at n history ≡ length (wakeups history) → started_at n (history ++ Activated a ∷ []) ≡ length (wakeups (history ++ Activated a ∷ [])) }
+    ensures begin { (tables : List DwellTable) (history : List MdEntry) (md : Md)
+        → Stands tables history md → AllBegin tables history md }
+    ensures before_all { (n : ℕ) → started_at n []
+        ≡ length (wakeups {W = Input} {A = Activation} []) }
+    ensures activated { (history : List MdEntry) (n : ℕ) (table : DwellTable)
+        → started_at n (history ++ Activated (activation_of n table) ∷ [])
+        ≡ length (wakeups (history ++ Activated (activation_of n table) ∷ [])) }
+    ensures kept { (history : List MdEntry) (n : ℕ) (a : Activation)
+        → started_at n history ≡ length (wakeups history)
+        → started_at n (history ++ Activated a ∷ [])
+        ≡ length (wakeups (history ++ Activated a ∷ [])) }
 {}
 
 /// Three entries of a byte with the delays 0, 2 and 0: packets come in wakeups 2 and 4, the second with two bytes that were read in
@@ -64,35 +87,57 @@ pub fn dwell_rounds()
     ensures first { md_items (three_bytes 2) [] (quiet 0) ≡ [] }
     ensures second { md_items (three_bytes 2) (Woken (quiet 0) ∷ []) (quiet 1) ≡ [] }
     ensures third { md_items (three_bytes 2) (Woken (quiet 0) ∷ Woken (quiet 1) ∷ []) (quiet 2)
-        ≡ outs.Made (0x08 ∷ 0x91 ∷ 0xC0 ∷ 0 ∷ 0 ∷ 0x0C ∷ 0 ∷ 0 ∷ 3 ∷ 0xEA ∷ 0 ∷ 0 ∷ 0 ∷ 1 ∷ 0 ∷ 3 ∷ 0xA0 ∷ 0xB0 ∷ 0xC2 ∷ []) ∷ [] }
-    ensures fourth { md_items (three_bytes 2) (Woken (quiet 0) ∷ Woken (quiet 1) ∷ Woken (quiet 2) ∷ []) (quiet 3) ≡ [] }
-    ensures fifth { md_items (three_bytes 2) (Woken (quiet 0) ∷ Woken (quiet 1) ∷ Woken (quiet 2) ∷ Woken (quiet 3) ∷ []) (quiet 4)
-        ≡ outs.Made (0x08 ∷ 0x91 ∷ 0xC0 ∷ 0 ∷ 0 ∷ 0x0C ∷ 0 ∷ 0 ∷ 3 ∷ 0xEC ∷ 0 ∷ 0 ∷ 0 ∷ 1 ∷ 0 ∷ 3 ∷ 0xA2 ∷ 0xB2 ∷ 0xC2 ∷ []) ∷ [] }
-    ensures no_delay { md_items (three_bytes 0) (Woken (quiet 0) ∷ Woken (quiet 1) ∷ Woken (quiet 2) ∷ []) (quiet 3) ≡ [] }
+        ≡ outs.Made (0x08 ∷ 0x91 ∷ 0xC0 ∷ 0 ∷ 0 ∷ 0x0C ∷ 0 ∷ 0 ∷ 3 ∷ 0xEA ∷ 0 ∷ 0 ∷ 0 ∷ 1 ∷ 0 ∷ 3
+        ∷ 0xA0 ∷ 0xB0 ∷ 0xC2 ∷ []) ∷ [] }
+    ensures fourth { md_items (three_bytes 2) (Woken (quiet 0) ∷ Woken (quiet 1) ∷ Woken (quiet 2)
+        ∷ []) (quiet 3) ≡ [] }
+    ensures fifth { md_items (three_bytes 2) (Woken (quiet 0) ∷ Woken (quiet 1) ∷ Woken (quiet 2)
+        ∷ Woken (quiet 3) ∷ []) (quiet 4)
+        ≡ outs.Made (0x08 ∷ 0x91 ∷ 0xC0 ∷ 0 ∷ 0 ∷ 0x0C ∷ 0 ∷ 0 ∷ 3 ∷ 0xEC ∷ 0 ∷ 0 ∷ 0 ∷ 1 ∷ 0 ∷ 3
+        ∷ 0xA2 ∷ 0xB2 ∷ 0xC2 ∷ []) ∷ [] }
+    ensures no_delay { md_items (three_bytes 0) (Woken (quiet 0) ∷ Woken (quiet 1) ∷ Woken (quiet 2)
+        ∷ []) (quiet 3) ≡ [] }
 {}
 
 /// A command of each code, a request, and a packet of another id.
 pub fn command_rows()
-    ensures noop { verdict_at md_protocol (bytes_in_wakeup 0) [] (0x18 ∷ 0x90 ∷ 0xC0 ∷ 0 ∷ 0 ∷ 1 ∷ 0 ∷ 0xB6 ∷ []) ≡ Accepted 0 Plain }
-    ensures reset { verdict_at md_protocol (bytes_in_wakeup 0) [] (0x18 ∷ 0x90 ∷ 0xC0 ∷ 0 ∷ 0 ∷ 1 ∷ 1 ∷ 0xB7 ∷ []) ≡ Accepted 1 Plain }
-    ensures start { verdict_at md_protocol (bytes_in_wakeup 0) [] (0x18 ∷ 0x90 ∷ 0xC0 ∷ 0 ∷ 0 ∷ 3 ∷ 2 ∷ 0xBC ∷ 0 ∷ 0x0A ∷ []) ≡ Accepted 2 (Start 10) }
-    ensures stop { verdict_at md_protocol (bytes_in_wakeup 0) [] (0x18 ∷ 0x90 ∷ 0xC0 ∷ 0 ∷ 0 ∷ 3 ∷ 3 ∷ 0xB2 ∷ 0 ∷ 5 ∷ []) ≡ Accepted 3 (Stop 5) }
-    ensures jam { verdict_at md_protocol (bytes_in_wakeup 0) [] (0x18 ∷ 0x90 ∷ 0xC0 ∷ 0 ∷ 0 ∷ 0x0D ∷ 4 ∷ 0xA3 ∷ 0 ∷ 3 ∷ 0 ∷ 7 ∷ 0 ∷ 2 ∷ 0 ∷ 9 ∷ 0 ∷ 0 ∷ 0x10 ∷ 2 ∷ []) ≡ Accepted 4 (Jam 3 7 (record { len = 2; delay = 9; at = 0x1002 })) }
-    ensures request { verdict_at md_protocol (bytes_in_wakeup 0) [] (0x18 ∷ 0x91 ∷ 0xC0 ∷ 0 ∷ 0 ∷ 1 ∷ 0 ∷ 0xB7 ∷ []) ≡ Request }
-    ensures other { verdict_at md_protocol (bytes_in_wakeup 0) [] (0x18 ∷ 0x88 ∷ 0xC0 ∷ 0 ∷ 0 ∷ 1 ∷ 0 ∷ 0xAE ∷ []) ≡ Other }
+    ensures noop { verdict_at md_protocol (bytes_in_wakeup 0) [] (0x18 ∷ 0x90 ∷ 0xC0 ∷ 0 ∷ 0 ∷ 1 ∷ 0
+        ∷ 0xB6 ∷ []) ≡ Accepted 0 Plain }
+    ensures reset { verdict_at md_protocol (bytes_in_wakeup 0) [] (0x18 ∷ 0x90 ∷ 0xC0 ∷ 0 ∷ 0 ∷ 1
+        ∷ 1 ∷ 0xB7 ∷ []) ≡ Accepted 1 Plain }
+    ensures start { verdict_at md_protocol (bytes_in_wakeup 0) [] (0x18 ∷ 0x90 ∷ 0xC0 ∷ 0 ∷ 0 ∷ 3
+        ∷ 2 ∷ 0xBC ∷ 0 ∷ 0x0A ∷ []) ≡ Accepted 2 (Start 10) }
+    ensures stop { verdict_at md_protocol (bytes_in_wakeup 0) [] (0x18 ∷ 0x90 ∷ 0xC0 ∷ 0 ∷ 0 ∷ 3 ∷ 3
+        ∷ 0xB2 ∷ 0 ∷ 5 ∷ []) ≡ Accepted 3 (Stop 5) }
+    ensures jam { verdict_at md_protocol (bytes_in_wakeup 0) [] (0x18 ∷ 0x90 ∷ 0xC0 ∷ 0 ∷ 0 ∷ 0x0D
+        ∷ 4 ∷ 0xA3 ∷ 0 ∷ 3 ∷ 0 ∷ 7 ∷ 0 ∷ 2 ∷ 0 ∷ 9 ∷ 0 ∷ 0 ∷ 0x10 ∷ 2 ∷ [])
+        ≡ Accepted 4 (Jam 3 7 (record { len = 2; delay = 9; at = 0x1002 })) }
+    ensures request { verdict_at md_protocol (bytes_in_wakeup 0) [] (0x18 ∷ 0x91 ∷ 0xC0 ∷ 0 ∷ 0 ∷ 1
+        ∷ 0 ∷ 0xB7 ∷ []) ≡ Request }
+    ensures other { verdict_at md_protocol (bytes_in_wakeup 0) [] (0x18 ∷ 0x88 ∷ 0xC0 ∷ 0 ∷ 0 ∷ 1
+        ∷ 0 ∷ 0xAE ∷ []) ≡ Other }
 {}
 
 /// Each refusal.
 pub fn refusal_rows()
-    ensures checksum { verdict_at md_protocol (bytes_in_wakeup 0) [] (0x18 ∷ 0x90 ∷ 0xC0 ∷ 0 ∷ 0 ∷ 1 ∷ 0 ∷ 0xB7 ∷ []) ≡ Refused 1 }
-    ensures code { verdict_at md_protocol (bytes_in_wakeup 0) [] (0x18 ∷ 0x90 ∷ 0xC0 ∷ 0 ∷ 0 ∷ 1 ∷ 5 ∷ 0xB3 ∷ []) ≡ Refused 2 }
-    ensures length { verdict_at md_protocol (bytes_in_wakeup 0) [] (0x18 ∷ 0x90 ∷ 0xC0 ∷ 0 ∷ 0 ∷ 1 ∷ 2 ∷ 0xB4 ∷ []) ≡ Refused 3 }
-    ensures no_table { verdict_at md_protocol (bytes_in_wakeup 0) [] (0x18 ∷ 0x90 ∷ 0xC0 ∷ 0 ∷ 0 ∷ 3 ∷ 2 ∷ 0xB6 ∷ 0 ∷ 0 ∷ []) ≡ Refused 4 }
-    ensures fifth_table { verdict_at md_protocol (bytes_in_wakeup 0) [] (0x18 ∷ 0x90 ∷ 0xC0 ∷ 0 ∷ 0 ∷ 3 ∷ 3 ∷ 0xA7 ∷ 0 ∷ 0x10 ∷ []) ≡ Refused 4 }
-    ensures jammed_table { verdict_at md_protocol (bytes_in_wakeup 0) [] (0x18 ∷ 0x90 ∷ 0xC0 ∷ 0 ∷ 0 ∷ 0x0D ∷ 4 ∷ 0xA5 ∷ 0 ∷ 5 ∷ 0 ∷ 7 ∷ 0 ∷ 2 ∷ 0 ∷ 9 ∷ 0 ∷ 0 ∷ 0x10 ∷ 2 ∷ []) ≡ Refused 4 }
-    ensures entry { verdict_at md_protocol (bytes_in_wakeup 0) [] (0x18 ∷ 0x90 ∷ 0xC0 ∷ 0 ∷ 0 ∷ 0x0D ∷ 4 ∷ 0xBE ∷ 0 ∷ 3 ∷ 0 ∷ 0x1A ∷ 0 ∷ 2 ∷ 0 ∷ 9 ∷ 0 ∷ 0 ∷ 0x10 ∷ 2 ∷ []) ≡ Refused 5 }
-    ensures entry_length { verdict_at md_protocol (bytes_in_wakeup 0) [] (0x18 ∷ 0x90 ∷ 0xC0 ∷ 0 ∷ 0 ∷ 0x0D ∷ 4 ∷ 0xA2 ∷ 0 ∷ 3 ∷ 0 ∷ 7 ∷ 0 ∷ 3 ∷ 0 ∷ 9 ∷ 0 ∷ 0 ∷ 0x10 ∷ 2 ∷ []) ≡ Refused 6 }
-    ensures read { verdict_at md_protocol (bytes_in_wakeup 0) [] (0x18 ∷ 0x90 ∷ 0xC0 ∷ 0 ∷ 0 ∷ 0x0D ∷ 4 ∷ 0x91 ∷ 0 ∷ 3 ∷ 0 ∷ 7 ∷ 0 ∷ 2 ∷ 0 ∷ 9 ∷ 0 ∷ 0 ∷ 0x20 ∷ 0 ∷ []) ≡ Refused 7 }
+    ensures checksum { verdict_at md_protocol (bytes_in_wakeup 0) [] (0x18 ∷ 0x90 ∷ 0xC0 ∷ 0 ∷ 0 ∷ 1
+        ∷ 0 ∷ 0xB7 ∷ []) ≡ Refused 1 }
+    ensures code { verdict_at md_protocol (bytes_in_wakeup 0) [] (0x18 ∷ 0x90 ∷ 0xC0 ∷ 0 ∷ 0 ∷ 1 ∷ 5
+        ∷ 0xB3 ∷ []) ≡ Refused 2 }
+    ensures length { verdict_at md_protocol (bytes_in_wakeup 0) [] (0x18 ∷ 0x90 ∷ 0xC0 ∷ 0 ∷ 0 ∷ 1
+        ∷ 2 ∷ 0xB4 ∷ []) ≡ Refused 3 }
+    ensures no_table { verdict_at md_protocol (bytes_in_wakeup 0) [] (0x18 ∷ 0x90 ∷ 0xC0 ∷ 0 ∷ 0 ∷ 3
+        ∷ 2 ∷ 0xB6 ∷ 0 ∷ 0 ∷ []) ≡ Refused 4 }
+    ensures fifth_table { verdict_at md_protocol (bytes_in_wakeup 0) [] (0x18 ∷ 0x90 ∷ 0xC0 ∷ 0 ∷ 0
+        ∷ 3 ∷ 3 ∷ 0xA7 ∷ 0 ∷ 0x10 ∷ []) ≡ Refused 4 }
+    ensures jammed_table { verdict_at md_protocol (bytes_in_wakeup 0) [] (0x18 ∷ 0x90 ∷ 0xC0 ∷ 0 ∷ 0
+        ∷ 0x0D ∷ 4 ∷ 0xA5 ∷ 0 ∷ 5 ∷ 0 ∷ 7 ∷ 0 ∷ 2 ∷ 0 ∷ 9 ∷ 0 ∷ 0 ∷ 0x10 ∷ 2 ∷ []) ≡ Refused 4 }
+    ensures entry { verdict_at md_protocol (bytes_in_wakeup 0) [] (0x18 ∷ 0x90 ∷ 0xC0 ∷ 0 ∷ 0 ∷ 0x0D
+        ∷ 4 ∷ 0xBE ∷ 0 ∷ 3 ∷ 0 ∷ 0x1A ∷ 0 ∷ 2 ∷ 0 ∷ 9 ∷ 0 ∷ 0 ∷ 0x10 ∷ 2 ∷ []) ≡ Refused 5 }
+    ensures entry_length { verdict_at md_protocol (bytes_in_wakeup 0) [] (0x18 ∷ 0x90 ∷ 0xC0 ∷ 0 ∷ 0
+        ∷ 0x0D ∷ 4 ∷ 0xA2 ∷ 0 ∷ 3 ∷ 0 ∷ 7 ∷ 0 ∷ 3 ∷ 0 ∷ 9 ∷ 0 ∷ 0 ∷ 0x10 ∷ 2 ∷ []) ≡ Refused 6 }
+    ensures read { verdict_at md_protocol (bytes_in_wakeup 0) [] (0x18 ∷ 0x90 ∷ 0xC0 ∷ 0 ∷ 0 ∷ 0x0D
+        ∷ 4 ∷ 0x91 ∷ 0 ∷ 3 ∷ 0 ∷ 7 ∷ 0 ∷ 2 ∷ 0 ∷ 9 ∷ 0 ∷ 0 ∷ 0x20 ∷ 0 ∷ []) ≡ Refused 7 }
 {}
 
 /// The masks, bit by bit: that of a command and that of housekeeping.
@@ -113,45 +158,95 @@ pub fn mask_rows()
 
 /// Each packet, its fields all different.
 pub fn packet_rows()
-    ensures housekeeping { housekeeping_of 0x01020304 (record { accepted = 0x11; errors = 0x22 }) 11 ≡ 8 ∷ 0x90 ∷ 0xC0 ∷ 0 ∷ 0 ∷ 9 ∷ 1 ∷ 2 ∷ 3 ∷ 4 ∷ 0 ∷ 0 ∷ 0x11 ∷ 0x22 ∷ 0x0B ∷ 0 ∷ [] }
-    ensures dwell { dwell_packet 0x01020304 3 (0xA1 ∷ 0xB2 ∷ []) ≡ 8 ∷ 0x93 ∷ 0xC0 ∷ 0 ∷ 0 ∷ 0x0B ∷ 1 ∷ 2 ∷ 3 ∷ 4 ∷ 0 ∷ 0 ∷ 0 ∷ 3 ∷ 0 ∷ 2 ∷ 0xA1 ∷ 0xB2 ∷ [] }
+    ensures housekeeping { housekeeping_of 0x01020304 (record { accepted = 0x11; errors = 0x22 }) 11
+        ≡ 8 ∷ 0x90 ∷ 0xC0 ∷ 0 ∷ 0 ∷ 9 ∷ 1 ∷ 2 ∷ 3 ∷ 4 ∷ 0 ∷ 0 ∷ 0x11 ∷ 0x22 ∷ 0x0B ∷ 0 ∷ [] }
+    ensures dwell { dwell_packet 0x01020304 3 (0xA1 ∷ 0xB2 ∷ []) ≡ 8 ∷ 0x93 ∷ 0xC0 ∷ 0 ∷ 0 ∷ 0x0B
+        ∷ 1 ∷ 2 ∷ 3 ∷ 4 ∷ 0 ∷ 0 ∷ 0 ∷ 3 ∷ 0 ∷ 2 ∷ 0xA1 ∷ 0xB2 ∷ [] }
 {}
 
 /// A wakeup with a start, a refused stop and a request, and a round of three bytes that are read at once.
 pub fn wakeup_rows()
-    ensures items { md_items three_bytes_once [] (record { time = 1001; commands = (0x18 ∷ 0x90 ∷ 0xC0 ∷ 0 ∷ 0 ∷ 3 ∷ 2 ∷ 0xB4 ∷ 0 ∷ 2 ∷ []) ∷ (0x18 ∷ 0x90 ∷ 0xC0 ∷ 0 ∷ 0 ∷ 3 ∷ 3 ∷ 0xA7 ∷ 0 ∷ 0x10 ∷ []) ∷ (0x18 ∷ 0x91 ∷ 0xC0 ∷ 0 ∷ 0 ∷ 1 ∷ 0 ∷ 0xB7 ∷ []) ∷ []; seen = bytes_in_wakeup 0 }) ≡ outs.Made (8 ∷ 8 ∷ 0xC0 ∷ 0 ∷ 0 ∷ 0x25 ∷ 0 ∷ 0 ∷ 3 ∷ 0xE9 ∷ 0 ∷ 0 ∷ 0x4D ∷ 0x44 ∷ 0 ∷ 0 ∷ 0 ∷ 0 ∷ 0 ∷ 0 ∷ 0 ∷ 0 ∷ 0 ∷ 0 ∷ 0 ∷ 0 ∷ 0 ∷ 0 ∷ 0 ∷ 0 ∷ 0 ∷ 0 ∷ 0 ∷ 0x12 ∷ 0 ∷ 2 ∷ 0 ∷ 0 ∷ 0 ∷ 0x42 ∷ 0 ∷ 0 ∷ 0 ∷ 1 ∷ []) ∷ outs.Made (8 ∷ 8 ∷ 0xC0 ∷ 0 ∷ 0 ∷ 0x25 ∷ 0 ∷ 0 ∷ 3 ∷ 0xE9 ∷ 0 ∷ 0 ∷ 0x4D ∷ 0x44 ∷ 0 ∷ 0 ∷ 0 ∷ 0 ∷ 0 ∷ 0 ∷ 0 ∷ 0 ∷ 0 ∷ 0 ∷ 0 ∷ 0 ∷ 0 ∷ 0 ∷ 0 ∷ 0 ∷ 0 ∷ 0 ∷ 0 ∷ 4 ∷ 0 ∷ 3 ∷ 0 ∷ 0 ∷ 0 ∷ 0x42 ∷ 0 ∷ 0 ∷ 0 ∷ 1 ∷ []) ∷ outs.Made (8 ∷ 0x90 ∷ 0xC0 ∷ 0 ∷ 0 ∷ 9 ∷ 0 ∷ 0 ∷ 3 ∷ 0xE9 ∷ 0 ∷ 0 ∷ 1 ∷ 1 ∷ 3 ∷ 0 ∷ []) ∷ outs.Made (8 ∷ 0x91 ∷ 0xC0 ∷ 0 ∷ 0 ∷ 0x0C ∷ 0 ∷ 0 ∷ 3 ∷ 0xE9 ∷ 0 ∷ 0 ∷ 0 ∷ 1 ∷ 0 ∷ 3 ∷ 0xA0 ∷ 0xB0 ∷ 0xC0 ∷ []) ∷ [] }
+    ensures items { md_items three_bytes_once []
+        (record {
+          time = 1001;
+          commands = (0x18 ∷ 0x90 ∷ 0xC0 ∷ 0 ∷ 0 ∷ 3 ∷ 2 ∷ 0xB4 ∷ 0 ∷ 2 ∷ [])
+              ∷ (0x18 ∷ 0x90 ∷ 0xC0 ∷ 0 ∷ 0 ∷ 3 ∷ 3 ∷ 0xA7 ∷ 0 ∷ 0x10 ∷ [])
+              ∷ (0x18 ∷ 0x91 ∷ 0xC0 ∷ 0 ∷ 0 ∷ 1 ∷ 0 ∷ 0xB7 ∷ []) ∷ [];
+          seen = bytes_in_wakeup 0;
+        })
+        ≡ outs.Made (8 ∷ 8 ∷ 0xC0 ∷ 0 ∷ 0 ∷ 0x25 ∷ 0 ∷ 0 ∷ 3 ∷ 0xE9 ∷ 0 ∷ 0 ∷ 0x4D ∷ 0x44 ∷ 0 ∷ 0
+        ∷ 0 ∷ 0 ∷ 0 ∷ 0 ∷ 0 ∷ 0 ∷ 0 ∷ 0 ∷ 0 ∷ 0 ∷ 0 ∷ 0 ∷ 0 ∷ 0 ∷ 0 ∷ 0 ∷ 0 ∷ 0x12 ∷ 0 ∷ 2 ∷ 0 ∷ 0
+        ∷ 0 ∷ 0x42 ∷ 0 ∷ 0 ∷ 0 ∷ 1 ∷ []) ∷ outs.Made (8 ∷ 8 ∷ 0xC0 ∷ 0 ∷ 0 ∷ 0x25 ∷ 0 ∷ 0 ∷ 3 ∷ 0xE9
+        ∷ 0 ∷ 0 ∷ 0x4D ∷ 0x44 ∷ 0 ∷ 0 ∷ 0 ∷ 0 ∷ 0 ∷ 0 ∷ 0 ∷ 0 ∷ 0 ∷ 0 ∷ 0 ∷ 0 ∷ 0 ∷ 0 ∷ 0 ∷ 0 ∷ 0
+        ∷ 0 ∷ 0 ∷ 4 ∷ 0 ∷ 3 ∷ 0 ∷ 0 ∷ 0 ∷ 0x42 ∷ 0 ∷ 0 ∷ 0 ∷ 1 ∷ [])
+        ∷ outs.Made (8 ∷ 0x90 ∷ 0xC0 ∷ 0 ∷ 0 ∷ 9 ∷ 0 ∷ 0 ∷ 3 ∷ 0xE9 ∷ 0 ∷ 0 ∷ 1 ∷ 1 ∷ 3 ∷ 0 ∷ [])
+        ∷ outs.Made (8 ∷ 0x91 ∷ 0xC0 ∷ 0 ∷ 0 ∷ 0x0C ∷ 0 ∷ 0 ∷ 3 ∷ 0xE9 ∷ 0 ∷ 0 ∷ 0 ∷ 1 ∷ 0 ∷ 3
+        ∷ 0xA0 ∷ 0xB0 ∷ 0xC0 ∷ []) ∷ [] }
 {}
 
 /// An activation in the middle of a round begins a round in the next wakeup, and nothing that was read before is sent. So it does before
 /// the first wakeup; of two between two wakeups the last counts. One of another table leaves the rounds of this one as they are.
 pub fn activations_begin_rounds()
-    ensures in_round { sent_along (three_bytes 2) (woken 0 ∷ woken 1 ∷ active 1 (three_entries true 2) ∷ woken 2 ∷ woken 3 ∷ woken 4 ∷ []) ≡ [] ∷ [] ∷ [] ∷ [] ∷ [] ∷ (three_read 1 0xEC 0xA2 0xB2 0xC4 ∷ []) ∷ [] }
-    ensures other { sent_along (three_bytes 2) (woken 0 ∷ active 2 (three_entries true 2) ∷ woken 1 ∷ woken 2 ∷ woken 3 ∷ []) ≡ [] ∷ [] ∷ [] ∷ (three_read 1 0xEA 0xA0 0xB0 0xC2 ∷ []) ∷ (three_read 2 0xEB 0xA1 0xB1 0xC3 ∷ []) ∷ [] }
-    ensures last_counts { sent_along (three_bytes 2) (woken 0 ∷ active 1 (three_entries false 3) ∷ active 1 turned_round ∷ woken 1 ∷ woken 2 ∷ []) ≡ [] ∷ [] ∷ [] ∷ [] ∷ (two_read 1 0xEA 0xC1 0xA2 ∷ []) ∷ [] }
-    ensures before_all { sent_along (three_bytes 2) (active 1 turned_round ∷ woken 0 ∷ woken 1 ∷ woken 2 ∷ []) ≡ [] ∷ [] ∷ (two_read 1 0xE9 0xC0 0xA1 ∷ []) ∷ (two_read 1 0xEA 0xC1 0xA2 ∷ []) ∷ [] }
+    ensures in_round { sent_along (three_bytes 2) (woken 0 ∷ woken 1
+        ∷ active 1 (three_entries true 2) ∷ woken 2 ∷ woken 3 ∷ woken 4 ∷ []) ≡ [] ∷ [] ∷ [] ∷ []
+        ∷ [] ∷ (three_read 1 0xEC 0xA2 0xB2 0xC4 ∷ []) ∷ [] }
+    ensures other { sent_along (three_bytes 2) (woken 0 ∷ active 2 (three_entries true 2) ∷ woken 1
+        ∷ woken 2 ∷ woken 3 ∷ []) ≡ [] ∷ [] ∷ [] ∷ (three_read 1 0xEA 0xA0 0xB0 0xC2 ∷ [])
+        ∷ (three_read 2 0xEB 0xA1 0xB1 0xC3 ∷ []) ∷ [] }
+    ensures last_counts { sent_along (three_bytes 2) (woken 0 ∷ active 1 (three_entries false 3)
+        ∷ active 1 turned_round ∷ woken 1 ∷ woken 2 ∷ []) ≡ [] ∷ [] ∷ [] ∷ []
+        ∷ (two_read 1 0xEA 0xC1 0xA2 ∷ []) ∷ [] }
+    ensures before_all { sent_along (three_bytes 2) (active 1 turned_round ∷ woken 0 ∷ woken 1
+        ∷ woken 2 ∷ []) ≡ [] ∷ [] ∷ (two_read 1 0xE9 0xC0 0xA1 ∷ [])
+        ∷ (two_read 1 0xEA 0xC1 0xA2 ∷ []) ∷ [] }
 {}
 
 /// What an activation gives a table: its entries without what was jammed into the one before, and its enabled flag, whatever was started
 /// or stopped. Each table has its own.
 pub fn activations_forget()
-    ensures jammed { entries_now (three_bytes 2) (woken_with 0 (jam_third ∷ []) ∷ []) [] 1 ≡ (record { len = 1; delay = 0; at = 0x1000 }) ∷ (record { len = 1; delay = 2; at = 0x1001 }) ∷ (record { len = 1; delay = 1; at = 0x1000 }) ∷ replicate 22 blank_entry }
-    ensures jam_forgotten { entries_now (three_bytes 2) (woken_with 0 (jam_third ∷ []) ∷ active 1 (three_entries true 3) ∷ []) [] 1 ≡ (record { len = 1; delay = 0; at = 0x1000 }) ∷ (record { len = 1; delay = 3; at = 0x1001 }) ∷ (record { len = 1; delay = 0; at = 0x1002 }) ∷ replicate 22 blank_entry }
-    ensures jammed_later { entries_now (three_bytes 2) (active 1 (three_entries true 3) ∷ woken_with 0 (jam_third ∷ []) ∷ []) [] 1 ≡ (record { len = 1; delay = 0; at = 0x1000 }) ∷ (record { len = 1; delay = 3; at = 0x1001 }) ∷ (record { len = 1; delay = 1; at = 0x1000 }) ∷ replicate 22 blank_entry }
-    ensures jam_kept { entries_now (three_bytes 2) (woken_with 0 (jam_third ∷ []) ∷ active 2 turned_round ∷ []) [] 1 ≡ entries_now (three_bytes 2) (woken_with 0 (jam_third ∷ []) ∷ []) [] 1 }
-    ensures stop_forgotten { is_on (three_bytes 2) (woken_with 0 (stop_first ∷ []) ∷ active 1 (three_entries true 2) ∷ []) [] 1 ≡ true }
-    ensures start_forgotten { is_on (three_bytes 2) (woken_with 0 (start_first ∷ []) ∷ active 1 (three_entries false 2) ∷ []) [] 1 ≡ false }
-    ensures stopped_later { is_on (three_bytes 2) (active 1 (three_entries true 2) ∷ woken_with 0 (stop_first ∷ []) ∷ []) [] 1 ≡ false }
-    ensures stop_kept { is_on (three_bytes 2) (woken_with 0 (stop_first ∷ []) ∷ active 2 turned_round ∷ []) [] 1 ≡ false }
-    ensures in_force { tables_after (three_bytes 2) (active 4 turned_round ∷ woken 0 ∷ active 2 (three_entries false 5) ∷ active 2 (three_entries true 6) ∷ []) ≡ three_entries true 2 ∷ three_entries true 6 ∷ blank_table ∷ turned_round ∷ [] }
-    ensures started { started_at 1 (woken 0 ∷ woken_with 1 (start_first ∷ []) ∷ woken 2 ∷ active 1 turned_round ∷ active 3 turned_round ∷ []) ≡ 3 }
-    ensures started_before { started_at 1 (woken 0 ∷ woken_with 1 (start_first ∷ []) ∷ woken 2 ∷ active 3 turned_round ∷ []) ≡ 1 }
+    ensures jammed { entries_now (three_bytes 2) (woken_with 0 (jam_third ∷ []) ∷ []) [] 1
+        ≡ (record { len = 1; delay = 0; at = 0x1000 })
+        ∷ (record { len = 1; delay = 2; at = 0x1001 })
+        ∷ (record { len = 1; delay = 1; at = 0x1000 }) ∷ replicate 22 blank_entry }
+    ensures jam_forgotten { entries_now (three_bytes 2) (woken_with 0 (jam_third ∷ [])
+        ∷ active 1 (three_entries true 3) ∷ []) [] 1 ≡ (record { len = 1; delay = 0; at = 0x1000 })
+        ∷ (record { len = 1; delay = 3; at = 0x1001 })
+        ∷ (record { len = 1; delay = 0; at = 0x1002 }) ∷ replicate 22 blank_entry }
+    ensures jammed_later { entries_now (three_bytes 2) (active 1 (three_entries true 3)
+        ∷ woken_with 0 (jam_third ∷ []) ∷ []) [] 1 ≡ (record { len = 1; delay = 0; at = 0x1000 })
+        ∷ (record { len = 1; delay = 3; at = 0x1001 })
+        ∷ (record { len = 1; delay = 1; at = 0x1000 }) ∷ replicate 22 blank_entry }
+    ensures jam_kept { entries_now (three_bytes 2) (woken_with 0 (jam_third ∷ [])
+        ∷ active 2 turned_round ∷ []) [] 1 ≡ entries_now (three_bytes 2) (woken_with 0 (jam_third
+        ∷ []) ∷ []) [] 1 }
+    ensures stop_forgotten { is_on (three_bytes 2) (woken_with 0 (stop_first ∷ [])
+        ∷ active 1 (three_entries true 2) ∷ []) [] 1 ≡ true }
+    ensures start_forgotten { is_on (three_bytes 2) (woken_with 0 (start_first ∷ [])
+        ∷ active 1 (three_entries false 2) ∷ []) [] 1 ≡ false }
+    ensures stopped_later { is_on (three_bytes 2) (active 1 (three_entries true 2)
+        ∷ woken_with 0 (stop_first ∷ []) ∷ []) [] 1 ≡ false }
+    ensures stop_kept { is_on (three_bytes 2) (woken_with 0 (stop_first ∷ [])
+        ∷ active 2 turned_round ∷ []) [] 1 ≡ false }
+    ensures in_force { tables_after (three_bytes 2) (active 4 turned_round ∷ woken 0
+        ∷ active 2 (three_entries false 5) ∷ active 2 (three_entries true 6) ∷ [])
+        ≡ three_entries true 2 ∷ three_entries true 6 ∷ blank_table ∷ turned_round ∷ [] }
+    ensures started { started_at 1 (woken 0 ∷ woken_with 1 (start_first ∷ []) ∷ woken 2
+        ∷ active 1 turned_round ∷ active 3 turned_round ∷ []) ≡ 3 }
+    ensures started_before { started_at 1 (woken 0 ∷ woken_with 1 (start_first ∷ []) ∷ woken 2
+        ∷ active 3 turned_round ∷ []) ≡ 1 }
 {}
 
 /// A rehearsal in which two tables are exchanged while they run.
 pub fn tables_are_exchanged()
-    ensures { sent_along (three_bytes 2) (woken 0 ∷ active 2 turned_round ∷ woken_with 1 (request ∷ []) ∷ woken 2 ∷ active 1 (three_entries false 2) ∷ woken_with 3 (request ∷ []) ∷ active 1 (three_entries true 2) ∷ woken 4 ∷ woken 5 ∷ woken 6 ∷ [])
-        ≡ [] ∷ [] ∷ (enabled_shown 0xE9 3 ∷ []) ∷ (three_read 1 0xEA 0xA0 0xB0 0xC2 ∷ two_read 2 0xEA 0xC1 0xA2 ∷ []) ∷ [] ∷ (enabled_shown 0xEB 2 ∷ two_read 2 0xEB 0xC2 0xA3 ∷ [])
-        ∷ [] ∷ (two_read 2 0xEC 0xC3 0xA4 ∷ []) ∷ (two_read 2 0xED 0xC4 0xA5 ∷ []) ∷ (three_read 1 0xEE 0xA4 0xB4 0xC6 ∷ two_read 2 0xEE 0xC5 0xA6 ∷ []) ∷ [] }
+    ensures { sent_along (three_bytes 2) (woken 0 ∷ active 2 turned_round
+        ∷ woken_with 1 (request ∷ []) ∷ woken 2 ∷ active 1 (three_entries false 2)
+        ∷ woken_with 3 (request ∷ []) ∷ active 1 (three_entries true 2) ∷ woken 4 ∷ woken 5
+        ∷ woken 6 ∷ [])
+        ≡ [] ∷ [] ∷ (enabled_shown 0xE9 3 ∷ [])
+        ∷ (three_read 1 0xEA 0xA0 0xB0 0xC2 ∷ two_read 2 0xEA 0xC1 0xA2 ∷ []) ∷ []
+        ∷ (enabled_shown 0xEB 2 ∷ two_read 2 0xEB 0xC2 0xA3 ∷ [])
+        ∷ [] ∷ (two_read 2 0xEC 0xC3 0xA4 ∷ []) ∷ (two_read 2 0xED 0xC4 0xA5 ∷ [])
+        ∷ (three_read 1 0xEE 0xA4 0xB4 0xC6 ∷ two_read 2 0xEE 0xC5 0xA6 ∷ []) ∷ [] }
 {}
 
 /// Each code with the shortest and the longest payload of its commands.

@@ -12,7 +12,8 @@ use table_files::{Entry, EntryFault};
 pub fn load_dwell(payload: &[u8]) -> Result<Dwell, EntryFault>
     requires { length payload.now ≡ 204 }
     ensures table { IfOk result (λ table. table ≡ dwell_of payload.now) }
-    ensures fault { MatchResult result (λ _. dwell_fault_of payload.now ≡ None) (λ fault. dwell_fault_of payload.now ≡ Some fault) }
+    ensures fault { MatchResult result (λ _. dwell_fault_of payload.now
+        ≡ None) (λ fault. dwell_fault_of payload.now ≡ Some fault) }
     ensures small { IfErr result (λ fault. fault.reason ≤ 3) }
 {
     let mut table = Dwell::blank();

@@ -28,7 +28,8 @@ impl Md {
     #[tactic(auto, using(commands::proofs::Tallies::counts_none, crate::proofs::Following::heard_before_all), unfolding(crate::specs::State::Stands))]
     pub fn start(tables: &[Dwell; 4]) -> Md
         ensures stands { Stands tables.now [] result }
-        ensures given { (regions : List Region) → TablesGiven regions tables.now → AllGiven regions result }
+        ensures given { (regions : List Region) → TablesGiven regions tables.now
+            → AllGiven regions result }
     {
         Md {
             counts: start_counts(),
@@ -40,8 +41,11 @@ impl Md {
     /// one before is forgotten, and its stream starts in the next wakeup.
     pub fn activate(&mut self, n: u8, table: &Dwell)
         requires { (1 ≤ n) × (n ≤ 4) }
-        ensures stands { (tables : List DwellTable) (history : List MdEntry) → Stands tables history self.old → Stands tables (history ++ Activated (activation_of n table.now) ∷ []) self.new }
-        ensures given { (regions : List Region) → AllPass (is_given regions) table.now.entries → AllGiven regions self.old → AllGiven regions self.new }
+        ensures stands { (tables : List DwellTable) (history : List MdEntry)
+            → Stands tables history self.old → Stands tables (history
+            ++ Activated (activation_of n table.now) ∷ []) self.new }
+        ensures given { (regions : List Region) → AllPass (is_given regions) table.now.entries
+            → AllGiven regions self.old → AllGiven regions self.new }
     {
         self.duty.activate(n, table);
     }
@@ -49,9 +53,14 @@ impl Md {
     /// Whether a wakeup with these packets does nothing.
     #[inline(always)]
     pub fn is_idle(&self, commands: &[Packet]) -> bool
-        ensures exact { (tables : List DwellTable) (history : List MdEntry) → Stands tables history self.now → result ≡ is_idle_on tables history commands.now }
-        ensures stands { (tables : List DwellTable) (history : List MdEntry) (input : Input) → result ≡ true → input.commands ≡ commands.now → Stands tables history self.now → Stands tables (history ++ Woken input ∷ []) self.now }
-        ensures items { (tables : List DwellTable) (history : List MdEntry) (input : Input) → result ≡ true → input.commands ≡ commands.now → Stands tables history self.now → md_items tables history input ≡ [] }
+        ensures exact { (tables : List DwellTable) (history : List MdEntry)
+            → Stands tables history self.now → result ≡ is_idle_on tables history commands.now }
+        ensures stands { (tables : List DwellTable) (history : List MdEntry) (input : Input)
+            → result ≡ true → input.commands ≡ commands.now → Stands tables history self.now
+            → Stands tables (history ++ Woken input ∷ []) self.now }
+        ensures items { (tables : List DwellTable) (history : List MdEntry) (input : Input)
+            → result ≡ true → input.commands ≡ commands.now → Stands tables history self.now
+            → md_items tables history input ≡ [] }
     {
         commands.is_empty() && !self.duty.dwell()
     }

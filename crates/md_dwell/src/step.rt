@@ -112,8 +112,12 @@ impl Md {
         requires empty { out.old.items ≡ [] }
         requires room { MOST_ITEMS ≤ out.old.room }
         requires gives { AllGiven (regions_of (seen window).areas) self.now }
-        ensures stands { (tables : List DwellTable) (history : List MdEntry) → Stands tables history self.now → Stands tables (history ++ Woken (input_of now commands.now window.entry) ∷ []) next.new }
-        ensures items { (tables : List DwellTable) (history : List MdEntry) → Stands tables history self.now → out.new.items ≡ md_items tables history (input_of now commands.now window.entry) }
+        ensures stands { (tables : List DwellTable) (history : List MdEntry)
+            → Stands tables history self.now → Stands tables (history
+            ++ Woken (input_of now commands.now window.entry) ∷ []) next.new }
+        ensures items { (tables : List DwellTable) (history : List MdEntry)
+            → Stands tables history self.now → out.new.items
+            ≡ md_items tables history (input_of now commands.now window.entry) }
         ensures gives { AllGiven (regions_of (seen window.entry).areas) next.new }
         ensures counted { AllPass is_item_counted out.new.items }
         ensures few { length out.new.items ≤ MOST_ITEMS }
@@ -133,8 +137,12 @@ impl Md {
         requires empty { out.old.items ≡ [] }
         requires room { MOST_ITEMS ≤ out.old.room }
         requires gives { AllGiven (regions_of (seen window).areas) self.old }
-        ensures stands { (tables : List DwellTable) (history : List MdEntry) → Stands tables history self.old → Stands tables (history ++ Woken (input_of now commands.now window.entry) ∷ []) self.new }
-        ensures items { (tables : List DwellTable) (history : List MdEntry) → Stands tables history self.old → out.new.items ≡ md_items tables history (input_of now commands.now window.entry) }
+        ensures stands { (tables : List DwellTable) (history : List MdEntry)
+            → Stands tables history self.old → Stands tables (history
+            ++ Woken (input_of now commands.now window.entry) ∷ []) self.new }
+        ensures items { (tables : List DwellTable) (history : List MdEntry)
+            → Stands tables history self.old → out.new.items
+            ≡ md_items tables history (input_of now commands.now window.entry) }
         ensures gives { AllGiven (regions_of (seen window.entry).areas) self.new }
         ensures counted { AllPass is_item_counted out.new.items }
         ensures few { length out.new.items ≤ MOST_ITEMS }

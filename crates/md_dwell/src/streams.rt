@@ -67,7 +67,8 @@ impl Stream {
 
     /// Takes another table, with whose first entry it begins in the next wakeup.
     pub(crate) fn activate(&mut self, table: &Dwell)
-        ensures stands { (images : List Memory) → StreamStands table.now.entries table.now.enabled (length images) images self.new }
+        ensures stands { (images : List Memory)
+            → StreamStands table.now.entries table.now.enabled (length images) images self.new }
         ensures plan { self.new.plan ≡ table.now.entries }
     {
         let enabled = table.enabled();
@@ -93,9 +94,12 @@ impl Stream {
     pub(crate) fn obey(&mut self, table: u16, order: &Instruction)
         requires table { (1 ≤ table) × (table ≤ 4) }
         requires entry { NamesEntry order.now }
-        ensures stands { (entries : List DwellEntry) (on : Bool) (since : ℕ) (images : List Memory) → StreamStands entries on since images self.old
-            → StreamStands (jammed table entries order.now) (switched table on order.now) (if starts table order.now then length images else since) images self.new }
-        ensures given { (regions : List Region) → AllPass (is_given regions) self.old.plan → OrderGiven regions order.now → AllPass (is_given regions) self.new.plan }
+        ensures stands { (entries : List DwellEntry) (on : Bool) (since : ℕ) (images : List Memory)
+            → StreamStands entries on since images self.old
+            → StreamStands (jammed table entries order.now) (switched table on order.now)
+            (if starts table order.now then length images else since) images self.new }
+        ensures given { (regions : List Region) → AllPass (is_given regions) self.old.plan
+            → OrderGiven regions order.now → AllPass (is_given regions) self.new.plan }
     {
         match order {
             Instruction::Plain => {}
@@ -135,11 +139,15 @@ impl Stream {
     pub(crate) fn serve(&mut self, table: u16, window: &Window<'_>, now: u32, out: &mut Outbox)
         requires table { (1 ≤ table) × (table ≤ 4) }
         requires room { length out.old.items < out.old.room }
-        ensures stands { (entries : List DwellEntry) (on : Bool) (since : ℕ) (images : List Memory) → StreamStands entries on since images self.old
+        ensures stands { (entries : List DwellEntry) (on : Bool) (since : ℕ) (images : List Memory)
+            → StreamStands entries on since images self.old
             → StreamStands entries on since (images ++ seen window.now ∷ []) self.new }
-        ensures items { (entries : List DwellEntry) (on : Bool) (since : ℕ) (images : List Memory) → StreamStands entries on since images self.old
-            → out.new ≡ adding out.old (dwell_items now table (dwell_at on entries since (images ++ seen window.now ∷ []))) }
-        ensures counted { AllPass is_item_counted out.old.items → AllPass is_item_counted out.new.items }
+        ensures items { (entries : List DwellEntry) (on : Bool) (since : ℕ) (images : List Memory)
+            → StreamStands entries on since images self.old
+            → out.new ≡ adding out.old (dwell_items now table (dwell_at on entries since (images
+            ++ seen window.now ∷ []))) }
+        ensures counted { AllPass is_item_counted out.old.items
+            → AllPass is_item_counted out.new.items }
         ensures plan { self.new.plan ≡ self.old.plan }
         ensures few { length out.new.items ≤ length out.old.items + 1 }
         ensures room { out.new.room ≡ out.old.room }
@@ -163,13 +171,17 @@ impl Stream {
         requires due { self.old.wait ≡ 0 }
         requires room { length out.old.items < out.old.room }
         ensures stands { (since r : ℕ) (past : List Memory) → 0 < delays (list_of self.old.plan)
-            → IsInRound (list_of self.old.plan) since past (past ++ seen window.now ∷ []) r self.old.next 0 self.old.bytes
+            → IsInRound (list_of self.old.plan) since past (past ++ seen window.now
+            ∷ []) r self.old.next 0 self.old.bytes
             → Runs (list_of self.old.plan) since (past ++ seen window.now ∷ []) self.new }
         ensures items { (since r : ℕ) (past : List Memory) → 0 < delays (list_of self.old.plan)
-            → IsInRound (list_of self.old.plan) since past (past ++ seen window.now ∷ []) r self.old.next 0 self.old.bytes
-            → out.new ≡ adding out.old (dwell_items now table (round_at (list_of self.old.plan) since (past ++ seen window.now ∷ []))) }
+            → IsInRound (list_of self.old.plan) since past (past ++ seen window.now
+            ∷ []) r self.old.next 0 self.old.bytes
+            → out.new ≡ adding out.old (dwell_items now table
+            (round_at (list_of self.old.plan) since (past ++ seen window.now ∷ []))) }
         ensures plan { self.new.plan ≡ self.old.plan }
-        ensures counted { AllPass is_item_counted out.old.items → AllPass is_item_counted out.new.items }
+        ensures counted { AllPass is_item_counted out.old.items
+            → AllPass is_item_counted out.new.items }
         ensures enabled { self.new.enabled ≡ self.old.enabled }
         ensures few { length out.new.items ≤ length out.old.items + 1 }
         ensures room { out.new.room ≡ out.old.room }
@@ -188,10 +200,13 @@ impl Stream {
 
     /// Reads entries from the next one on, up to one with a delay or the last.
     fn gather(&mut self, window: &Window<'_>)
-        ensures read { (list : List DwellEntry) (from : ℕ) (past : List Memory) → list ≡ list_of self.old.plan
+        ensures read { (list : List DwellEntry) (from : ℕ) (past : List Memory)
+            → list ≡ list_of self.old.plan
             → IsReadTo list from (past ++ seen window.now ∷ []) self.old.next 0 self.old.bytes
-            → IsReadTo list from (past ++ seen window.now ∷ []) self.new.next self.new.wait self.new.bytes }
-        ensures last { (list : List DwellEntry) (from : ℕ) (past : List Memory) → list ≡ list_of self.old.plan → self.old.next < length list
+            → IsReadTo list from (past ++ seen window.now
+            ∷ []) self.new.next self.new.wait self.new.bytes }
+        ensures last { (list : List DwellEntry) (from : ℕ) (past : List Memory)
+            → list ≡ list_of self.old.plan → self.old.next < length list
             → IsReadTo list from (past ++ seen window.now ∷ []) self.old.next 0 self.old.bytes
             → self.new.next ≡ length list → from + delays_to_last list ≡ length past }
         ensures waits { self.new.next < length (list_of self.old.plan) → 0 < self.new.wait }
@@ -209,7 +224,8 @@ fn gather(list: &[DwellEntry], next: usize, window: &Window<'_>, bytes: &mut Pay
     requires few { length list.now ≤ 25 }
     requires within { next ≤ length list.now }
     requires held { length bytes.old ≤ 4 * next }
-    ensures read { (from : ℕ) (past : List Memory) → IsReadTo list.now from (past ++ seen window.now ∷ []) next 0 bytes.old
+    ensures read { (from : ℕ) (past : List Memory)
+        → IsReadTo list.now from (past ++ seen window.now ∷ []) next 0 bytes.old
         → IsReadTo list.now from (past ++ seen window.now ∷ []) result.next result.wait bytes.new }
     ensures last { (from : ℕ) (past : List Memory) → next < length list.now
         → IsReadTo list.now from (past ++ seen window.now ∷ []) next 0 bytes.old

@@ -96,7 +96,8 @@ impl Files {
     /// Address and bytes of the n-th load file, counted from 1 among the load files alone in the order of adding; None
     /// exactly where there is none. There are 1 to 65,536 bytes. Nothing is copied.
     pub fn load(&self, n: u32) -> Option<(u32, &[u8])>
-        ensures load { option_map (λ load. (load.0, load.1.now)) result ≡ nth (loads_of self.now) n }
+        ensures load { option_map (λ load. (load.0, load.1.now)) result
+            ≡ nth (loads_of self.now) n }
         ensures size { IfSome result (λ load. IsLoadable (load.0, load.1.now)) }
     {
         match nth_load(&self.files, n) {
@@ -109,7 +110,8 @@ impl Files {
 /// The n-th load file, counted from 1; none of the files has a fault.
 fn nth_load(files: &[Vec<u8>], n: u32) -> Option<&[u8]>
     requires { All IsFile (map (λ file. file.items) files.now) }
-    ensures file { option_map (λ file. file.now) result ≡ nth (filter is_load (map (λ file. file.items) files.now)) n }
+    ensures file { option_map (λ file. file.now) result
+        ≡ nth (filter is_load (map (λ file. file.items) files.now)) n }
     ensures load { IfSome result (λ file. IsFile file.now × (is_load file.now ≡ true)) }
 {
     if n == 0 {

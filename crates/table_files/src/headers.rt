@@ -58,7 +58,8 @@ const MOST_LOAD: usize = 65_536;
 ///
 /// Nothing is copied: what is lent are the file's bytes behind the headers.
 pub fn read_file(bytes: &[u8]) -> Result<FileImage<'_>, FileFault>
-    ensures fault { MatchResult result (λ _. file_fault_of bytes.now ≡ None) (λ fault. file_fault_of bytes.now ≡ Some fault) }
+    ensures fault { MatchResult result (λ _. file_fault_of bytes.now
+        ≡ None) (λ fault. file_fault_of bytes.now ≡ Some fault) }
     ensures image { IfOk result (Shows bytes.now) }
 {
     if let Some(fault) = find_fault(bytes) {
@@ -141,7 +142,8 @@ fn is_load_size(size: usize) -> bool
 #[tactic(auto, unfolding(crate::specs::Headers::table_size))]
 fn table_fault(bytes: &[u8]) -> Option<FileFault>
     requires { TABLE_HEADERS ≤ length bytes.now }
-    ensures { result ≡ table_fault (named_kind (table_name bytes.now)) (table_size bytes.now) (length bytes.now - TABLE_HEADERS) }
+    ensures { result ≡ table_fault (named_kind (table_name bytes.now)) (table_size bytes.now)
+        (length bytes.now - TABLE_HEADERS) }
 {
     let Some(kind) = named_kind(name_field(bytes)) else {
         return Some(FileFault::Name);

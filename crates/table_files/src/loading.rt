@@ -53,7 +53,8 @@ pub fn read_in_place<E: Entry, const N: usize>(
 ) -> Option<EntryFault>
     requires whole { length payload.now ≡ E.PAYLOAD }
     requires room { N ≡ E.ENTRIES }
-    ensures place { place.new ≡ where_well (entries_in E.entry_at N payload.now) place.old (first_fault E.reason_of 1 (entries_in E.entry_at N payload.now)) }
+    ensures place { place.new ≡ where_well (entries_in E.entry_at N payload.now) place.old
+        (first_fault E.reason_of 1 (entries_in E.entry_at N payload.now)) }
     ensures fault { result ≡ first_fault E.reason_of 1 (entries_in E.entry_at N payload.now) }
     ensures small { IfSome result (λ fault. fault.reason ≤ E.REASONS) }
     ensures same_length { length place.new ≡ N }
@@ -73,7 +74,8 @@ pub fn read_in_place<E: Entry, const N: usize>(
 fn load_entries<E: Entry>(payload: &[u8], entries: &mut [E]) -> Option<EntryFault>
     requires whole { length payload.now ≡ E.PAYLOAD }
     requires room { length entries.old ≡ E.ENTRIES }
-    ensures fault { result ≡ first_fault E.reason_of 1 (entries_in E.entry_at E.ENTRIES payload.now) }
+    ensures fault { result ≡ first_fault E.reason_of 1
+        (entries_in E.entry_at E.ENTRIES payload.now) }
     ensures entries { result ≡ None → entries.new ≡ entries_in E.entry_at E.ENTRIES payload.now }
     ensures small { IfSome result (λ fault. fault.reason ≤ E.REASONS) }
 {
@@ -93,7 +95,8 @@ fn load_entries<E: Entry>(payload: &[u8], entries: &mut [E]) -> Option<EntryFaul
 /// The first faulty entry of a payload, counted from 1, with its least reason. It stores no entry.
 pub fn first_fault<E: Entry>(payload: &[u8]) -> Option<EntryFault>
     requires { length payload.now ≡ E.PAYLOAD }
-    ensures fault { result ≡ first_fault E.reason_of 1 (entries_in E.entry_at E.ENTRIES payload.now) }
+    ensures fault { result ≡ first_fault E.reason_of 1
+        (entries_in E.entry_at E.ENTRIES payload.now) }
     ensures small { IfSome result (λ fault. fault.reason ≤ E.REASONS) }
 {
     for i in 0..E::ENTRIES {
