@@ -5,7 +5,7 @@ use crate::epochs::epoch_of;
 use crate::shelved_books::{ShelvedBook, shelve_book};
 use ground_files::{Status, get, tell_no_memory, tell_unread};
 use ground_making::{MOST_BYTES, Refusal, tell_refusal};
-use ground_runs::{Rehearsal, Run, given_file, run_rehearsal};
+use ground_runs::{Rehearsal, Run, add_file, run_rehearsal};
 use ground_tools::ScenarioTeller;
 use input_words::GivenFile;
 use load_books::{Book, book_forms};
@@ -32,11 +32,10 @@ fn shelved<'a>(
 /// The files of a book, each by the name of its part.
 fn given_parts(alloc: Global, book: &Book<'_>) -> Result<Vec<GivenFile>, AllocError> {
     let mut files = Vec::new(alloc);
-    let mut number: u32 = 0;
+    let mut kinds = Vec::new(alloc);
     for file in book.files.as_slice() {
-        number = number.saturating_add(1);
-        let given = given_file(alloc, number, file.name, file.bytes.as_slice())?;
-        files.push(given)?;
+        let bytes = file.bytes.as_slice();
+        add_file(alloc, file.name, bytes, &mut kinds, &mut files)?;
     }
     Ok(files)
 }

@@ -26,7 +26,7 @@ pub fn worked_sentences()
         ≡ codes "HS: a command was refused: its checksum is wrong" }
     ensures acted { event_said event_table (codes "HS") 105 3
         ≡ codes
-        "HS: an application monitor acted: as many resets were made as may be, and none is asked for" }
+        "HS: an application monitor acted, and watches no more: as many resets were made as may be, and none is asked for" }
     ensures dwell { event_said event_table (codes "MD") 20 2
         ≡ codes "MD: command jam was accepted" }
     ensures miscompare { event_said event_table (codes "CS") 101 3

@@ -12,7 +12,7 @@ mod told_scenarios;
 
 pub use asked_run::Run;
 pub use endings::{CauseTeller, NOT_GIVEN};
-pub use given_files::{given_file, table_name};
+pub use given_files::{add_file, table_name};
 pub use line_causes::{find_line, line_cause};
 pub use rehearsing::rehearse_on;
 pub use running::{Rehearsal, run_rehearsal, run_scenario};

@@ -27,12 +27,12 @@ abbrev pub file_words : Option (List ℕ) → List ℕ
 file_words (Some words) = codes ": " ++ words
 file_words None = codes ", and there is no such file"
 
--- a FILE of the rehearsal
+-- a FILE of the rehearsal: its line, and the lines behind it
 abbrev pub numbered_line : ℕ → List ℕ → List ℕ
 numbered_line n words = codes "> file " ++ decimal n ++ codes ": " ++ words ++ 10 ∷ []
 
 abbrev pub file_line : GivenFile → List ℕ
-file_line file = numbered_line file.number file.words.items
+file_line file = numbered_line file.number file.words.items ++ file.lines.items
 
 abbrev pub none_told : List GivenFile → List ℕ
 none_told [] = codes "> no files" ++ 10 ∷ []

@@ -27,6 +27,8 @@ pub struct FrameTime {
 pub struct GivenFile {
     pub number: u32,
     pub words: Vec<u8>,
+    /// Lines that are told behind that of the FILE, each with its LF, such as those of a table's text.
+    pub lines: Vec<u8>,
 }
 
 /// Appends what the beginning of a line has: when, and the mark that no sentence of the log has.
@@ -77,7 +79,7 @@ fn tell_upsets(time: FrameTime, upsets: &[Upset], out: &mut Vec<u8>) -> Result<(
     Ok(())
 }
 
-/// Appends the line of a FILE.
+/// Appends the lines of a FILE.
 fn tell_file(file: &GivenFile, out: &mut Vec<u8>) -> Result<(), AllocError>
     ensures { OnOk result (out.new.items ≡ out.old.items ++ file_line file.now) }
 {
@@ -85,7 +87,8 @@ fn tell_file(file: &GivenFile, out: &mut Vec<u8>) -> Result<(), AllocError>
     push_decimal(file.number, out)?;
     out.extend_from_slice(b": ")?;
     out.extend_from_slice(file.words.as_slice())?;
-    out.extend_from_slice(b"\n")
+    out.extend_from_slice(b"\n")?;
+    out.extend_from_slice(file.lines.as_slice())
 }
 
 /// Appends the lines of FILEs.
