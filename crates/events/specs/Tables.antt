@@ -151,7 +151,7 @@ lc_events =
     ∷ row (codes "LC") 3 Error (codes "wrong_length") (codes "a command was refused: its payload has another length")
     ∷ row (codes "LC") 4 Error (codes "no_point") (codes "a command was refused: the number isn't 1 to 16")
     ∷ row (codes "LC") 5 Error (codes "unused_point") (codes "a command was refused: the actionpoint is unused")
-    ∷ row (codes "LC") 101 Error (codes "fired") (codes "an actionpoint fired, and starts its relative sequence")
+    ∷ row (codes "LC") 101 Error (codes "fired") (codes "an actionpoint fired: it starts its relative sequence, and is passive from here on")
     ∷ []
 
 -- the events of activations

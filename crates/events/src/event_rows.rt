@@ -736,7 +736,7 @@ static EVENTS: [Event; COUNT_OF_EVENTS] = [
         number: 101,
         kind: Error,
         name: "fired",
-        sentence: "an actionpoint fired, and starts its relative sequence",
+        sentence: "an actionpoint fired: it starts its relative sequence, and is passive from here on",
     },
     Event {
         application: "TBL",

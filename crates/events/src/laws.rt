@@ -34,7 +34,7 @@ pub fn worked_sentences()
     ensures ended { event_said event_table (codes "SC") 103 2
         ≡ codes "SC: the absolute sequence ended" }
     ensures fired { event_said event_table (codes "LC") 101 3
-        ≡ codes "LC: an actionpoint fired, and starts its relative sequence" }
+        ≡ codes "LC: an actionpoint fired: it starts its relative sequence, and is passive from here on" }
     ensures running { event_said event_table (codes "TBL") 3 3
         ≡ codes "TBL: the file's sequence runs, and its table didn't become active" }
     ensures other_type { event_said event_table (codes "MM") 19 3

@@ -1,11 +1,7 @@
 //! The FILEs of a rehearsal, as people know them.
 
-ghost use Rattle.std.specs.Prelude.{◌≡◌, true, Some};
-ghost use Rattle.telecommands.specs.Commands.{are_good};
-ghost use Rattle.table_files.specs.Headers.{kind_of_file};
-ghost use Rattle.table_forms.specs.Layouts.{are_layouts};
-
 use crate::second_looks::read_again;
+use crate::table_lines::{INDENT, push_table, push_watches};
 use input_words::GivenFile;
 use packet_forms::{behind, front};
 use row_forms::{push_decimal, push_hex};
@@ -13,21 +9,14 @@ use std::alloc::{AllocError, Global};
 use std::rt::Files;
 use std::str::from_utf8;
 use table_files::{FileImage, TableKind, read_file};
-use table_forms::{TextForms, show_table, table_layouts};
-use telecommands::commands;
 
 /// Where the name of a table stands in its file, and how many bytes it has at most.
 const NAME: usize = 76;
 
 const MOST_NAME: usize = 40;
 
-/// How many lines of a table's text are told at most, and how many bytes of a load.
-const MOST_LINES: u32 = 100;
-
+/// How many bytes of a load are told at most.
 const MOST_BYTES: usize = 64;
-
-/// What begins each line that is told behind that of a FILE.
-const INDENT: &[u8] = b">     ";
 
 /// The name of a table in the headers of its file.
 pub fn table_name(file: &[u8]) -> &str {
@@ -37,84 +26,6 @@ pub fn table_name(file: &[u8]) -> &str {
         .position(|byte| *byte == 0)
         .unwrap_or(MOST_NAME);
     from_utf8(front(field, size)).unwrap_or("")
-}
-
-/// Whether a table of this kind can come into force in a run.
-fn can_activate(kind: TableKind) -> bool {
-    match kind {
-        TableKind::MsgActs | TableKind::Wdt | TableKind::Adt => false,
-        TableKind::AppMon
-        | TableKind::EventMon
-        | TableKind::ExeCount
-        | TableKind::Ats(_)
-        | TableKind::Rts(_)
-        | TableKind::Dwell(_)
-        | TableKind::Eeprom
-        | TableKind::Memory => true,
-    }
-}
-
-/// Where a table stands behind those of earlier FILEs.
-fn standing_of(kind: TableKind, earlier: &[TableKind]) -> &'static [u8] {
-    if !earlier.iter().any(|other| *other == kind) {
-        return b"in force from the start\n";
-    }
-    if can_activate(kind) {
-        b"stands by\n"
-    } else {
-        b"never used: an earlier file has this table\n"
-    }
-}
-
-/// What tables are shown by, with their times in seconds.
-fn text_forms() -> TextForms<'static>
-    ensures commands { are_good result.commands.now ≡ true }
-    ensures layouts { are_layouts result.layouts.now ≡ true }
-{
-    TextForms {
-        epoch: None,
-        commands: commands(),
-        layouts: table_layouts(),
-    }
-}
-
-/// Appends the lines of a text between its first and its last one, each behind the mark of a FILE.
-fn push_inner_lines(text: &[u8], lines: &mut Vec<u8>) -> Result<(), AllocError> {
-    let mut rest = text;
-    'lines: for number in 0..MOST_LINES {
-        let Some(end) = rest.iter().position(|byte| *byte == b'\n') else {
-            return Ok(());
-        };
-        let line = front(rest, end);
-        rest = behind(rest, end.saturating_add(1));
-        if rest.is_empty() {
-            return Ok(());
-        }
-        if number > 0 {
-            lines.extend_from_slice(INDENT)?;
-            lines.extend_from_slice(line)?;
-            lines.extend_from_slice(b"\n")?;
-        }
-    }
-    lines.extend_from_slice(INDENT)?;
-    lines.extend_from_slice(b"and so on\n")
-}
-
-/// Appends where a table stands, and its entries as its text has them.
-fn push_table(
-    alloc: Global,
-    kind: TableKind,
-    file: &[u8],
-    earlier: &[TableKind],
-    lines: &mut Vec<u8>,
-) -> Result<(), AllocError>
-    requires { kind_of_file file.now ≡ Some kind }
-{
-    lines.extend_from_slice(INDENT)?;
-    lines.extend_from_slice(standing_of(kind, earlier))?;
-    let mut text = Vec::new(alloc);
-    show_table(alloc, &text_forms(), kind, file, &mut text)?;
-    push_inner_lines(text.as_slice(), lines)
 }
 
 /// Appends the first bytes that are to be loaded.
@@ -149,10 +60,13 @@ pub fn add_file(
     let mut words = Vec::from_slice(alloc, name)?;
     let mut lines = Vec::new(alloc);
     match read_file(file) {
-        Ok(FileImage::Table { kind, payload: _ }) => {
+        Ok(FileImage::Table { kind, payload }) => {
             words.extend_from_slice(b", ")?;
             words.extend_from_slice(table_name(file).as_bytes())?;
             push_table(alloc, kind, file, kinds.as_slice(), &mut lines)?;
+            if kind == TableKind::Wdt {
+                push_watches(payload, &mut lines)?;
+            }
             kinds.push(kind)?;
         }
         Ok(FileImage::Load { at, bytes }) => {

@@ -8,6 +8,7 @@ mod line_causes;
 mod rehearsing;
 mod running;
 mod second_looks;
+mod table_lines;
 mod told_scenarios;
 
 pub use asked_run::Run;
