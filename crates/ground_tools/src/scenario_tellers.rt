@@ -62,18 +62,13 @@ fn feed_more<T: Read>(
     true
 }
 
-/// Appends who gives the execution counters, and who does what Health and Safety asks for.
-fn tell_subjects(are_simulated: bool, out: &mut Vec<u8>) -> Result<(), AllocError>
-    ensures { OnOk result (Appends out.old.items out.new.items) }
-{
+/// Who gives the execution counters, and who does what Health and Safety asks for.
+fn subjects_line(are_simulated: bool) -> &'static [u8] {
     if are_simulated {
-        return out.extend_from_slice(
-            b"> three applications are simulated: they give the execution counters, and are restarted and deleted as HS asks\n",
-        );
+        b"> three applications are simulated: they give the execution counters, and are restarted and deleted as HS asks\n"
+    } else {
+        b"> the scenario gives the execution counters: nobody restarts or deletes what HS asks for\n"
     }
-    out.extend_from_slice(
-        b"> the scenario gives the execution counters: nobody restarts or deletes what HS asks for\n",
-    )
 }
 
 /// Appends what the counters do that are watched, if any are.
@@ -164,7 +159,7 @@ impl<T: Read + Drop> ScenarioTeller<T> {
         }
         self.has_told_files = true;
         tell_files(self.files.as_slice(), out)?;
-        tell_subjects(self.counters.is_none(), out)
+        out.extend_from_slice(subjects_line(self.counters.is_none()))
     }
 
     /// Appends what the frame that was read last has.

@@ -1,7 +1,7 @@
 //! Lines of the log in sentences.
 
 ghost use Rattle.std.specs.Prelude.{◌≡◌, ◌++◌, ◌+◌, codes, decimal, OnOk};
-ghost use Rattle.log_words.specs.Sentences.{IsGood, time_words, sent_words, drop_words, cause_words, item_words, sentence_of};
+ghost use Rattle.log_words.specs.Sentences.{IsGood, time_words, packet_words, sent_words, drop_words, cause_words, item_words, sentence_of};
 ghost use Rattle.packet_forms.specs.Names.{name_text};
 ghost use Rattle.packet_log.specs.Lines.{pipe_text};
 
@@ -80,8 +80,23 @@ fn push_sent(vocabulary: &Vocabulary, packet: &Packet, out: &mut Vec<u8>) -> Res
     ensures { OnOk result (out.new.items ≡ out.old.items ++ sent_words vocabulary.now packet.now) }
 {
     if packet.is_command() {
-        out.extend_from_slice(b"sent on board: ")?;
+        return push_behind(b"sent on board: ", vocabulary, packet, out);
     }
+    show_packet(vocabulary, packet, out)
+}
+
+/// Appends a packet behind a text.
+fn push_behind(
+    text: &[u8],
+    vocabulary: &Vocabulary,
+    packet: &Packet,
+    out: &mut Vec<u8>,
+) -> Result<(), AllocError>
+    requires { IsGood vocabulary.now }
+    ensures { OnOk result (out.new.items ≡ out.old.items
+        ++ (text.now ++ packet_words vocabulary.now packet.now)) }
+{
+    out.extend_from_slice(text)?;
     show_packet(vocabulary, packet, out)
 }
 
