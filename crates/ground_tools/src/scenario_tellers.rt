@@ -159,7 +159,8 @@ impl<T: Read + Drop> ScenarioTeller<T> {
         }
         self.has_told_files = true;
         tell_files(self.files.as_slice(), out)?;
-        out.extend_from_slice(subjects_line(self.counters.is_none()))
+        out.extend_from_slice(subjects_line(self.counters.is_none()))?;
+        Ok(())
     }
 
     /// Appends what the frame that was read last has.
