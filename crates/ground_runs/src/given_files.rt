@@ -39,12 +39,17 @@ fn push_bytes(bytes: &[u8], lines: &mut Vec<u8>) -> Result<(), AllocError> {
     lines.extend_from_slice(b"\n")
 }
 
+/// A number of FILEs, or of bytes to be loaded: 65,536 at most.
+fn small_count(count: usize) -> u32 {
+    if count > 65_536 { 65_536 } else { count as u32 }
+}
+
 /// Appends the address to which bytes are to be loaded, and how many they are.
 fn push_load(at: u32, count: usize, words: &mut Vec<u8>) -> Result<(), AllocError> {
     words.extend_from_slice(b", bytes to be loaded: address=0x")?;
     push_hex(&at.to_be_bytes(), words)?;
     words.extend_from_slice(b" length=")?;
-    push_decimal(count as u32, words)
+    push_decimal(small_count(count), words)
 }
 
 /// Adds the FILE of a name and what it holds, as far as its headers say it; `kinds` are the tables of the FILEs before it, to which its own
@@ -56,7 +61,7 @@ pub fn add_file(
     kinds: &mut Vec<TableKind>,
     files: &mut Vec<GivenFile>,
 ) -> Result<(), AllocError> {
-    let number = (files.len() as u32).saturating_add(1);
+    let number = small_count(files.len()).saturating_add(1);
     let mut words = Vec::from_slice(alloc, name)?;
     let mut lines = Vec::new(alloc);
     match read_file(file) {
