@@ -1,6 +1,5 @@
 //! MD as the bench wakes it.
 
-ghost use Rattle.std.specs.Prelude.{◌≡◌};
 ghost use Rattle.memory_window.specs.Memory.{regions_of};
 ghost use Rattle.memory_window.specs.Window.{seen};
 ghost use Rattle.md_dwell.specs.declared.step.TheConstants.{MOST_ITEMS};

@@ -10,6 +10,5 @@ mod shelved_books;
 mod shelves;
 
 pub use book_names::{epoch_of_run, names_book};
-pub use epochs::scenario_epoch;
 pub use running_books::run_book;
 pub use shelved_books::{ShelvedBook, shelve_book};

@@ -1,7 +1,6 @@
 //! The pipes of the bus, and the routes to them: six pipes, and two more where LC is there.
 
-ghost use Rattle.std.specs.Prelude.{◌≡◌, ◌<◌, ◌≤◌, ◌+◌, ◌==◌, ◌++◌, [], drop, length, slice_get, IfOk, IfSome, true, false};
-ghost use Rattle.packet_forms.specs.Packets.{message_id};
+ghost use Rattle.std.specs.Prelude.{◌≡◌, ◌<◌, ◌≤◌, ◌+◌, ◌==◌, [], drop, length, slice_get, IfOk, IfSome, true, false};
 ghost use Rattle.bus_pipes.specs.Pipes.{empty_pipes, emptied_pipes, packets_in, with_packets, depth_of, pipe_of, is_there, offered};
 ghost use Rattle.bus_pipes.specs.Held.{adding};
 ghost use Rattle.bus_pipes.specs.declared.names.PipeName.{PipeName};

@@ -1,7 +1,6 @@
 //! A bounded pipe of packets.
 
 ghost use Rattle.std.specs.Prelude.{◌≡◌, ◌<◌, ◌≤◌, ◌+◌, ◌==◌, if◌then◌else◌, [], drop, length, nat_le, slice_get, IfOk};
-ghost use Rattle.packet_forms.specs.Packets.{message_id};
 ghost use Rattle.bus_pipes.specs.Pipes.{offered, held_after, count_of_id};
 
 use crate::batch::Batch;

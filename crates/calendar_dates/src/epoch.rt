@@ -1,6 +1,6 @@
 //! The second of a clock that is bound to a date.
 ghost use Rattle.std.specs.Prelude.{◌≡◌, ◌<◌, ◌≤◌, ◌^◌, IfOk, IfSome};
-ghost use Rattle.calendar_dates.specs.Instants.{second_behind, gap_to, second_at, second_first, second_of_time, second_said};
+ghost use Rattle.calendar_dates.specs.Instants.{second_behind, gap_to, second_at, second_of_time, second_said};
 
 use crate::date::{TimeOfDay, day_seconds, is_time_of_day};
 use crate::fault::DateFault;

@@ -1,7 +1,6 @@
 //! Laws of dates, as contracts of functions that do nothing.
 ghost use Rattle.std.specs.Prelude.{◌≡◌, ◌≤◌, ◌<◌, ◌+◌, ◌%◌, ℕ, true, false, codes, Some, None, Ok, Err};
 ghost use Rattle.calendar_dates.specs.declared.date.Date.{Date};
-ghost use Rattle.calendar_dates.specs.declared.epoch.Epoch.{Epoch};
 ghost use Rattle.calendar_dates.specs.declared.fault.DateFault.TheVariants as faults;
 ghost use Rattle.calendar_dates.specs.Calendar.{date, is_date, day_number, next_day};
 ghost use Rattle.calendar_dates.specs.Instants.{gap_to, instant_said, second_said, bound, unbound};

@@ -1,6 +1,6 @@
 //! Dates and times of day of a text.
 ghost use Rattle.std.specs.Prelude.{◌≡◌, ◌<◌, ◌^◌, IfSome, IfOk};
-ghost use Rattle.calendar_dates.specs.Instants.{date_of, date_said, time_of, time_of_day_said, instant_at, instant_of, instant_said};
+ghost use Rattle.calendar_dates.specs.Instants.{date_of, date_said, time_of, time_of_day_said, instant_at, instant_said};
 
 use crate::date::{Date, TimeOfDay, day_seconds, is_date, is_time_of_day};
 use crate::day::day_number;

@@ -1,12 +1,11 @@
 //! The laws of verdicts and answers, and worked rows. The functions do nothing: their contracts are the laws.
-ghost use Rattle.std.specs.Prelude.{◌≡◌, ◌<◌, ◌≤◌, ℕ, length, List, [], ◌∷◌, ◌++◌, map, true, false};
+ghost use Rattle.std.specs.Prelude.{◌≡◌, ◌<◌, ◌≤◌, ℕ, length, List, [], ◌∷◌, ◌++◌, map, false};
 ghost use Rattle.bus_pipes.specs.declared.names.Out.TheVariants as outs;
 ghost use Rattle.packet_forms.specs.Packets.{payload_of};
-ghost use Rattle.commands.specs.Rows.{numbers_of_rows};
 ghost use Rattle.commands.specs.Verdicts.{Protocol, IsListedCommand, orders_in, verdict_at, judged_own, verdicts_on};
 ghost use Rattle.commands.specs.Counting.{counts_of};
 ghost use Rattle.commands.specs.Answering.{Answers, packet_items, command_items};
-ghost use Rattle.commands.specs.Machine.{machine_protocol, machine_answers, machine_name, machine_codes};
+ghost use Rattle.commands.specs.Machine.{machine_protocol, machine_answers, machine_name};
 ghost use Rattle.commands.specs.declared.verdicts.CodeRow.{CodeRow};
 ghost use Rattle.commands.specs.declared.verdicts.Verdict.{Verdict};
 ghost use Rattle.commands.specs.declared.verdicts.Verdict.TheVariants.{Other, Request, Refused, Accepted};

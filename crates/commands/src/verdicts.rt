@@ -1,5 +1,5 @@
 //! Verdicts, and the rows of codes that they are found by.
-ghost use Rattle.std.specs.Prelude.{◌≡◌, ◌&&◌, length, nat_le};
+ghost use Rattle.std.specs.Prelude.{◌≡◌, ◌&&◌};
 ghost use Rattle.commands.specs.Rows.{row_of, is_length_allowed};
 
 /// A function code of an application, and the shortest and the longest payload in bytes that a command of it may have.

@@ -1,6 +1,6 @@
 //! The results of all workers come together in the scratches of the first row.
 
-ghost use Rattle.std.specs.Prelude.{◌≡◌, ℕ, ◌<◌, ◌≤◌, length, vec_len, slice_index_or, All};
+ghost use Rattle.std.specs.Prelude.{◌≡◌, ℕ, ◌<◌, length, slice_index_or, All};
 ghost use Rattle.crew_board.specs.Work.{AreDone, AreDraws, IsRight, StayBut, StayRight, StandsIn};
 ghost use Rattle.crew_board.specs.Claim.{times_in};
 ghost use Rattle.crew_board.specs.Rows.{FitsJobs, IsWorked, draws_of, first_scratches};

@@ -1,6 +1,6 @@
 //! Seats at the claim board are split off for the workers, and joined again in the workers' order.
 
-ghost use Rattle.std.specs.Prelude.{◌≡◌, ◌+◌, ◌<◌, ◌≤◌, true, [], ◌∷◌, ◌++◌, length, All};
+ghost use Rattle.std.specs.Prelude.{◌≡◌, ◌<◌, ◌≤◌, true, [], length, All};
 ghost use Rattle.crew_board.specs.Board.{seated, started};
 ghost use Rattle.crew_board.specs.Rows.{FitsJobs, IsWorked, HasSeat, HasEnded, draws_of, first_scratches};
 ghost use Rattle.crew_board.specs.Seats.{split_off, AreEnds, TakesOne};

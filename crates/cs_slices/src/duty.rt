@@ -1,5 +1,5 @@
 //! What commands of CS change beside its counts, and what its slices leave.
-ghost use Rattle.std.specs.Prelude.{◌≡◌, ◌++◌, List, [], ◌∷◌};
+ghost use Rattle.std.specs.Prelude.{◌++◌, List, [], ◌∷◌};
 ghost use Rattle.cs_slices.specs.Tables.{TablePair, pair_of, with_table};
 ghost use Rattle.cs_slices.specs.Happenings.{Happening};
 ghost use Rattle.cs_slices.specs.Happenings.Happening.{Renewed};

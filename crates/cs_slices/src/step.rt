@@ -1,5 +1,5 @@
 //! A wakeup of CS.
-ghost use Rattle.std.specs.Prelude.{◌≡◌, ◌+◌, ◌<◌, ◌≤◌, List, [], ◌∷◌, ◌++◌, length, Some, true};
+ghost use Rattle.std.specs.Prelude.{◌≡◌, ◌+◌, ◌<◌, ◌≤◌, List, [], ◌∷◌, ◌++◌, length, Some};
 ghost use Rattle.std.specs.List.{AllPass};
 ghost use Rattle.histories.specs.Entries.Entry.{Woken};
 ghost use Rattle.bus_pipes.specs.Held.{adding};

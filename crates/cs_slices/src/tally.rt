@@ -1,8 +1,8 @@
 //! What is kept of whole passes.
-ghost use Rattle.std.specs.Prelude.{◌≡◌, ◌==◌, ◌<◌, ◌++◌, ℕ, List, [], ◌∷◌, true, if◌then◌else◌, slice_index_or, None};
+ghost use Rattle.std.specs.Prelude.{◌≡◌, ◌==◌, ◌<◌, ◌++◌, List, [], ◌∷◌, true, if◌then◌else◌, slice_index_or, None};
 ghost use Rattle.packet_forms.specs.Crc.{crc_of};
 ghost use Rattle.cs_slices.specs.Happenings.{Slice, Happening, slices_since};
-ghost use Rattle.cs_slices.specs.Happenings.Happening.{Ordered, Read, Renewed};
+ghost use Rattle.cs_slices.specs.Happenings.Happening.{Read, Renewed};
 ghost use Rattle.cs_slices.specs.Orders.{table_of};
 ghost use Rattle.cs_slices.specs.Passes.{pass_bytes, differs_behind};
 ghost use Rattle.cs_slices.specs.State.{TallyStands};

@@ -1,6 +1,5 @@
 //! Refusals of commands, by application, code and number.
 ghost use Rattle.std.specs.Prelude.{◌≡◌, ◌++◌, OnOk};
-ghost use Rattle.events.specs.Events.{event_row};
 ghost use Rattle.events.specs.Refusals.{is_refusal, reason_row, reason_of, refusal_said, command_said, reason_said, text_of};
 
 use crate::decimal::push_numbered;

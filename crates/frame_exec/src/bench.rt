@@ -93,11 +93,10 @@ impl<'f> Bench<'f> {
     ghost use Rattle.std.specs.List.{AllPass, list_any};
     ghost use Rattle.bus_pipes.specs.Counted.{is_item_counted};
     ghost use Rattle.table_files.specs.Files.{kind_at};
-    ghost use Rattle.frame_exec.specs.Stages.{IsSameRun, GoesOn, NamesFile, Activates, IsUpset, Takes, Enters, Arrives, CanSend, Sends, RunsIn, IsSameFrame, Lands, StartsAnew, IsStamped, HasGiven, items_in, given_in, loads_in, lines_in};
+    ghost use Rattle.frame_exec.specs.Stages.{GoesOn, NamesFile, Activates, IsUpset, Takes, Enters, Arrives, CanSend, Sends, RunsIn, IsSameFrame, Lands, StartsAnew, IsStamped, HasGiven, items_in, given_in, loads_in, lines_in};
     ghost use Rattle.frame_wires.specs.Sending.{is_reset};
     ghost use Rattle.app_suite.specs.Holding.{AreHeld};
     ghost use Rattle.app_suite.specs.Wakes.{joined};
-    ghost use Rattle.app_suite.specs.declared.left.Left.{Left};
     ghost use Rattle.frame_exec.specs.declared.yielded.Yield.TheVariants as yields;
 
     /// Whether a frame of this bench failed.

@@ -48,7 +48,7 @@ impl Room {
 }
 
 impl<'f> Bench<'f> {
-    ghost use Rattle.std.specs.Prelude.{ℕ, ◌≡◌, ◌≤◌, List, []};
+    ghost use Rattle.std.specs.Prelude.{ℕ, ◌≤◌, List, []};
     ghost use Rattle.frame_exec.specs.Standing.{Stands, setup_in};
     ghost use Rattle.frame_exec.specs.Following.{Follows};
     ghost use Rattle.active_tables.specs.Tables.{AreGiven, AreLoaded, Opens, region_fault};

@@ -26,7 +26,7 @@ fn are_shared(workers: u32, rests: [bool; 6]) -> bool {
 }
 
 impl<'f> Bench<'f> {
-    ghost use Rattle.std.specs.Prelude.{◌+◌, ◌<◌, ◌≤◌, [], length, slice_index_or, true, false};
+    ghost use Rattle.std.specs.Prelude.{◌+◌, ◌<◌, ◌≤◌, [], length, slice_index_or, true};
     ghost use Rattle.frame_exec.specs.Standing.{IsReady};
     ghost use Rattle.frame_exec.specs.Stages.{IsClear, Steps, CanSend, AreWoken, TakesOver, given_in};
     ghost use Rattle.app_suite.specs.Wakes.{joined};

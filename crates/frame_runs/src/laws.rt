@@ -1,8 +1,6 @@
 //! Laws of the definitions, as contracts of functions that do nothing.
 
-ghost use Rattle.std.specs.Prelude.{◌≡◌, ℕ, List, [], ◌∷◌, ◌++◌, true, false, length, codes};
-ghost use Rattle.memory_window.specs.declared.regions.Region.{Region};
-ghost use Rattle.memory_window.specs.declared.regions.Kind.TheVariants.{Ram};
+ghost use Rattle.std.specs.Prelude.{◌≡◌, List, [], ◌∷◌, ◌++◌, true, false, length};
 ghost use Rattle.scenario.specs.FrameLists.{Frame};
 ghost use Rattle.table_files.specs.Kinds.{IsKnown};
 ghost use Rattle.table_files.specs.declared.kinds.TableKind.{TableKind};

@@ -1,6 +1,6 @@
 //! The loops of a frame, over items, upsets, pipes and lines.
 
-ghost use Rattle.std.specs.Prelude.{◌≡◌, ℕ, ◌+◌, ◌<◌, ◌≤◌, ◌++◌, true, false, OnErr, List, [], ◌∷◌, length, All, decimal};
+ghost use Rattle.std.specs.Prelude.{◌≡◌, ℕ, ◌+◌, ◌<◌, ◌≤◌, ◌++◌, true, false, OnErr, List, length, All, decimal};
 ghost use Rattle.std.specs.List.{AllPass, flat_map, fold, list_any};
 ghost use Rattle.fsw_outside.specs.Causes.{HasCause};
 ghost use Rattle.bus_pipes.specs.Held.{adding};

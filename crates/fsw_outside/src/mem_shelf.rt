@@ -1,6 +1,6 @@
 //! A shelf over memory.
 
-ghost use Rattle.std.specs.Prelude.{◌≡◌, ◌≢◌, ℕ, ◌+◌, ◌-◌, ◌*◌, ◌^◌, ◌<◌, ◌≤◌, min, Bool, List, [], ◌∷◌, ◌++◌, length, take, drop, Option, Some, None, is_some, is_ok, not, ◌&&◌, IsTrue, IsFalse, IfOk, OnOk, OnErr, IfSome, MatchOption};
+ghost use Rattle.std.specs.Prelude.{◌≡◌, ◌+◌, ◌-◌, ◌*◌, ◌^◌, ◌<◌, ◌≤◌, min, [], ◌∷◌, ◌++◌, length, take, drop, Option, Some, None, is_some, is_ok, not, ◌&&◌, IsTrue, IsFalse, IfOk, OnOk, OnErr};
 ghost use Rattle.std.specs.Option.{ForSome};
 ghost use Rattle.fsw_outside.specs.Files.{file_named};
 ghost use Rattle.fsw_outside.specs.Memory.{is_listed, IsPlaceOf};
@@ -41,7 +41,6 @@ pub struct MemShelf {
 }
 
 impl MemShelf {
-    ghost use Rattle.fsw_outside.specs.Files.{Stored, Content};
     ghost use Rattle.fsw_outside.specs.MemShelf.{content_of, has_open_file, failing_calls, call_count, fault_count, marked_faults, most_bytes};
 
     /// A shelf without files. The calls with the numbers in `fails` fail, counted from 0 over `open` and `next`.
@@ -113,7 +112,7 @@ impl Shelf for MemShelf {
     ghost use Rattle.fsw_outside.specs.Closed.{told_rest};
     ghost use Rattle.fsw_outside.specs.Told.{WhereTold};
     ghost use Rattle.fsw_outside.specs.Causes.{HasCause};
-    ghost use Rattle.fsw_outside.specs.Files.{Content, Opens, Reads};
+    ghost use Rattle.fsw_outside.specs.Files.{Opens, Reads};
     ghost use Rattle.fsw_outside.specs.MemShelf.{content_of, told_content, has_open_file, failing_calls, call_count, fault_count, marked_faults, most_bytes};
 
     ghost told = { λ shelf. told_content shelf };

@@ -1,6 +1,6 @@
 //! A sink over memory.
 
-ghost use Rattle.std.specs.Prelude.{◌≡◌, ℕ, ◌+◌, ◌-◌, ◌^◌, ◌<◌, ◌≤◌, min, List, [], length, Option, Some, None, is_ok, not, ◌&&◌, nat_lt, IfOk, vec_len, vec_capacity};
+ghost use Rattle.std.specs.Prelude.{◌≡◌, ◌+◌, ◌-◌, ◌^◌, ◌<◌, ◌≤◌, min, [], length, is_ok, not, ◌&&◌, nat_lt, IfOk, vec_len, vec_capacity};
 ghost use Rattle.fsw_outside.specs.Memory.{is_listed};
 
 use crate::mem_shelf::is_listed_call;

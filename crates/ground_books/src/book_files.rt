@@ -1,12 +1,12 @@
 //! The files that are written of a book.
 
-ghost use Rattle.std.specs.Prelude.{◌≡◌, ◌<◌, ◌+◌, ◌^◌, ◌++◌, ◌∷◌, [], codes, length, map, true, IfOk, OnOk};
+ghost use Rattle.std.specs.Prelude.{◌≡◌, ◌<◌, ◌+◌, ◌^◌, ◌++◌, ◌∷◌, [], length, map, true, IfOk, OnOk};
 ghost use Rattle.telecommands.specs.Commands.{are_good};
 ghost use Rattle.table_forms.specs.Layouts.{are_layouts};
 ghost use Rattle.load_texts.specs.Headers.{is_header};
 ghost use Rattle.load_books.specs.Files.{file_made};
 ghost use Rattle.load_books.specs.Books.{book_made, book_said};
-ghost use Rattle.ground_books.specs.Built.{named, built_seen, file_built, built_said, GivesBuilt};
+ghost use Rattle.ground_books.specs.Built.{built_seen, file_built, built_said, GivesBuilt};
 
 use crate::manifest::{ending_of, files_manifest};
 use load_books::{Book, BookError, BookFile, BookForms, read_book};

@@ -2,7 +2,7 @@
 
 ghost use Rattle.std.specs.Prelude.{◌≡◌, ◌↔◌, ℕ, true, List, Some, None};
 ghost use Rattle.memory_window.specs.declared.regions.Region.{Region};
-ghost use Rattle.scenario.specs.Texts.{Text, reading};
+ghost use Rattle.scenario.specs.Texts.{reading};
 ghost use Rattle.active_tables.specs.Tables.{region_fault};
 ghost use Rattle.rehearsal.specs.Outcome.{refused_read};
 ghost use Rattle.ground_checks.specs.Loading.{AreLoaded, AreLoadedWith, AreFaultless};

@@ -1,9 +1,9 @@
 //! A log as rows of comma-separated fields.
 
-ghost use Rattle.std.specs.Prelude.{◌≡◌, ◌++◌, ◌∷◌, [], ℕ, List, Some, length, map, decimal, IfOk, OnOk};
+ghost use Rattle.std.specs.Prelude.{◌≡◌, ◌++◌, ◌∷◌, [], ℕ, List, Some, length, map, IfOk, OnOk};
 ghost use Rattle.csv.specs.Records.{fields_of, partial_of};
 ghost use Rattle.csv.specs.Writing.{row_text, default_writer};
-ghost use Rattle.ground_exports.specs.Rows.{kind_cell, pipe_cell, cause_cell, packet_cell, fixed_columns, AreCells, IsRow, AreRowsOf};
+ghost use Rattle.ground_exports.specs.Rows.{fixed_columns, AreCells, IsRow, AreRowsOf};
 
 use crate::row_cells::{Cells, line_cells, value_of};
 use csv::{ByteRecord, WriterBuilder};

@@ -1,6 +1,6 @@
 //! A log that is made into something as it comes.
 
-ghost use Rattle.std.specs.Prelude.{◌≡◌, ◌≤◌, ◌<◌, ◌++◌, [], ℕ, List, None, take, length, IfOk};
+ghost use Rattle.std.specs.Prelude.{◌≡◌, ◌≤◌, ◌<◌, [], ℕ, List, None, take, length, IfOk};
 
 use crate::line_maker::LineMaker;
 use ground_tools::Told;

@@ -1,6 +1,6 @@
 //! Scenarios among the files that are shown.
 
-ghost use Rattle.std.specs.Prelude.{◌≡◌, ◌<◌, ◌+◌, ◌^◌, length, IfOk};
+ghost use Rattle.std.specs.Prelude.{◌<◌, ◌+◌, ◌^◌, length, IfOk};
 ghost use Rattle.ground_making.specs.Made.{IsPlanIn};
 
 use crate::making::Refusal;

@@ -1,5 +1,5 @@
 -- Lemmas on rehearsals whose report is told by nothing but what is answered.
-use Rattle.std.proofs.Common.{◌≡◌, ℕ, List, Option, Some, None, subst}
+use Rattle.std.proofs.Common.{◌≡◌, ℕ, List, Option, None, subst}
 use Rattle.fsw_outside.specs.Told.{WhereTold}
 use Rattle.subjects.specs.Plans.{Simulated}
 use Rattle.rehearsal.specs.Promise.{ShelfUse, SinkUse, Promise}

@@ -1,5 +1,5 @@
 -- How a rehearsal ended.
-use Rattle.std.specs.Prelude.{ℕ, ◌<◌, Bool, true, false, nat_lt}
+use Rattle.std.specs.Prelude.{ℕ, Bool, true, false, nat_lt}
 use Rattle.ground_files.specs.declared.verb_status.Status.{Status}
 use Rattle.ground_files.specs.declared.verb_status.Status.TheVariants as statuses
 use Rattle.rehearsal.specs.declared.report.Status.{Status as End}

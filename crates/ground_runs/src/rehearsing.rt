@@ -1,6 +1,6 @@
 //! The call that the program vigil makes.
 
-ghost use Rattle.std.specs.Prelude.{◌≡◌, IfOk};
+ghost use Rattle.std.specs.Prelude.{IfOk};
 ghost use Rattle.subjects.specs.Own.{own_subjects};
 ghost use Rattle.rehearsal.specs.Promise.{shelf_use, sink_use, Promise};
 ghost use Rattle.ground_runs.specs.Rehearsing.{silent};

@@ -1,11 +1,10 @@
 -- Lemmas on logs in words, in which something stands in front of the sentences.
-use Rattle.std.proofs.Common.{◌≡◌, ℕ, ◌+◌, List, [], ◌∷◌, ◌++◌, length, take, drop, ap, sym, ◌∙◌, subst, refl, append_assoc, append-nil}
+use Rattle.std.proofs.Common.{◌≡◌, ℕ, ◌+◌, List, [], ◌∷◌, ◌++◌, length, ap, sym, ◌∙◌, subst, refl, append_assoc, append-nil}
 use Rattle.std.specs.List.{flat_map}
 use Rattle.std.proofs.lemmas.Grind.{flat_map-append}
-use Rattle.std.proofs.Math.Seq.{take-add}
 use Rattle.log_lines.specs.Logs.{log_said, Stands as ReaderStands}
 use Rattle.ground_tools.specs.declared.log_teller.LogTeller.{LogTeller}
-use Rattle.ground_tools.specs.Telling.{log_told, KeepsNames, TellsOn}
+use Rattle.ground_tools.specs.Telling.{log_told, TellsOn}
 use Rattle.ground_tools.specs.Woven.{Placed, sentences_in, words_in, Weaves}
 
 -- nothing came, and nothing was appended

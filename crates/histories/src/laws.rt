@@ -1,6 +1,6 @@
 //! The laws of the words at one more element. The functions do nothing: their contracts are the laws.
 
-ghost use Rattle.std.specs.Prelude.{◌≡◌, ◌<◌, ◌^◌, ℕ, Bool, true, false, List, [], ◌∷◌, ◌++◌, length, Option, if◌then◌else◌};
+ghost use Rattle.std.specs.Prelude.{◌≡◌, ◌<◌, Bool, true, false, List, [], ◌∷◌, ◌++◌, length, Option, if◌then◌else◌};
 ghost use Rattle.std.specs.List.{after_last};
 ghost use Rattle.histories.specs.Words.{along, joined_along, decided, from_last, last_or, last_place};
 ghost use Rattle.histories.specs.Entries.{Entry, wakeups, activations, in_force, wakeups_before, replaced_by};

@@ -1,14 +1,11 @@
 //! What commands of Health and Safety change: what is on, what is kept of the application monitors, and the actions.
-ghost use Rattle.std.specs.Prelude.{◌≡◌, ◌+◌, ◌≤◌, ◌&&◌, if◌then◌else◌, ℕ, nat_lt, not, true, List, [], ◌∷◌, ◌++◌, length};
+ghost use Rattle.std.specs.Prelude.{◌≡◌, ◌+◌, ◌≤◌, ◌&&◌, if◌then◌else◌, nat_lt, true, List, [], ◌∷◌, ◌++◌, length};
 ghost use Rattle.std.specs.List.{flat_map, AllPass};
 ghost use Rattle.packet_forms.specs.declared.name.Counter.{Counter};
 ghost use Rattle.bus_pipes.specs.Counted.{is_item_counted};
-ghost use Rattle.hs_tables.specs.declared.apps.AppRow.{AppRow};
 ghost use Rattle.hs_tables.specs.declared.tables.HsTables.{HsTables};
-ghost use Rattle.hs_actions.specs.Outcomes.{Past, in_next_wakeup};
 ghost use Rattle.hs_actions.specs.Performs.{Performs};
 ghost use Rattle.hs_monitors.specs.Histories.{HsEntry, Setup, apps_after, setup_of};
-ghost use Rattle.hs_monitors.specs.Orders.{refreshes};
 ghost use Rattle.hs_monitors.specs.Monitors.{places_of, app_attempt};
 ghost use Rattle.hs_monitors.specs.Events.{event_attempts};
 ghost use Rattle.hs_monitors.specs.Attempts.{past_of, past_in};

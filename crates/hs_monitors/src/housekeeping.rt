@@ -1,5 +1,5 @@
 //! The housekeeping packet.
-ghost use Rattle.std.specs.Prelude.{◌≡◌, ◌+◌, ◌*◌, ◌<◌, ◌≤◌, ◌++◌, ◌∷◌, [], true, List, length};
+ghost use Rattle.std.specs.Prelude.{◌≡◌, ◌+◌, ◌<◌, ◌++◌, true, List, length};
 ghost use Rattle.std.specs.List.{flat_map};
 ghost use Rattle.packet_forms.specs.declared.name.Counter.{Counter};
 ghost use Rattle.bus_pipes.specs.Counted.{is_item_counted};

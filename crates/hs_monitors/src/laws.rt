@@ -7,7 +7,6 @@ ghost use Rattle.histories.specs.Entries.Entry.{Woken, Activated};
 ghost use Rattle.commands.specs.Rows.{numbers_of_rows};
 ghost use Rattle.commands.specs.Verdicts.{verdict_at};
 ghost use Rattle.commands.specs.declared.verdicts.Verdict.TheVariants.{Other, Request, Refused, Accepted};
-ghost use Rattle.hs_tables.specs.Counters.{blank_row};
 ghost use Rattle.hs_actions.specs.Outcomes.{act_at};
 ghost use Rattle.hs_actions.specs.State.{left_of};
 ghost use Rattle.hs_actions.specs.Rows.{load_bytes, noop_bytes, hs_event, late_event, one_act};

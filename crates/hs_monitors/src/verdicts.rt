@@ -1,5 +1,4 @@
 //! Which commands are refused.
-ghost use Rattle.std.specs.Prelude.{◌≡◌};
 
 use commands::Reason;
 

@@ -1,5 +1,5 @@
 //! What is kept of an application monitor, and its checks.
-ghost use Rattle.std.specs.Prelude.{◌≡◌, ◌<◌, List, [], ◌∷◌, ◌++◌, length};
+ghost use Rattle.std.specs.Prelude.{◌≡◌, ◌<◌, List, [], ◌∷◌, ◌++◌};
 ghost use Rattle.packet_forms.specs.declared.name.Counter.{Counter};
 ghost use Rattle.hs_monitors.specs.Acting.{is_same, counter_in, changes, acts_now};
 ghost use Rattle.hs_monitors.specs.Entries.{EntryStands};

@@ -1,8 +1,6 @@
 //! Laws of the definitions, as contracts of functions that do nothing. The rows' bytes are written by hand from the layouts in docs/FILES.md.
 
-ghost use Rattle.std.specs.Prelude.{◌≡◌, ◌↔◌, ℕ, List, [], ◌∷◌, ◌++◌, true, false, map, replicate, slice_index_or, slice_set, Option, Some, None, codes, IsSome};
-ghost use Rattle.table_files.specs.declared.fault.EntryFault.{EntryFault};
-ghost use Rattle.packet_forms.specs.Names.{name_of};
+ghost use Rattle.std.specs.Prelude.{◌≡◌, ◌↔◌, ℕ, List, [], ◌∷◌, ◌++◌, true, false, map, replicate, slice_index_or, slice_set, Some, None, IsSome};
 ghost use Rattle.hs_tables.specs.declared.apps.AppRow.{AppRow};
 ghost use Rattle.hs_tables.specs.declared.events.EventRow.{EventRow};
 ghost use Rattle.hs_tables.specs.declared.counters.CountRow.{CountRow};

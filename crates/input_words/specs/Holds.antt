@@ -1,5 +1,5 @@
 -- Which applications a scenario holds, in lines that stand among the sentences of the log.
-use Rattle.std.specs.Prelude.{ℕ, ◌==◌, Bool, true, false, if◌then◌else◌, List, [], ◌++◌, codes}
+use Rattle.std.specs.Prelude.{ℕ, ◌==◌, Bool, if◌then◌else◌, List, [], ◌++◌, codes}
 use Rattle.std.specs.List.{list_any}
 use Rattle.scenario.specs.declared.frame.App.{App}
 use Rattle.scenario.specs.declared.frame.App.TheVariants as apps

@@ -1,5 +1,5 @@
 //! Actionpoints.
-ghost use Rattle.std.specs.Prelude.{◌≡◌, ◌≤◌, ◌<◌, ◌-◌, true, length, take, if◌then◌else◌, Some, None, IfSome};
+ghost use Rattle.std.specs.Prelude.{◌≡◌, ◌≤◌, ◌<◌, ◌-◌, length, if◌then◌else◌, Some, None, IfSome};
 ghost use Rattle.lc_watch.specs.Actionpoints.{is_used, is_whole, is_startable, expression, act_at, uses_any, AreAble, AbleWhereUsed};
 ghost use Rattle.table_files.specs.Entries.{where_well};
 

@@ -1,5 +1,5 @@
 //! What commands of LC change beside its counts, and what its telemetry leaves.
-ghost use Rattle.std.specs.Prelude.{◌≡◌, ◌≤◌, ◌<◌, ◌+◌, ◌%◌, ◌++◌, ℕ, List, [], ◌∷◌, length};
+ghost use Rattle.std.specs.Prelude.{◌≡◌, ◌≤◌, ◌+◌, ◌%◌, ◌++◌, ℕ, List, [], ◌∷◌, length};
 ghost use Rattle.std.specs.List.{AllPass, flat_map};
 ghost use Rattle.bus_pipes.specs.Held.{adding};
 ghost use Rattle.bus_pipes.specs.Counted.{is_item_counted};

@@ -1,7 +1,6 @@
 //! Laws of the definitions, and worked rows, as contracts of functions that do nothing. The rows' bytes are written by hand from the
 //! layouts.
-ghost use Rattle.std.specs.Prelude.{◌≡◌, ◌==◌, ◌++◌, ◌&&◌, if◌then◌else◌, ℕ, Bool, List, [], ◌∷◌, length, map, replicate, slice_set, true, false, Option, Some, None};
-ghost use Rattle.histories.specs.Words.{along, last_or};
+ghost use Rattle.std.specs.Prelude.{◌≡◌, ◌==◌, ◌++◌, ◌&&◌, if◌then◌else◌, ℕ, Bool, List, [], ◌∷◌, length, map, replicate, slice_set, true, false, Some, None};
 ghost use Rattle.bus_pipes.specs.declared.names.Out.TheVariants as outs;
 ghost use Rattle.commands.specs.Rows.{numbers_of_rows};
 ghost use Rattle.commands.specs.Verdicts.{verdict_at};
@@ -18,12 +17,10 @@ ghost use Rattle.lc_watch.specs.Housekeeping.{results_of, housekeeping_of};
 ghost use Rattle.lc_watch.specs.Answers.{start_of};
 ghost use Rattle.lc_watch.specs.Messages.{lc_codes};
 ghost use Rattle.lc_watch.specs.Verdicts.{lc_protocol};
-ghost use Rattle.lc_watch.specs.declared.watchpoints.WatchRow.{WatchRow};
 ghost use Rattle.lc_watch.specs.declared.watchpoints.Operator.TheVariants.{Less, LessOrEqual, NotEqual, Equal, GreaterOrEqual, Greater};
 ghost use Rattle.lc_watch.specs.declared.expressions.Word.{Word};
 ghost use Rattle.lc_watch.specs.declared.expressions.Word.TheVariants.{Watch, And, Or, Xor, Not, Unknown};
 ghost use Rattle.lc_watch.specs.declared.outcomes.Outcome.TheVariants.{Unseen, Clear, Tripped, Outside};
-ghost use Rattle.lc_watch.specs.declared.instructions.Instruction.{Instruction};
 ghost use Rattle.lc_watch.specs.declared.instructions.Instruction.TheVariants.{Plain, Switch};
 ghost use Rattle.lc_watch.specs.Rows.{peek, dwell, watch_row, first_act, first_alone, woken, quiet, set_active, set_passive, request, lc_event, fired_first, shown, sent_along, longest, four_bytes, numbered, both_ends, ends_watched, late_event};
 

@@ -1,5 +1,5 @@
 -- Lemmas on whole books.
-use Rattle.std.proofs.Common.{◌≡◌, ℕ, ◌+◌, true, false, List, [], ◌∷◌, length, Option, Some, None, refl, ap, sym, subst, ◌∙◌}
+use Rattle.std.proofs.Common.{◌≡◌, ℕ, false, List, [], ◌∷◌, Option, Some, None, refl, ap, sym, subst, ◌∙◌}
 use Rattle.std.specs.Prelude.{codes, Result, Ok, Err}
 use Rattle.table_texts.specs.Lines.{Numbered, kept_of}
 use Rattle.load_books.specs.declared.fault.BookReason.TheVariants as reasons

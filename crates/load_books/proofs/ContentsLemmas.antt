@@ -1,5 +1,5 @@
 -- Lemmas on the parts of a book.
-use Rattle.std.proofs.Common.{◌≡◌, ℕ, zero, suc, ◌+◌, ◌<◌, ◌≤◌, true, false, List, [], ◌∷◌, length, drop, map, get_or, Option, Some, None, refl, ap, sym, ◌∙◌, arith, add-one}
+use Rattle.std.proofs.Common.{◌≡◌, ℕ, zero, suc, ◌+◌, ◌<◌, ◌≤◌, true, false, List, [], ◌∷◌, length, drop, map, get_or, Option, Some, None, refl, ap, sym, ◌∙◌, arith}
 use Rattle.std.specs.Prelude.{if◌then◌else◌, ◌^◌, IfSome, Result, Ok, Err}
 use Rattle.std.specs.Str.{bytes_eq}
 use Rattle.load_books.specs.declared.cuts.PartLine.{PartLine}
@@ -14,7 +14,7 @@ use Rattle.load_books.specs.declared.fault.BookFault.{BookFault}
 use Rattle.load_books.specs.declared.fault.LineError.{LineError}
 use Rattle.load_books.specs.declared.fault.LineError.TheVariants as line_errors
 use Rattle.load_books.specs.Cuts.{Part, part_of, cut_of, parts_from}
-use Rattle.load_books.specs.Contents.{FileText, BookText, file_text, loads_behind, place_of, held_by, no_parts, part_added, then_added, all_added, error_on, GivesPart, GivesParts}
+use Rattle.load_books.specs.Contents.{FileText, BookText, file_text, loads_behind, place_of, part_added, then_added, all_added, error_on, GivesPart, GivesParts}
 
 -- how much is left behind a line that begins a part
 abbrev pub left_behind : Option PartLine → ℕ

@@ -1,14 +1,13 @@
 -- Lemmas on texts that are cut.
 use Rattle.std.proofs.Common.{◌≡◌, ◌==◌, ℕ, suc, ◌+◌, ◌<◌, ◌≤◌, true, false, Bool, List, [], ◌∷◌, ◌++◌, length, take, drop, Some, None, refl, ap, sym, ◌∙◌, append_assoc, arith}
 use Rattle.std.specs.Prelude.{codes}
-use Rattle.std.specs.Str.{bytes_eq}
 use Rattle.std.specs.List.{position, position_or_len}
 use Rattle.std.proofs.lemmas.List.{append-nil, take_all, drop-drop}
 use Rattle.std.proofs.lemmas.Bool.Decides.{nat_tests}
 use Rattle.std.proofs.Math.Seq.{take-add, drop-length}
 use Rattle.row_forms.specs.Words.{words}
 use Rattle.row_forms.proofs.WordsLemmas.{position_is, position_none}
-use Rattle.load_books.specs.Cuts.{onto_line, whole_lines, bare, words_in, begins, behind_first, part_of, Part, Cut, put_line, cut, cut_of, with_front}
+use Rattle.load_books.specs.Cuts.{onto_line, whole_lines, bare, words_in, begins, part_of, Cut, put_line, cut, cut_of, with_front}
 
 abbrev is_end : ℕ → Bool
 is_end b = b == 10

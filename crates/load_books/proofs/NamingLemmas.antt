@@ -1,5 +1,5 @@
 -- Lemmas on the lines of plans.
-use Rattle.std.proofs.Common.{◌≡◌, ℕ, ◌+◌, true, false, List, [], ◌∷◌, ◌++◌, length, Option, Some, None, refl, ap, sym, subst, ◌∙◌, append_assoc, append-nil}
+use Rattle.std.proofs.Common.{◌≡◌, ℕ, ◌+◌, false, List, [], ◌∷◌, ◌++◌, Option, Some, None, refl, ap, sym, subst, ◌∙◌, append_assoc, append-nil}
 use Rattle.std.specs.Prelude.{codes, Result, Ok, Err}
 use Rattle.row_forms.specs.Words.{words}
 use Rattle.row_forms.specs.Rows.{with_front, behind_key, spaced}
@@ -15,7 +15,7 @@ use Rattle.load_books.specs.Cuts.{whole_lines, bare, words_in, begins}
 use Rattle.load_books.specs.Contents.{FileText, error_on}
 use Rattle.load_books.specs.Lines.{book_line}
 use Rattle.load_books.specs.Naming.{name_said, word_shown, first_shown, activate_others, keyed_others, load_others, onto_line, send_others, line_said, line_shown, then_plan, plan_said, GivesLine, GivesPlan}
-use Rattle.load_books.proofs.CutLemmas.{no_lines, empty}
+use Rattle.load_books.proofs.CutLemmas.{no_lines}
 
 -- ---- texts of lines
 

@@ -1,5 +1,5 @@
 -- The scenario of a book's plan.
-use Rattle.std.specs.Prelude.{ℕ, if◌then◌else◌, List, [], ◌∷◌, codes, Option, Some, None, Result, Ok, Err}
+use Rattle.std.specs.Prelude.{ℕ, if◌then◌else◌, List, [], ◌∷◌, codes, Option, None, Result, Ok, Err}
 use Rattle.row_forms.specs.Words.{number}
 use Rattle.telecommands.specs.declared.command.Command.{Command}
 use Rattle.table_texts.specs.Lines.{Numbered, kept_of}

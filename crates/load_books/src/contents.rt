@@ -1,5 +1,5 @@
 //! The parts of a book: its files, and its plan.
-ghost use Rattle.std.specs.Prelude.{◌≡◌, ◌<◌, ◌+◌, ◌^◌, ◌∷◌, ℕ, List, length, map, IfSome};
+ghost use Rattle.std.specs.Prelude.{◌≡◌, ◌<◌, ◌+◌, ◌^◌, length, map, IfSome};
 ghost use Rattle.row_forms.specs.Words.{words};
 ghost use Rattle.load_books.specs.Cuts.{part_of, parts_from};
 ghost use Rattle.load_books.specs.Contents.{loads_behind, place_of, file_text, plan_text, held_by, no_parts, file_added, plan_added, part_added, all_added, error_on, GivesPart, GivesParts};

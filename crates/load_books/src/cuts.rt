@@ -1,5 +1,5 @@
 //! A book's text, cut in front of the lines that begin its parts.
-ghost use Rattle.std.specs.Prelude.{◌≡◌, ◌<◌, ◌≤◌, ◌+◌, ◌^◌, ◌∷◌, ◌==◌, [], ℕ, length, take, drop, false, IfSome, MatchOption};
+ghost use Rattle.std.specs.Prelude.{◌≡◌, ◌<◌, ◌≤◌, ◌+◌, ◌^◌, ◌∷◌, ◌==◌, length, take, drop, false, IfSome, MatchOption};
 ghost use Rattle.std.specs.List.{position};
 ghost use Rattle.row_forms.specs.Words.{words};
 ghost use Rattle.load_books.specs.Cuts.{whole_lines, bare, begins, cut_of, parts_from};

@@ -19,4 +19,5 @@ pub use files::BookFile;
 pub use forms::{BookForms, book_forms};
 pub use manifest::book_manifest;
 pub use reading::{Book, is_book_text, read_book};
+pub use scenarios::text_epoch;
 pub use titles::FileKind;

@@ -14,7 +14,7 @@ use crate::cuts::{behind_word, cut_front};
 use crate::fault::{BookError, BookFault, BookReason};
 use crate::files::{BookFile, MOST, make_files};
 use crate::forms::BookForms;
-use crate::scenarios::{make_scenario, plan_epoch};
+use crate::scenarios::{make_scenario, text_epoch};
 use crate::titles::is_part_name;
 use row_forms::split_word;
 use std::alloc::Global;
@@ -93,7 +93,7 @@ fn make_book<'a>(
         let fault = BookFault::Line(plan.number, BookReason::Long);
         return Err(BookError::Book(fault));
     }
-    let epoch = plan_epoch(plan.text);
+    let epoch = text_epoch(plan.text);
     let files = match make_files(alloc, forms, epoch, parts.files.as_slice()) {
         Ok(files) => files,
         Err(error) => return Err(error),

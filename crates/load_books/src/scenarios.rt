@@ -22,9 +22,9 @@ use timed_plans::schedule_plan;
 /// The latest epoch.
 const LAST_EPOCH: u32 = 4_294_000_000;
 
-/// The epoch that a plan gives in its first line.
+/// The epoch that a plan or a scenario gives in its first line, in seconds; none where that line is another.
 #[tactic(auto, unfolding(crate::specs::Scenarios::epoch_said))]
-pub(crate) fn plan_epoch(text: &[u8]) -> Option<u32>
+pub fn text_epoch(text: &[u8]) -> Option<u32>
     requires { 1 + length text.now < 2 ^ 32 }
     ensures { result ≡ epoch_said text.now }
 {

@@ -2,7 +2,7 @@
 ghost use Rattle.std.specs.Prelude.{◌≡◌, MatchResult, Ok, Err};
 ghost use Rattle.std.specs.List.{list_all};
 ghost use Rattle.row_forms.specs.Words.{words};
-ghost use Rattle.load_books.specs.Titles.{is_letter, is_name_byte, is_part_name, title_said, file_titled, plan_titled, titled_by};
+ghost use Rattle.load_books.specs.Titles.{is_letter, is_name_byte, is_part_name, title_said, file_titled, titled_by};
 
 use crate::fault::BookReason;
 use row_forms::split_word;

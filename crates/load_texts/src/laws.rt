@@ -1,8 +1,8 @@
 //! Laws of the definitions, as contracts of functions that do nothing.
-ghost use Rattle.std.specs.Prelude.{◌≡◌, ◌<◌, ◌∷◌, [], ℕ, List, Some, None, true, map, codes, Ok, Err};
+ghost use Rattle.std.specs.Prelude.{◌≡◌, ◌<◌, [], ℕ, List, Some, None, true, codes, Ok};
 ghost use Rattle.std.specs.List.{AllByRecursion};
 ghost use Rattle.packet_forms.specs.Numbers.{be32_at};
-ghost use Rattle.row_forms.specs.Words.{number, words};
+ghost use Rattle.row_forms.specs.Words.{number};
 ghost use Rattle.row_forms.specs.Rows.{behind_key};
 ghost use Rattle.table_files.specs.Headers.{IsLoadOf};
 ghost use Rattle.table_files.specs.Rows.{load_file};

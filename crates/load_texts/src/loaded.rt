@@ -1,5 +1,5 @@
 //! The bytes to be loaded, as the lines of a text say them.
-ghost use Rattle.std.specs.Prelude.{◌≡◌, ◌<◌, ◌≤◌, ◌+◌, ◌^◌, ℕ, List, [], length, true, false, Some, None, MatchOption};
+ghost use Rattle.std.specs.Prelude.{◌≡◌, ◌<◌, ◌+◌, ◌^◌, ℕ, List, [], length, true, false, Some, None, MatchOption};
 ghost use Rattle.row_forms.specs.Words.{words, hex_said};
 ghost use Rattle.row_forms.specs.Rows.{with_front};
 ghost use Rattle.table_texts.specs.Lines.{kept_of};

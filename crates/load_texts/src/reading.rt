@@ -1,6 +1,5 @@
 //! Files to be loaded that are read from text.
 ghost use Rattle.std.specs.Prelude.{◌≡◌, ◌<◌, ◌+◌, ◌^◌, length, true, IfOk, Ok};
-ghost use Rattle.table_texts.specs.Lines.{kept_of};
 ghost use Rattle.load_texts.specs.Headers.{is_header};
 ghost use Rattle.load_texts.specs.Addresses.{addressed_by};
 ghost use Rattle.load_texts.specs.Loads.{if_sized, bytes_filed, addressed_filed, load_said, is_load_text, SaysLoad, GivesLoad};

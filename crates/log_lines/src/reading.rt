@@ -1,7 +1,7 @@
 //! A line of the log is read.
 
 ghost use Rattle.std.specs.Prelude.{◌≡◌, ◌≤◌, length, IfSome, Some};
-ghost use Rattle.log_lines.specs.Lines.{line_said, item_said, drop_said, pipe_said, cause_said, packet_said, packet_in, name_in, name_or_fault, last_word, words_behind, as_item, reset_said, drop_at};
+ghost use Rattle.log_lines.specs.Lines.{line_said, item_said, drop_said, pipe_said, cause_said, packet_said, packet_in, name_in, last_word, words_behind, as_item, reset_said, drop_at};
 ghost use Rattle.row_forms.specs.Words.{name_said};
 
 use crate::fault::LineFault;

@@ -1,6 +1,6 @@
 //! Lines of the log in sentences.
 
-ghost use Rattle.std.specs.Prelude.{◌≡◌, ◌++◌, ◌+◌, codes, decimal, OnOk};
+ghost use Rattle.std.specs.Prelude.{◌≡◌, ◌++◌, ◌+◌, decimal, OnOk};
 ghost use Rattle.log_words.specs.Sentences.{IsGood, time_words, packet_words, sent_words, drop_words, cause_words, item_words, sentence_of};
 ghost use Rattle.packet_forms.specs.Names.{name_text};
 ghost use Rattle.packet_log.specs.Lines.{pipe_text};

@@ -1,6 +1,5 @@
 -- The instructions of Memory Dwell by words of their own, for what speaks of them from outside.
 use Rattle.std.specs.Prelude.{ℕ}
-use Rattle.md_dwell.specs.declared.tables.DwellEntry.{DwellEntry}
 use Rattle.md_dwell.specs.declared.instructions.Instruction.{Instruction}
 use Rattle.md_dwell.specs.declared.instructions.Instruction.TheVariants.{Plain, Start, Stop, Jam}
 

@@ -1,5 +1,5 @@
 //! The dwell packets.
-ghost use Rattle.std.specs.Prelude.{◌≡◌, ◌≤◌, length, true};
+ghost use Rattle.std.specs.Prelude.{◌≡◌, ◌≤◌, length};
 ghost use Rattle.md_dwell.specs.Answers.{dwell_packet};
 
 use crate::payload::Payload;

@@ -1,5 +1,5 @@
 //! Dwell tables.
-ghost use Rattle.std.specs.Prelude.{◌≡◌, ◌≤◌, ◌<◌, ◌-◌, ℕ, length, take, slice_index_or, slice_set, IfSome, IfNone};
+ghost use Rattle.std.specs.Prelude.{◌≡◌, ◌≤◌, ◌<◌, ◌-◌, length, take, slice_index_or, slice_set, IfSome, IfNone};
 ghost use Rattle.md_dwell.specs.Lists.{list_of, delays};
 ghost use Rattle.md_dwell.specs.Tables.{is_length, is_aligned};
 

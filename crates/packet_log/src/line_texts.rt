@@ -1,6 +1,6 @@
 //! Lines of the log, each as a text of its own.
 
-ghost use Rattle.std.specs.Prelude.{◌≡◌, ◌≤◌, ◌+◌, ◌*◌, ◌++◌, true, length, codes, decimal};
+ghost use Rattle.std.specs.Prelude.{◌≡◌, ◌≤◌, ◌+◌, ◌*◌, ◌++◌, true, length, decimal};
 ghost use Rattle.packet_forms.specs.Hex.{hex, hex_pair};
 ghost use Rattle.packet_log.specs.Lines.{packet_line, drop_line};
 ghost use Rattle.packet_log.specs.Items.{is_request, request_text, request_line};

@@ -1,6 +1,6 @@
 //! Lines of the log, each written into one buffer in turn.
 
-ghost use Rattle.std.specs.Prelude.{◌≡◌, ◌≤◌, ◌+◌, ◌*◌, ◌++◌, [], ℕ, true, length, codes, decimal};
+ghost use Rattle.std.specs.Prelude.{◌≡◌, ◌≤◌, ◌+◌, ◌*◌, ◌++◌, [], ℕ, true, length, decimal};
 ghost use Rattle.packet_forms.specs.Hex.{hex};
 ghost use Rattle.packet_log.specs.Lines.{packet_line, drop_line, pipe_text, cause_text};
 ghost use Rattle.packet_log.specs.Items.{is_request, request_text, request_line, item_line};

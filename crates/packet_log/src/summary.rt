@@ -1,6 +1,6 @@
 //! A sink that keeps the tally of a log, and the four lines that tell it.
 
-ghost use Rattle.std.specs.Prelude.{◌≡◌, ◌<◌, ◌≤◌, ◌+◌, ◌^◌, ◌%◌, ◌==◌, ◌++◌, ◌∷◌, [], ℕ, List, length, decimal, IfOk};
+ghost use Rattle.std.specs.Prelude.{◌≡◌, ◌<◌, ◌≤◌, ◌+◌, ◌%◌, ◌++◌, ◌∷◌, [], length, decimal, IfOk};
 ghost use Rattle.packet_forms.specs.Numbers.{be16_bytes};
 ghost use Rattle.fsw_outside.specs.Tally.{tally_of, added};
 ghost use Rattle.packet_forms.specs.Hex.{hex, hex_digit};

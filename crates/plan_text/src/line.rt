@@ -1,9 +1,9 @@
 //! A line of a plan.
-ghost use Rattle.std.specs.Prelude.{◌≡◌, ◌<◌, ◌≤◌, ◌+◌, ◌^◌, ◌∷◌, [], true, Ok, Some};
+ghost use Rattle.std.specs.Prelude.{◌≡◌, ◌<◌, ◌+◌, ◌^◌, ◌∷◌, true, Ok, Some};
 ghost use Rattle.row_forms.specs.Words.{words};
 ghost use Rattle.telecommands.specs.Commands.{are_good, packet_said, GivesPacket};
 ghost use Rattle.plan_text.specs.Lines.{sent_line};
-ghost use Rattle.plan_text.specs.Plans.{word_fault, none, one_more, last_of, moved, GivesWord, written, GivesLine, forwarded, closed, item_line, packet_sent, epoch_line, start_line, at_line, frame_line, tick_line, end_line, send_line, opening_line, header_line, course_line, staged, of_verb, line_said, passed};
+ghost use Rattle.plan_text.specs.Plans.{word_fault, none, one_more, last_of, moved, GivesWord, written, GivesLine, forwarded, closed, item_line, packet_sent, epoch_line, start_line, at_line, frame_line, tick_line, end_line, send_line, opening_line, header_line, course_line, line_said, passed};
 
 use crate::fault::{LineError, PlanReason};
 use crate::stage::{Course, Stage};

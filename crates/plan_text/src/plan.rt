@@ -1,7 +1,6 @@
 //! A plan's text.
-ghost use Rattle.std.specs.Prelude.{◌≡◌, ◌<◌, ◌+◌, ◌^◌, [], length, true};
+ghost use Rattle.std.specs.Prelude.{◌≡◌, ◌<◌, ◌+◌, ◌^◌, length, true};
 ghost use Rattle.telecommands.specs.Commands.{are_good};
-ghost use Rattle.table_texts.specs.Lines.{kept_of};
 ghost use Rattle.plan_text.specs.Plans.{scenario_said, finished, no_more, error_on, GivesScenario};
 
 use crate::fault::{LineError, PlanError, PlanFault, PlanReason};

@@ -1,8 +1,8 @@
 //! Times of a plan.
-ghost use Rattle.std.specs.Prelude.{◌≡◌, ◌≤◌, ◌<◌, ◌^◌, IfSome, IfOk, Some};
+ghost use Rattle.std.specs.Prelude.{◌≡◌, ◌≤◌, ◌<◌, ◌^◌, IfSome, Some};
 ghost use Rattle.row_forms.specs.Words.{words, digits};
 ghost use Rattle.row_forms.specs.Numbers.{span_of, span_said, behind_epoch, time_said};
-ghost use Rattle.plan_text.specs.Plans.{frame_at, frame_of_time, time_line, one};
+ghost use Rattle.plan_text.specs.Plans.{frame_of_time, time_line};
 
 use crate::fault::PlanReason;
 use crate::line::last_word;

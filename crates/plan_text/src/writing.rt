@@ -1,6 +1,5 @@
 //! Lines that are written.
-ghost use Rattle.std.specs.Prelude.{◌≡◌, ◌++◌, ◌∷◌, [], replicate, codes, OnOk};
-ghost use Rattle.packet_forms.specs.Hex.{hex};
+ghost use Rattle.std.specs.Prelude.{◌≡◌, ◌++◌, ◌∷◌, [], replicate, OnOk};
 ghost use Rattle.row_forms.specs.Words.{words};
 ghost use Rattle.row_forms.specs.Rows.{spaced};
 ghost use Rattle.plan_text.specs.Lines.{line_text, text_of, tick, end, sent_line};

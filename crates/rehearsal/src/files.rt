@@ -1,8 +1,8 @@
 //! Reading the FILEs one after another, and taking them in.
 
-ghost use Rattle.std.specs.Prelude.{◌≡◌, ◌≢◌, ℕ, ◌+◌, ◌<◌, ◌≤◌, List, [], ◌++◌, length, Some, IsTrue, IfOk, IfErr, OnOk, MatchResult, OnErr};
+ghost use Rattle.std.specs.Prelude.{◌≡◌, ◌≢◌, ◌+◌, ◌<◌, ◌≤◌, [], length, Some, IsTrue, IfOk, IfErr, OnOk, MatchResult, OnErr};
 ghost use Rattle.fsw_outside.specs.Told.{WhereTold};
-ghost use Rattle.fsw_outside.specs.Files.{Content, file_named};
+ghost use Rattle.fsw_outside.specs.Files.{file_named};
 ghost use Rattle.rehearsal.specs.Files.{IsSameOpening, OpensOnce, AsksFor, Appends, IsUnread, IsUnreadFile, UnreadCause, Takes, StopCause, AreTaken, stop_report, EndsAtFile, EndCause};
 
 use crate::report::{Report, Status};

@@ -1,9 +1,8 @@
 //! Numbers of one, two and four bytes, and how they are written.
-ghost use Rattle.std.specs.Prelude.{◌≡◌, ◌≤◌, ◌<◌, ◌+◌, ◌^◌, ◌++◌, length, map, decimal, codes, false, IfSome, OnOk};
-ghost use Rattle.packet_forms.specs.Hex.{hex};
+ghost use Rattle.std.specs.Prelude.{◌≡◌, ◌≤◌, ◌<◌, ◌+◌, ◌^◌, ◌++◌, length, map, decimal, false, IfSome, OnOk};
 ghost use Rattle.row_forms.specs.Lists.{parts, listed, behind_comma};
 ghost use Rattle.row_forms.specs.Words.{at_most};
-ghost use Rattle.row_forms.specs.Numbers.{bytes_of, most_of, number_bytes, number_at, choice_said, choice_shown, bit_said, bits_said, mask_said, bits_of, mask_shown, span_of, span_said, behind_epoch, time_said, number_said, number_shown};
+ghost use Rattle.row_forms.specs.Numbers.{bytes_of, number_bytes, number_at, choice_said, choice_shown, bit_said, bits_said, mask_said, bits_of, mask_shown, span_of, span_said, behind_epoch, time_said, number_said, number_shown};
 
 use crate::field::{Choice, Spelling, Width};
 use crate::parts::{push_decimal, push_hex, split_part};

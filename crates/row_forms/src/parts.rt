@@ -1,5 +1,5 @@
 //! Parts of a text between commas, and bytes behind others.
-ghost use Rattle.std.specs.Prelude.{◌≡◌, ◌==◌, ◌<◌, ◌≤◌, ◌++◌, ◌∷◌, [], length, replicate, decimal, OnOk, IfSome, MatchOption};
+ghost use Rattle.std.specs.Prelude.{◌≡◌, ◌==◌, ◌<◌, ◌++◌, ◌∷◌, [], length, replicate, decimal, OnOk, IfSome, MatchOption};
 ghost use Rattle.std.specs.List.{position};
 ghost use Rattle.packet_forms.specs.Hex.{hex, hex_digit};
 ghost use Rattle.row_forms.specs.Lists.{parts};

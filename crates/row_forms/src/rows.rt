@@ -1,5 +1,5 @@
 //! Rows: fields that stand one behind the other.
-ghost use Rattle.std.specs.Prelude.{◌≡◌, ◌≤◌, ◌<◌, ◌+◌, ◌^◌, ◌++◌, ◌∷◌, [], ℕ, List, Some, None, true, length, take, drop, vec_len, OnOk, MatchOption};
+ghost use Rattle.std.specs.Prelude.{◌≡◌, ◌≤◌, ◌<◌, ◌+◌, ◌^◌, ◌++◌, ◌∷◌, ℕ, List, Some, None, true, length, take, drop, vec_len, OnOk, MatchOption};
 ghost use Rattle.packet_forms.specs.Crc.{crc_of};
 ghost use Rattle.packet_forms.specs.Numbers.{be16_bytes};
 ghost use Rattle.row_forms.specs.Words.{words};

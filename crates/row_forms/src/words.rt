@@ -1,8 +1,8 @@
 //! The words of a line, and what a word says.
-ghost use Rattle.std.specs.Prelude.{◌≡◌, ◌≤◌, ◌<◌, ◌+◌, ◌*◌, ◌^◌, ◌==◌, ◌∷◌, [], ℕ, Some, None, take, drop, length, not, option_map, MatchOption, IfSome, IsTrue, codes, nat_eq, ◌&&◌};
-ghost use Rattle.std.specs.List.{position, position_or_len, list_all, starts_with};
-ghost use Rattle.std.specs.Char.{is_digit, digit_value};
-ghost use Rattle.row_forms.specs.Words.{words, digits, any_number, number, hex_said, name_said};
+ghost use Rattle.std.specs.Prelude.{◌≡◌, ◌≤◌, ◌<◌, ◌+◌, ◌*◌, ◌^◌, ◌==◌, ◌∷◌, [], Some, None, length, not, MatchOption, IfSome, IsTrue, codes, nat_eq};
+ghost use Rattle.std.specs.List.{position, position_or_len, starts_with};
+ghost use Rattle.std.specs.Char.{digit_value};
+ghost use Rattle.row_forms.specs.Words.{words, digits, any_number, number, name_said};
 
 use packet_forms::Name;
 
@@ -28,19 +28,6 @@ fn word_len(bytes: &[u8]) -> usize
     match first_space(bytes) {
         Some(len) => len,
         None => bytes.len(),
-    }
-}
-
-/// What comes behind the spaces in front.
-pub(crate) fn behind_spaces(line: &[u8]) -> &[u8]
-    ensures { words result.now ≡ words line.now }
-{
-    match first_other(line) {
-        Some(start) => {
-            let (_, rest) = line.split_at(start);
-            rest
-        }
-        None => line,
     }
 }
 

@@ -1,5 +1,5 @@
 //! Where each sequence stands, and which comes next.
-ghost use Rattle.std.specs.Prelude.{◌≡◌, ◌+◌, ◌<◌, ℕ, List, Option, None, false, length, slice_index_or, slice_set, replicate, IfSome};
+ghost use Rattle.std.specs.Prelude.{◌≡◌, ◌+◌, ◌<◌, ℕ, List, Option, None, false, length, slice_set, replicate, IfSome};
 ghost use Rattle.sc_sequences.specs.Cursors.{next_times, time_in, SoonestOf};
 ghost use Rattle.sc_sequences.specs.Turns.{soonest, place_due};
 

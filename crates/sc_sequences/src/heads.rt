@@ -1,5 +1,5 @@
 //! With which command a sequence goes on.
-ghost use Rattle.std.specs.Prelude.{◌≡◌, ◌<◌, ◌≤◌, drop, length, Bool, IfSome};
+ghost use Rattle.std.specs.Prelude.{◌≡◌, ◌<◌, ◌≤◌, drop, IfSome};
 ghost use Rattle.sc_tables.specs.Commands.{commands_in};
 ghost use Rattle.sc_sequences.specs.Sequences.{Sequence, has_some, base_at, going_on, from_time, first_time};
 ghost use Rattle.sc_sequences.specs.State.{CursorStands};

@@ -1,5 +1,4 @@
 //! What a command asks for.
-ghost use Rattle.std.specs.Prelude.{◌≡◌};
 
 use crate::messages::{CODES, name};
 use commands::{Command, Terms};

@@ -1,6 +1,6 @@
 //! What the definitions give in small cases, and the sentences that users rely on. The functions do nothing: their contracts are the
 //! laws. The rows' bytes are written by hand.
-ghost use Rattle.std.specs.Prelude.{◌≡◌, ◌<◌, ◌≤◌, ℕ, List, [], ◌∷◌, ◌++◌, length, drop, map, replicate, filter_map, slice_set, Option, Some, None, true, false};
+ghost use Rattle.std.specs.Prelude.{◌≡◌, ◌<◌, ◌≤◌, ℕ, List, [], ◌∷◌, ◌++◌, length, drop, map, replicate, filter_map, slice_set, Some, None, true, false};
 ghost use Rattle.std.specs.List.{All};
 ghost use Rattle.bus_pipes.specs.declared.names.Out.TheVariants.{Made, Stored};
 ghost use Rattle.histories.specs.Entries.Entry.{Woken, Activated};

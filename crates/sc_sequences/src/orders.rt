@@ -1,5 +1,5 @@
 //! What accepted commands make of the cursors.
-ghost use Rattle.std.specs.Prelude.{◌≡◌, ◌<◌, ◌≤◌, ℕ, List, slice_set, drop};
+ghost use Rattle.std.specs.Prelude.{◌≡◌, ◌<◌, ◌≤◌, List, drop};
 ghost use Rattle.sc_tables.specs.Commands.{TimedCommand, commands_in};
 ghost use Rattle.sc_sequences.specs.Sequences.{Sequence, with_at, going_on, stopped, started_with, started_at, ats_place, rts_place, running_ats};
 ghost use Rattle.sc_sequences.specs.Orders.{where_placed, allowed, switched, jumped, obeyed};

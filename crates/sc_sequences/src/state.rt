@@ -1,5 +1,5 @@
 //! The state of Stored Command.
-ghost use Rattle.std.specs.Prelude.{◌≡◌, ℕ, true, List, [], ◌∷◌, ◌++◌};
+ghost use Rattle.std.specs.Prelude.{◌≡◌, true, List, [], ◌∷◌, ◌++◌};
 ghost use Rattle.histories.specs.Entries.Entry.{Woken};
 ghost use Rattle.sc_sequences.specs.Histories.{Input, ScEntry, Beginning, begun_at, sequences_of};
 ghost use Rattle.sc_sequences.specs.Step.{sc_items};

@@ -1,6 +1,6 @@
 //! Laws of the definitions, as contracts of functions that do nothing. The rows' bytes are written by hand from the layouts in docs/FILES.md.
 
-ghost use Rattle.std.specs.Prelude.{◌≡◌, ◌↔◌, ◌⊎◌, ℕ, ◌<◌, List, [], ◌∷◌, ◌++◌, map, length, replicate, take, true, Option, Some, None, Result, Ok, Err, nat_eq};
+ghost use Rattle.std.specs.Prelude.{◌≡◌, ◌↔◌, ◌⊎◌, ℕ, ◌<◌, List, [], ◌∷◌, ◌++◌, map, replicate, take, true, Some, None, Ok, nat_eq};
 ghost use Rattle.std.specs.List.{All, IsDistinct};
 ghost use Rattle.std.specs.List.Sorted.{IsPermutation};
 ghost use Rattle.table_files.specs.declared.fault.EntryFault.{EntryFault};

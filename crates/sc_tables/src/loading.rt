@@ -1,5 +1,5 @@
 //! The reading of sequences from their payloads.
-ghost use Rattle.std.specs.Prelude.{◌≡◌, ◌≤◌, ◌+◌, length, take, IfOk, IfErr, MatchResult, Some, None, Ok, Err, ⊤};
+ghost use Rattle.std.specs.Prelude.{◌≡◌, ◌≤◌, ◌+◌, length, take, IfOk, IfErr, MatchResult, Some, None, Ok, Err};
 ghost use Rattle.std.specs.List.Sorted.{IsPermutation, IsSortedBy};
 ghost use Rattle.sc_tables.specs.Reasons.{reason_number};
 ghost use Rattle.sc_tables.specs.Absolute.{stored_ats, ats_of, ats_fault_of};

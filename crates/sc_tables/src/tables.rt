@@ -1,5 +1,5 @@
 //! The tables of Stored Command.
-ghost use Rattle.std.specs.Prelude.{◌≡◌, ℕ, ◌+◌, ◌-◌, ◌<◌, ◌≤◌, length, map, slice_set, Some, IfSome, IfNone};
+ghost use Rattle.std.specs.Prelude.{◌≡◌, ◌+◌, ◌-◌, ◌<◌, ◌≤◌, length, map, slice_set, Some, IfSome, IfNone};
 ghost use Rattle.sc_tables.specs.Absolute.{ats_of, ats_fault_of};
 ghost use Rattle.sc_tables.specs.Relative.{rts_of, rts_fault_of};
 ghost use Rattle.sc_tables.specs.Commands.{of_timed, of_relative, AreTables, commands_in, command_at};

@@ -4,7 +4,7 @@ ghost use Rattle.std.specs.Prelude.{◌≡◌, ◌≤◌, ◌<◌, ◌+◌, ◌*
 ghost use Rattle.packet_forms.specs.MessageIds.{mm_command};
 ghost use Rattle.packet_forms.specs.Built.{command_of};
 ghost use Rattle.packet_forms.specs.Numbers.{be32_bytes};
-ghost use Rattle.scenario.specs.Drill.{drawn, upper, drawn_behind, draws_of, counter_line, upset_line, command_drawn, send_line, frame_lines, text_left, drill_header, drill_text};
+ghost use Rattle.scenario.specs.Drill.{drawn, upper, drawn_behind, draws_of, counter_line, upset_line, command_drawn, send_line, frame_lines, text_left, drill_text};
 
 use crate::line_buffer::{LINE_ROOM, LineBuffer};
 use itoa::Buffer;

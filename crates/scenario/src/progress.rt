@@ -1,5 +1,5 @@
 //! What the good lines so far come to, and what one more line is behind them.
-ghost use Rattle.std.specs.Prelude.{◌≡◌, ◌≤◌, ◌<◌, ◌+◌, ◌∷◌, [], true, false, if◌then◌else◌, is_none, ℕ, List, length, min, nat_lt, nat_le, ◌||◌, IfOk, Ok, Some, None};
+ghost use Rattle.std.specs.Prelude.{◌≡◌, ◌≤◌, ◌<◌, ◌+◌, ◌∷◌, [], true, false, if◌then◌else◌, is_none, ℕ, List, length, nat_lt, ◌||◌, IfOk, Ok, Some, None};
 
 use crate::frame::FrameInput;
 use crate::reason::Reason;

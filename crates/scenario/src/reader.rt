@@ -1,6 +1,6 @@
 //! The reader of a text that comes in pieces.
 ghost use Rattle.scenario.specs.Answers.{item_said};
-ghost use Rattle.std.specs.Prelude.{◌≡◌, ◌≤◌, ◌<◌, ◌+◌, ◌==◌, ◌++◌, ◌∷◌, [], ℕ, Bool, List, true, false, length, not, take, min, position, slice_index, IfOk, Some};
+ghost use Rattle.std.specs.Prelude.{◌≡◌, ◌≤◌, ◌<◌, ◌+◌, ◌==◌, ◌++◌, ◌∷◌, [], ℕ, List, true, false, length, not, take, min, position, slice_index, IfOk, Some};
 ghost use Rattle.std.specs.List.{prefix_len};
 
 use crate::frame::FrameInput;
@@ -94,7 +94,7 @@ fn item_of(said: &Option<Sentence>) -> Option<Item>
 
 impl Reader {
     ghost use Rattle.scenario.specs.Answers.{answer_at_end, end_answer, IsLast, IsItem};
-    ghost use Rattle.scenario.specs.Texts.{Text, Given, Head, Whole, Reading, Bad, reading};
+    ghost use Rattle.scenario.specs.Texts.{Text, Given, Head, Whole, Bad, reading};
     ghost use Rattle.scenario.specs.Reasons.{number_of};
     ghost use Rattle.scenario.specs.declared.reason.Reason.{Reason};
     ghost use Rattle.scenario.specs.Standing.{Stands, Waits, Shows, fed, closed, has_line, left, header_in, frame_in, is_finished, Passes};

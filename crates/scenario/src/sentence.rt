@@ -1,5 +1,5 @@
 //! What a line says by itself, where it stands.
-ghost use Rattle.std.specs.Prelude.{◌≡◌, ◌≤◌, ◌<◌, ◌∷◌, ℕ, List, [], length, take, IfOk, IfSome, Some, None, Ok, true};
+ghost use Rattle.std.specs.Prelude.{◌≡◌, ◌≤◌, ◌<◌, ℕ, List, [], length, take, IfOk, IfSome, Some, None, Ok, true};
 ghost use Rattle.scenario.specs.Words.{words};
 ghost use Rattle.scenario.specs.Sentences.{Gives, IsPlaced, IsOfVerb, as_said, verb_of, Begins, stands_at, none, one, two, three, number_or_bad, epoch_line, region_line, hex_said, send_line, app_line, upset_line, hold_line, activate_line, bare_line, sentence_of, line_says, packet_of, packet_said, verb_at};
 

@@ -1,7 +1,7 @@
 //! The words of a line, and what a word says.
-ghost use Rattle.std.specs.Prelude.{◌≡◌, ◌≤◌, ◌<◌, ◌+◌, ◌*◌, ◌%◌, ◌==◌, ◌∷◌, [], ℕ, Some, None, take, drop, length, not, option_map, MatchOption, IfSome, IsTrue, codes, nat_eq, ◌&&◌};
-ghost use Rattle.std.specs.List.{position, position_or_len, list_all, starts_with};
-ghost use Rattle.std.specs.Char.{is_digit, digit_value};
+ghost use Rattle.std.specs.Prelude.{◌≡◌, ◌≤◌, ◌<◌, ◌+◌, ◌*◌, ◌%◌, ◌==◌, ◌∷◌, [], Some, None, take, length, not, option_map, MatchOption, IfSome, IsTrue, codes, nat_eq};
+ghost use Rattle.std.specs.List.{position, position_or_len, starts_with};
+ghost use Rattle.std.specs.Char.{digit_value};
 ghost use Rattle.scenario.specs.Words.{words, digits, any_number, number, hex, name_said, app_of, kind_of};
 
 use crate::digit_lanes::{HALF_LANES, LANES, place_pairs};

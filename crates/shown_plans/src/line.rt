@@ -1,8 +1,8 @@
 //! A line of a scenario as a line of a plan.
-ghost use Rattle.std.specs.Prelude.{◌≡◌, ◌<◌, ◌≤◌, ◌+◌, ◌^◌, ◌++◌, ◌∷◌, [], OnOk, IfOk, true, Some};
+ghost use Rattle.std.specs.Prelude.{◌≡◌, ◌<◌, ◌≤◌, ◌+◌, ◌^◌, ◌++◌, ◌∷◌, OnOk, IfOk, true, Some};
 ghost use Rattle.row_forms.specs.Words.{words};
 ghost use Rattle.telecommands.specs.Commands.{are_good};
-ghost use Rattle.shown_plans.specs.Shown.{worded, packet_shown, bytes_shown, sent_shown, line_shown, heading, GivesLine};
+ghost use Rattle.shown_plans.specs.Shown.{worded, bytes_shown, sent_shown, line_shown, heading, GivesLine};
 
 use packet_forms::Packet;
 use plan_text::put_line;

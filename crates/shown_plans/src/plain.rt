@@ -1,7 +1,7 @@
 //! The lines of a scenario as a plan's scenario has them.
-ghost use Rattle.std.specs.Prelude.{◌≡◌, ◌<◌, ◌+◌, ◌^◌, ◌++◌, ◌∷◌, [], length, OnOk, IfOk, Some};
+ghost use Rattle.std.specs.Prelude.{◌≡◌, ◌<◌, ◌+◌, ◌^◌, ◌++◌, ◌∷◌, length, OnOk, IfOk, Some};
 ghost use Rattle.row_forms.specs.Words.{words};
-ghost use Rattle.shown_plans.specs.Shown.{plain_packet, plain_sent, plain_line, plain_words, plain_lines, plain_of};
+ghost use Rattle.shown_plans.specs.Shown.{plain_packet, plain_sent, plain_line, plain_words, plain_of};
 
 use plan_text::put_line;
 use row_forms::{push_hex, read_block, split_word};

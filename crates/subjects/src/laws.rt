@@ -1,7 +1,7 @@
 //! Laws of subjects and crowds, as contracts of functions that do nothing.
 
-ghost use Rattle.std.specs.Prelude.{◌≡◌, ◌<◌, ℕ, List, [], ◌∷◌, ◌++◌, map, Some, None};
-ghost use Rattle.subjects.specs.Plans.{Plan, Simulated, IsSimulated, cycled, restarted, starting, readings_ahead, steady_plan, hanging_plan, GoesRound};
+ghost use Rattle.std.specs.Prelude.{◌≡◌, ℕ, List, [], ◌∷◌, ◌++◌, map, Some, None};
+ghost use Rattle.subjects.specs.Plans.{Simulated, IsSimulated, cycled, restarted, starting, readings_ahead, steady_plan, hanging_plan, GoesRound};
 ghost use Rattle.subjects.specs.Crowds.{counter_of, all_cycled, with_restarted, without, all_restarted};
 ghost use Rattle.subjects.specs.Calls.{Call, after_call, after_calls, LeaveForGood};
 ghost use Rattle.subjects.specs.Faults.{plan_fault_of, plan_fault_number};

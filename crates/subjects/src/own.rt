@@ -1,6 +1,6 @@
 //! The simulated applications that a rehearsal is given by `--subjects`.
 
-ghost use Rattle.std.specs.Prelude.{◌≡◌, ◌≤◌, [], ◌∷◌, true, IfOk, map, codes, vec_len};
+ghost use Rattle.std.specs.Prelude.{◌≡◌, ◌≤◌, [], ◌∷◌, IfOk, map, codes, vec_len};
 ghost use Rattle.packet_forms.specs.Names.{is_name_text, name_of};
 ghost use Rattle.subjects.specs.Plans.{starting};
 ghost use Rattle.subjects.specs.Own.{seen_own, own_subjects};

@@ -1,5 +1,5 @@
 -- Lemmas on the bytes of a table's file: they are made again of its parts, and its parts stand in them.
-use Rattle.std.proofs.Common.{◌≡◌, ℕ, zero, suc, ◌+◌, ◌-◌, ◌<◌, ◌≤◌, true, false, List, [], ◌∷◌, ◌++◌, length, take, drop, get_or, Some, None, refl, ap, sym, ◌∙◌, arith, length-take, length-drop, length-append, append_assoc}
+use Rattle.std.proofs.Common.{◌≡◌, ℕ, zero, suc, ◌+◌, ◌-◌, ◌<◌, ◌≤◌, false, List, [], ◌∷◌, ◌++◌, length, take, drop, get_or, Some, None, refl, ap, sym, ◌∙◌, arith, length-take, length-drop, length-append, append_assoc}
 use Rattle.std.proofs.Math.Seq.{take-append_seam, drop-append_seam, drop-append-add}
 use Rattle.std.proofs.lemmas.List.{take-append-drop, drop-drop, get_or-drop}
 use Rattle.std.specs.List.{AllByRecursion}
@@ -9,7 +9,7 @@ use Rattle.row_forms.proofs.SpellingLemmas.{number_is}
 use Rattle.row_forms.proofs.BackLemmas.{all_drop}
 use Rattle.table_files.specs.declared.kinds.TableKind.{TableKind}
 use Rattle.table_files.specs.Kinds.{IsKnown, named_kind}
-use Rattle.table_files.specs.Headers.{content_type, subtype, table_offset, table_size, table_name, file_fault_of, is_load, kind_of_file, payload_of_file, IsTableOf}
+use Rattle.table_files.specs.Headers.{content_type, subtype, table_offset, table_size, table_name, file_fault_of, is_load, kind_of_file, IsTableOf}
 use Rattle.table_files.proofs.Accepted.{kind_named}
 use Rattle.table_forms.specs.Names.{name_field}
 use Rattle.table_forms.specs.Headers.{in_file, header_of, table_file}

@@ -1,7 +1,6 @@
 -- Lemmas on the bytes of files.
-use Rattle.std.proofs.Common.{IsTrue, ◌↔◌, ◌≡◌, ℕ, ◌+◌, ◌-◌, ◌<◌, ◌≤◌, Bool, true, false, List, [], ◌∷◌, ◌++◌, length, take, drop, Some, refl, ap, sym, ◌∙◌, arith, length-drop}
+use Rattle.std.proofs.Common.{IsTrue, ◌≡◌, ℕ, ◌-◌, ◌≤◌, Bool, true, false, List, length, drop, Some, refl, arith, length-drop}
 use Rattle.table_files.specs.declared.kinds.TableKind.{TableKind}
-use Rattle.table_files.specs.Kinds.{fits_kind}
 use Rattle.table_files.specs.Headers.{kind_of_file, IsTableOf}
 use Rattle.table_files.proofs.Accepted.{kind_has_headers}
 use Rattle.table_forms.specs.declared.layouts.Layouts.{Layouts}

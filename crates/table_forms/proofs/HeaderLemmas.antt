@@ -1,6 +1,6 @@
 -- Lemmas on the words of headers.
-use Rattle.std.proofs.Common.{◌≡◌, ℕ, ◌+◌, ◌-◌, ◌<◌, ◌≤◌, true, false, List, [], ◌∷◌, ◌++◌, length, take, drop, refl, ap, sym, ◌∙◌, arith, None, length-take, length-drop, length-append}
-use Rattle.std.specs.Prelude.{◌==◌, nat_le, ◌&&◌, replicate, Result, Ok, Err}
+use Rattle.std.proofs.Common.{◌≡◌, ℕ, ◌+◌, ◌-◌, ◌≤◌, true, false, List, [], ◌∷◌, ◌++◌, length, take, drop, refl, ap, sym, ◌∙◌, arith, None, length-take, length-drop, length-append}
+use Rattle.std.specs.Prelude.{◌==◌, nat_le, replicate, Result, Ok, Err}
 use Rattle.std.proofs.Math.Seq.{drop-length}
 use Rattle.std.proofs.lemmas.Bool.Decides.{nat_tests}
 use Rattle.row_forms.specs.declared.field.Field.{Field}
@@ -19,7 +19,7 @@ use Rattle.table_forms.specs.declared.fault.TableFault.TheVariants as faults
 use Rattle.table_forms.specs.declared.fault.ReadError.{ReadError}
 use Rattle.table_forms.specs.Layouts.{is_open, shows_all}
 use Rattle.table_forms.specs.Headers.{whole_header, header_said, header_of}
-use Rattle.table_forms.specs.Payloads.{row_error, row_refused, GivesTable}
+use Rattle.table_forms.specs.Payloads.{row_error, GivesTable}
 use Rattle.table_forms.proofs.PayloadLemmas.{open_is, row_fault_is}
 
 pub header_none : (fs : List Field) (n : ℕ) (ws : List (List ℕ)) → ws ≡ [] → header_said fs n ws ≡ Ok (replicate 60 0)

@@ -1,5 +1,5 @@
 -- Lemmas on what readers say of a file.
-use Rattle.std.proofs.Common.{◌≡◌, ℕ, List, Option, Some, None, refl}
+use Rattle.std.proofs.Common.{◌≡◌, ℕ, List, Some, None, refl}
 use Rattle.table_files.specs.declared.fault.EntryFault.{EntryFault}
 use Rattle.table_files.specs.declared.fault.FileFault.{FileFault}
 use Rattle.table_files.specs.declared.kinds.TableKind.{TableKind}

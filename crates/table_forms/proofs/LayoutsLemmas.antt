@@ -1,6 +1,6 @@
 -- Lemmas on the layouts of tables.
 use Rattle.std.proofs.Common.{◌≡◌, ℕ, ◌*◌, true, arith, sym, ◌∙◌}
-use Rattle.std.specs.Prelude.{◌==◌, ◌&&◌}
+use Rattle.std.specs.Prelude.{◌==◌}
 use Rattle.std.proofs.lemmas.Bool.Decides.{nat_tests}
 use Rattle.row_forms.proofs.TextLemmas.{and_both}
 use Rattle.table_files.specs.declared.kinds.TableKind.{TableKind}

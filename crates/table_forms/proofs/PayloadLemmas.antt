@@ -1,6 +1,6 @@
 -- Lemmas on heads, and on what stands behind them.
 use Rattle.std.proofs.Common.{◌≡◌, ℕ, ◌+◌, ◌<◌, true, false, List, [], ◌∷◌, ◌++◌, length, refl, ap, sym, ◌∙◌, arith, append_assoc}
-use Rattle.std.specs.Prelude.{◌==◌, nat_lt, ◌&&◌, Result, Ok, Err, codes}
+use Rattle.std.specs.Prelude.{nat_lt, Result, Ok, Err, codes}
 use Rattle.std.proofs.lemmas.Bool.Decides.{nat_tests}
 use Rattle.row_forms.specs.declared.field.Field.{Field}
 use Rattle.row_forms.specs.declared.fault.RowFault.{RowFault}

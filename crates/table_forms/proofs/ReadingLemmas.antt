@@ -1,13 +1,13 @@
 -- Lemmas on the first lines of texts.
-use Rattle.std.proofs.Common.{◌≡◌, ℕ, true, false, List, [], ◌∷◌, Option, Some, None, refl, sym, ap, ◌∙◌}
-use Rattle.std.specs.Prelude.{codes, Result, Ok, Err}
+use Rattle.std.proofs.Common.{◌≡◌, ℕ, true, false, List, [], ◌∷◌, Option, refl, sym, ap, ◌∙◌}
+use Rattle.std.specs.Prelude.{codes, Err}
 use Rattle.table_files.specs.declared.kinds.TableKind.{TableKind}
 use Rattle.table_texts.specs.Lines.{Numbered}
 use Rattle.table_texts.specs.Endings.{behind_first}
 use Rattle.table_forms.specs.declared.fault.TableFault.TheVariants as faults
 use Rattle.table_forms.specs.Names.{kind_said}
 use Rattle.table_forms.specs.Payloads.{begins}
-use Rattle.table_forms.specs.Reading.{First, named_first, kind_first, first_said}
+use Rattle.table_forms.specs.Reading.{named_first, kind_first, first_said}
 
 pub first_none : (lines : List Numbered) → lines ≡ [] → first_said lines ≡ Err (faults.Table 1)
 unfolding first_said

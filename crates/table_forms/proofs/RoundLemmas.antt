@@ -1,6 +1,6 @@
 -- Lemmas on files that are shown and read back.
-use Rattle.std.proofs.Common.{◌≡◌, ℕ, ◌+◌, ◌-◌, ◌*◌, ◌<◌, ◌≤◌, Bool, true, false, List, [], ◌∷◌, ◌++◌, length, take, drop, Option, Some, None, refl, ap, sym, ◌∙◌, arith, append_assoc, length-take, length-drop, replicate}
-use Rattle.std.specs.Prelude.{codes, ◌==◌, nat_lt, Result, Ok, Err}
+use Rattle.std.proofs.Common.{◌≡◌, ℕ, ◌+◌, ◌-◌, ◌*◌, ◌<◌, Bool, true, false, List, [], ◌∷◌, ◌++◌, length, take, drop, Option, Some, None, refl, ap, sym, ◌∙◌, arith, append_assoc, length-take, length-drop, replicate}
+use Rattle.std.specs.Prelude.{codes, ◌==◌, Result, Ok}
 use Rattle.std.specs.List.{AllByRecursion, list_all}
 use Rattle.std.proofs.lemmas.Bool.Decides.{nat_tests}
 use Rattle.std.proofs.lemmas.List.{take-append-drop}
@@ -8,22 +8,21 @@ use Rattle.row_forms.specs.declared.field.Field.{Field}
 use Rattle.row_forms.specs.declared.field.Field.TheVariants.{Value, Zeros, Check}
 use Rattle.row_forms.specs.declared.fault.RowFault.{RowFault}
 use Rattle.row_forms.specs.Values.{width, value_shown}
-use Rattle.row_forms.specs.Rows.{row_said, row_words, row_shown, word_shown, spaced}
+use Rattle.row_forms.specs.Rows.{row_said, row_words, word_shown, spaced}
 use Rattle.row_forms.proofs.TextLemmas.{all_append, IsWord, spaced_nil, spaced_cons}
 use Rattle.row_forms.proofs.BackLemmas.{zeros_are, all_drop, row_back, row_words_are, key_plain}
 use Rattle.telecommands.specs.Commands.{are_good, are_distinct}
 use Rattle.table_files.specs.declared.kinds.TableKind.{TableKind}
 use Rattle.table_files.specs.Kinds.{IsKnown}
-use Rattle.table_files.specs.Headers.{kind_of_file, IsTableOf}
+use Rattle.table_files.specs.Headers.{kind_of_file}
 use Rattle.table_files.proofs.Accepted.{no_fault}
-use Rattle.table_forms.specs.Judging.{refusal_of, unless_refused, judged, IsTaken}
+use Rattle.table_forms.specs.Judging.{unless_refused, judged, IsTaken}
 use Rattle.table_forms.proofs.JudgingLemmas.{table_taken}
 use Rattle.table_files.proofs.Accepted.{kind_known}
 use Rattle.table_texts.specs.declared.layout.Layout.{Layout}
-use Rattle.table_texts.specs.Lines.{Numbered, kept_of}
-use Rattle.table_texts.specs.Entries.{is_layout, entries_said}
+use Rattle.table_texts.specs.Lines.{kept_of}
+use Rattle.table_texts.specs.Entries.{is_layout}
 use Rattle.table_texts.specs.Shown.{entries_shown}
-use Rattle.table_texts.specs.Sequences.{payload_shown}
 use Rattle.table_texts.proofs.BackLemmas.{kept_line, entries_back}
 use Rattle.table_texts.proofs.SequenceBackLemmas as sequences
 use Rattle.table_forms.specs.declared.fault.TableFault.{TableFault}
@@ -31,15 +30,15 @@ use Rattle.table_forms.specs.declared.forms.TextForms.{TextForms}
 use Rattle.table_forms.specs.declared.layouts.PayloadForm.{PayloadForm}
 use Rattle.table_forms.specs.declared.layouts.PayloadForm.TheVariants.{Entries, Headed, Sequence}
 use Rattle.table_forms.specs.Headers.{whole_header, header_said, header_of, header_shown, table_file}
-use Rattle.table_forms.specs.Layouts.{form_of, is_open, shows_all, are_layouts}
+use Rattle.table_forms.specs.Layouts.{form_of, shows_all, are_layouts}
 use Rattle.table_forms.specs.Names.{name_of}
 use Rattle.table_forms.specs.Payloads.{is_form, as_table, entries_by, head_then, headed_said, payload_said, payload_text, FitsForm}
-use Rattle.table_forms.specs.Reading.{First, first_said, filed, first_filed, file_said, table_said, file_text}
+use Rattle.table_forms.specs.Reading.{filed, first_filed, file_said, table_said, file_text}
 use Rattle.table_forms.proofs.BytesLemmas.{all_take, file_back}
 use Rattle.table_forms.proofs.FileLemmas.{headers_are, payload_fits}
 use Rattle.table_forms.proofs.HeaderLemmas.{open_row, header_none, header_row, header_long, whole_ok}
 use Rattle.table_forms.proofs.KnownLemmas.{name_said, name_marks, name_some}
-use Rattle.table_forms.proofs.LayoutsLemmas.{AreLayouts, layouts_are, form_is}
+use Rattle.table_forms.proofs.LayoutsLemmas.{layouts_are, form_is}
 use Rattle.table_forms.proofs.PayloadLemmas.{IsOpen, open_is, headed_row}
 use Rattle.table_forms.proofs.ReadingLemmas.{first_kind}
 

@@ -1,8 +1,7 @@
 -- Lemmas on files that texts say, and that are taken.
-use Rattle.std.proofs.Common.{◌≡◌, ℕ, ◌+◌, Bool, true, false, List, [], ◌∷◌, length, Option, Some, None, refl, ap, sym, subst, ◌∙◌, arith, replicate}
+use Rattle.std.proofs.Common.{◌≡◌, ℕ, ◌+◌, Bool, true, false, List, [], ◌∷◌, length, Option, Some, None, refl, ap, sym, ◌∙◌, arith, replicate}
 use Rattle.std.specs.Prelude.{codes, ◌==◌, Result, Ok, Err}
 use Rattle.std.proofs.lemmas.Bool.Decides.{nat_tests}
-use Rattle.std.proofs.lemmas.List.{length-replicate}
 use Rattle.row_forms.specs.declared.field.Field.{Field}
 use Rattle.row_forms.specs.declared.fault.RowFault.{RowFault}
 use Rattle.row_forms.specs.Rows.{row_said}
@@ -16,7 +15,7 @@ use Rattle.table_texts.specs.Endings.{behind_first}
 use Rattle.table_forms.specs.declared.fault.TableFault.{TableFault}
 use Rattle.table_forms.specs.declared.forms.TextForms.{TextForms}
 use Rattle.table_forms.specs.Headers.{whole_header, header_said, table_file}
-use Rattle.table_forms.specs.Judging.{entry_fault_of, entry_refusal, kind_refusal, refusal_by, refusal_of, unless_refused, judged, IsTaken}
+use Rattle.table_forms.specs.Judging.{entry_fault_of, entry_refusal, kind_refusal, refusal_by, refusal_of, unless_refused, judged}
 use Rattle.table_forms.specs.Layouts.{form_of}
 use Rattle.table_forms.specs.Names.{kind_said}
 use Rattle.table_forms.specs.Payloads.{begins, payload_said}

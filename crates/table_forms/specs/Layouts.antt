@@ -1,5 +1,5 @@
 -- The layouts of all kinds of tables, as docs/FILES.md tells them.
-use Rattle.std.specs.Prelude.{ℕ, ◌+◌, ◌*◌, ◌-◌, ◌==◌, Bool, true, false, ◌&&◌, nat_le, nat_lt, List, [], ◌∷◌, length, map, codes}
+use Rattle.std.specs.Prelude.{ℕ, ◌*◌, ◌-◌, ◌==◌, Bool, false, ◌&&◌, nat_le, nat_lt, List, [], ◌∷◌, length, map, codes}
 use Rattle.std.proofs.Common.{Bor}
 use Rattle.row_forms.specs.declared.field.Choice.{Choice}
 use Rattle.row_forms.specs.declared.field.Field.{Field}
@@ -8,7 +8,7 @@ use Rattle.row_forms.specs.declared.field.Kind.{Kind}
 use Rattle.row_forms.specs.declared.field.Kind.TheVariants.{Number, Name, Block, Expression}
 use Rattle.row_forms.specs.declared.field.Spelling.{Spelling}
 use Rattle.row_forms.specs.declared.field.Spelling.TheVariants as spellings
-use Rattle.row_forms.specs.declared.field.Width.TheVariants.{U8, U16, U32}
+use Rattle.row_forms.specs.declared.field.Width.TheVariants.{U16, U32}
 use Rattle.row_forms.specs.Numbers.{bytes_of}
 use Rattle.row_forms.specs.Rows.{are_fields}
 use Rattle.row_forms.specs.Worked.{text_at, choice_of, choices_at, field}

@@ -1,6 +1,6 @@
 -- Files of tables, as their texts say them.
 use Rattle.std.specs.Prelude.{◌≡◌, ℕ, ◌+◌, if◌then◌else◌, List, [], ◌∷◌, ◌++◌, drop, codes, Option, Some, None, Result, Ok, Err}
-use Rattle.std.proofs.Common.{Bor, Vec, Global}
+use Rattle.std.proofs.Common.{Vec, Global}
 use Rattle.row_forms.specs.Words.{words}
 use Rattle.table_files.specs.declared.kinds.TableKind.{TableKind}
 use Rattle.table_texts.specs.Lines.{Numbered, kept_of}

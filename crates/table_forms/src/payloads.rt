@@ -1,5 +1,5 @@
 //! The payloads of tables, as their texts say them.
-ghost use Rattle.std.specs.Prelude.{◌≡◌, ◌<◌, ◌+◌, ◌*◌, ◌^◌, ◌++◌, true, false, length, OnOk, MatchOption};
+ghost use Rattle.std.specs.Prelude.{◌≡◌, ◌<◌, ◌+◌, ◌^◌, true, false, length, MatchOption};
 ghost use Rattle.row_forms.specs.Words.{words};
 ghost use Rattle.row_forms.specs.Rows.{with_front};
 ghost use Rattle.table_texts.specs.Lines.{kept_of};

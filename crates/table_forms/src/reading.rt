@@ -1,5 +1,5 @@
 //! Files of tables that are read from text.
-ghost use Rattle.std.specs.Prelude.{◌≡◌, ◌<◌, ◌≤◌, ◌+◌, ◌^◌, [], true, length, IfOk, Ok};
+ghost use Rattle.std.specs.Prelude.{◌≡◌, ◌<◌, ◌+◌, ◌^◌, [], true, length, IfOk, Ok};
 ghost use Rattle.table_files.specs.Kinds.{IsKnown};
 ghost use Rattle.telecommands.specs.Commands.{are_good};
 ghost use Rattle.table_texts.specs.Lines.{kept_of};

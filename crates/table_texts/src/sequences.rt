@@ -1,5 +1,5 @@
 //! Sequences of commands that are read from text.
-ghost use Rattle.std.specs.Prelude.{◌≡◌, ◌<◌, ◌≤◌, ◌+◌, ◌^◌, true, ℕ, List, [], length};
+ghost use Rattle.std.specs.Prelude.{◌≡◌, ◌<◌, ◌+◌, ◌^◌, true, ℕ, List, [], length};
 ghost use Rattle.row_forms.specs.Words.{words};
 ghost use Rattle.row_forms.specs.Rows.{with_front};
 ghost use Rattle.telecommands.specs.Commands.{are_good};

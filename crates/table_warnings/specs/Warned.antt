@@ -1,5 +1,5 @@
 -- The warnings of a table that no scenario is needed for, in the order of its entries.
-use Rattle.std.specs.Prelude.{ℕ, ◌+◌, ◌-◌, ◌*◌, ◌^◌, ◌==◌, Bool, false, not, ◌&&◌, nat_lt, if◌then◌else◌, List, [], ◌∷◌, ◌++◌, length, map, take, find, min, sum_by, filter_map, flat_map, slice_index_or, Option, Some, None, option_map}
+use Rattle.std.specs.Prelude.{ℕ, ◌+◌, ◌-◌, ◌*◌, Bool, false, not, ◌&&◌, nat_lt, if◌then◌else◌, List, [], ◌∷◌, ◌++◌, length, map, take, find, min, sum_by, filter_map, flat_map, slice_index_or, Option, Some, None, option_map}
 use Rattle.std.specs.List.{range_with_len}
 use Rattle.packet_forms.specs.Numbers.{be16_at}
 use Rattle.table_files.specs.declared.kinds.TableKind.{TableKind}

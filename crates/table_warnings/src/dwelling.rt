@@ -1,5 +1,5 @@
 //! The list of a dwell table.
-ghost use Rattle.std.specs.Prelude.{◌≡◌, ◌<◌, ◌≤◌, ◌+◌, ◌*◌, length};
+ghost use Rattle.std.specs.Prelude.{◌≡◌, ◌≤◌, ◌+◌, ◌*◌, length};
 ghost use Rattle.table_warnings.specs.Dwelling.{delays_from, has_no_delay};
 
 use packet_forms::be16;

@@ -1,5 +1,5 @@
 //! Entries of checksum tables whose bytes lie over two regions of memory.
-ghost use Rattle.std.specs.Prelude.{◌≡◌, ◌<◌, ◌≤◌, ◌+◌, ◌*◌, length, filter_map, IfOk};
+ghost use Rattle.std.specs.Prelude.{◌≡◌, ◌<◌, ◌+◌, ◌*◌, length, filter_map, IfOk};
 ghost use Rattle.std.specs.List.{list_any, range_with_len};
 ghost use Rattle.memory_window.specs.Regions.{spans};
 ghost use Rattle.table_files.specs.Kinds.{IsTable};

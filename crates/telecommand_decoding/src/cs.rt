@@ -1,5 +1,5 @@
 //! What Checksum makes of its commands' words.
-ghost use Rattle.std.specs.Prelude.{◌≡◌, ℕ, List, [], ◌∷◌, Option, Ok, true, false, map, codes, slice_index};
+ghost use Rattle.std.specs.Prelude.{◌≡◌, ℕ, [], ◌∷◌, Option, Ok, true, false, map, codes, slice_index};
 ghost use Rattle.packet_forms.specs.Built.{command_of};
 ghost use Rattle.packet_forms.specs.MessageIds.{cs_command, cs_request};
 ghost use Rattle.cs_slices.specs.Messages.{cs_codes};

@@ -1,5 +1,5 @@
 //! What Health and Safety makes of its commands' words.
-ghost use Rattle.std.specs.Prelude.{◌≡◌, ℕ, List, [], ◌∷◌, Option, Ok, true, false, map, codes, slice_index};
+ghost use Rattle.std.specs.Prelude.{◌≡◌, ℕ, [], ◌∷◌, Option, Ok, true, false, map, codes, slice_index};
 ghost use Rattle.packet_forms.specs.Built.{command_of};
 ghost use Rattle.packet_forms.specs.MessageIds.{hs_command, hs_request};
 ghost use Rattle.hs_monitors.specs.Messages.{hs_codes};

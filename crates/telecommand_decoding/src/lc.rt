@@ -1,5 +1,5 @@
 //! What Limit Checker makes of its commands' words.
-ghost use Rattle.std.specs.Prelude.{◌≡◌, ℕ, List, [], ◌∷◌, Option, Ok, true, false, map, codes, slice_index};
+ghost use Rattle.std.specs.Prelude.{◌≡◌, ℕ, [], ◌∷◌, Option, Ok, true, false, map, codes, slice_index};
 ghost use Rattle.packet_forms.specs.Built.{command_of};
 ghost use Rattle.packet_forms.specs.MessageIds.{lc_command, lc_request};
 ghost use Rattle.lc_watch.specs.Messages.{lc_codes};

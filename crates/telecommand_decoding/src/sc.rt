@@ -1,5 +1,5 @@
 //! What Stored Command makes of its commands' words.
-ghost use Rattle.std.specs.Prelude.{◌≡◌, ℕ, List, [], ◌∷◌, Option, Ok, true, false, map, codes, slice_index};
+ghost use Rattle.std.specs.Prelude.{◌≡◌, ℕ, [], ◌∷◌, Option, Ok, map, codes, slice_index};
 ghost use Rattle.packet_forms.specs.Built.{command_of};
 ghost use Rattle.packet_forms.specs.MessageIds.{sc_command, sc_request};
 ghost use Rattle.sc_sequences.specs.Messages.{sc_codes};

@@ -1,5 +1,5 @@
 //! The telemetry of Checksum.
-ghost use Rattle.std.specs.Prelude.{◌≡◌, ◌<◌, ◌^◌, ℕ, Bool, [], ◌∷◌, codes, None, Some};
+ghost use Rattle.std.specs.Prelude.{◌<◌, ◌^◌, ℕ, Bool, [], ◌∷◌, codes, None, Some};
 ghost use Rattle.bus_pipes.specs.declared.names.Counts.{Counts};
 ghost use Rattle.cs_slices.specs.Answers.{baseline_packet};
 ghost use Rattle.cs_slices.specs.Housekeeping.{flags_of, housekeeping_of};

@@ -1,5 +1,5 @@
 //! The telemetry of Limit Checker.
-ghost use Rattle.std.specs.Prelude.{◌≡◌, ◌<◌, ◌^◌, ◌/◌, ◌%◌, ℕ, [], ◌∷◌, codes};
+ghost use Rattle.std.specs.Prelude.{◌<◌, ◌^◌, ◌/◌, ◌%◌, ℕ, [], ◌∷◌, codes};
 ghost use Rattle.bus_pipes.specs.declared.names.Counts.{Counts};
 ghost use Rattle.lc_watch.specs.Housekeeping.{housekeeping_of};
 ghost use Rattle.telemetry_making.specs.Making.{AreCounts, Shows};

@@ -1,9 +1,9 @@
 //! The telemetry of Memory Dwell.
-ghost use Rattle.std.specs.Prelude.{◌≡◌, ◌<◌, ◌≤◌, ◌++◌, ℕ, List, [], ◌∷◌, codes, length};
+ghost use Rattle.std.specs.Prelude.{◌<◌, ◌≤◌, ◌++◌, ℕ, List, [], ◌∷◌, codes, length};
 ghost use Rattle.std.specs.List.{AllByRecursion};
 ghost use Rattle.packet_forms.specs.Hex.{hex};
 ghost use Rattle.bus_pipes.specs.declared.names.Counts.{Counts};
-ghost use Rattle.md_dwell.specs.Housekeeping.{enabled_bits, housekeeping_of};
+ghost use Rattle.md_dwell.specs.Housekeeping.{housekeeping_of};
 ghost use Rattle.md_dwell.specs.Answers.{dwell_packet};
 ghost use Rattle.telemetry_making.specs.Making.{AreCounts, EndsIn, Shows};
 

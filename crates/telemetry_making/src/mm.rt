@@ -1,5 +1,5 @@
 //! The telemetry of Memory Manager.
-ghost use Rattle.std.specs.Prelude.{◌≡◌, ◌<◌, ◌≤◌, ◌^◌, ◌++◌, ℕ, List, [], ◌∷◌, codes, length};
+ghost use Rattle.std.specs.Prelude.{◌<◌, ◌≤◌, ◌^◌, ◌++◌, ℕ, List, [], ◌∷◌, codes, length};
 ghost use Rattle.std.specs.List.{AllByRecursion};
 ghost use Rattle.packet_forms.specs.Hex.{hex};
 ghost use Rattle.bus_pipes.specs.declared.names.Counts.{Counts};

@@ -1,5 +1,5 @@
 //! The telemetry of Stored Command.
-ghost use Rattle.std.specs.Prelude.{◌≡◌, ◌<◌, ◌^◌, ◌/◌, ◌%◌, ℕ, [], ◌∷◌, codes, length};
+ghost use Rattle.std.specs.Prelude.{◌≡◌, ◌<◌, ◌^◌, ◌/◌, ◌%◌, [], ◌∷◌, codes, length};
 ghost use Rattle.bus_pipes.specs.declared.names.Counts.{Counts};
 ghost use Rattle.sc_sequences.specs.Housekeeping.{enabled_mask, housekeeping_of, left_in, report_of, running_mask, shown_ats};
 ghost use Rattle.sc_sequences.specs.Sequences.{running_ats};

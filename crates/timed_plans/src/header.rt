@@ -1,5 +1,5 @@
 //! Lines of the header.
-ghost use Rattle.std.specs.Prelude.{◌≡◌, ◌∷◌, Some};
+ghost use Rattle.std.specs.Prelude.{◌∷◌, Some};
 ghost use Rattle.row_forms.specs.Words.{words};
 ghost use Rattle.timed_plans.specs.Schedules.{held_in};
 ghost use Rattle.timed_plans.specs.Plans.{scheduled, passed, epoch_line, start_line, opening_line, header_line, GivesStage};

@@ -1,5 +1,5 @@
 //! Lines of frames.
-ghost use Rattle.std.specs.Prelude.{◌≡◌, ◌<◌, ◌≤◌, ◌∷◌, ◌++◌, [], ℕ, List, true, Ok, Err, MatchResult};
+ghost use Rattle.std.specs.Prelude.{◌≡◌, ◌<◌, ◌≤◌, ◌∷◌, ℕ, List, true, Ok, Err, MatchResult};
 ghost use Rattle.plan_text.specs.declared.fault.LineError.TheVariants as line_errors;
 ghost use Rattle.row_forms.specs.Words.{words};
 ghost use Rattle.telecommands.specs.Commands.{are_good};

@@ -1,7 +1,7 @@
 //! The lines of the scenario, as its text.
 ghost use Rattle.std.specs.Prelude.{◌≡◌, ◌+◌, ◌++◌, ◌∷◌, [], OnOk, replicate};
 ghost use Rattle.timed_plans.specs.Schedules.{held_in};
-ghost use Rattle.timed_plans.specs.Pages.{written_on, with_rows, row, row_of, rows_of, tick_row, end_row, merged};
+ghost use Rattle.timed_plans.specs.Pages.{written_on, with_rows, row, rows_of, tick_row, end_row, merged};
 
 use crate::scheduled::ScheduledLine;
 use std::alloc::{AllocError, Global};

@@ -1,11 +1,9 @@
 //! A plan's text.
-ghost use Rattle.std.specs.Prelude.{◌≡◌, ◌<◌, ◌+◌, ◌^◌, ◌∷◌, [], length, true};
+ghost use Rattle.std.specs.Prelude.{◌≡◌, ◌<◌, ◌+◌, ◌^◌, ◌∷◌, length, true};
 ghost use Rattle.row_forms.specs.Words.{words};
 ghost use Rattle.telecommands.specs.Commands.{are_good};
-ghost use Rattle.table_texts.specs.Lines.{kept_of};
 ghost use Rattle.timed_plans.specs.Plans.{schedule_said, finished};
 ghost use Rattle.timed_plans.specs.Checks.{scenario_said};
-ghost use Rattle.timed_plans.specs.Pages.{written_on};
 ghost use Rattle.timed_plans.specs.Drafts.{shown_of, GivesRead, GivesDraft, GivesEnd, GivesSchedule, Writes, GivesText};
 
 use crate::check::check_page;

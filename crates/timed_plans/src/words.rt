@@ -1,7 +1,7 @@
 //! Words of lines.
-ghost use Rattle.std.specs.Prelude.{◌≡◌, ◌<◌, ◌≤◌, IfSome, MatchOption, ◌∷◌, []};
+ghost use Rattle.std.specs.Prelude.{◌≡◌, ◌<◌, ◌≤◌, IfSome, MatchOption};
 ghost use Rattle.row_forms.specs.Words.{words, number};
-ghost use Rattle.timed_plans.specs.Plans.{before_s, period_said, period_in, positive, held_for};
+ghost use Rattle.timed_plans.specs.Plans.{before_s, period_said, positive, held_for};
 
 use packet_forms::front;
 use row_forms::{number, split_word};

@@ -1,7 +1,4 @@
-use Rattle.std.proofs.Common.{◌≡◌, ◌∙◌, ◌++◌, ◌∷◌, [], List, ap, sym, true, false, ne_eqb, eq-eqb, ℕ}
-use Rattle.bus_pipes.specs.Held.{adding}
-use Rattle.bus_pipes.specs.declared.names.Out.TheVariants.{Made}
-use Rattle.packet_forms.specs.Built.{event_of}
+use Rattle.std.proofs.Common.{◌≡◌, ◌∙◌, ◌++◌, ◌∷◌, [], List, ap, sym, true, false, ne_eqb, eq-eqb}
 use Rattle.packet_forms.specs.Crc.{crc_of}
 use Rattle.memory_window.specs.Window.{seen}
 use Rattle.cs_slices.specs.Tables.{pair_of, entry_in}

@@ -1,4 +1,3 @@
-use Rattle.input_words.specs.Counters.{counters_told}
 use Rattle.ground_tools.proofs.Appending.{appends_none}
 use Rattle.ground_tools.proofs.scenario_tellers.tell_counters.Goals as goal
 

@@ -4,7 +4,6 @@ use Rattle.lc_watch.specs.Failing.{fires_by, by_firing, PointStands}
 use Rattle.lc_watch.proofs.Both.{off_by_not, on_by_not}
 use Rattle.lc_watch.proofs.Evaluating.{evaluated_used}
 use Rattle.lc_watch.proofs.points.serve.Goals as goal
-use Rattle.lc_watch.proofs.points.serve.Goals.{After-judge-judged}
 
 pub judge-judged-requires : goal.judge-judged-requires
 judge-judged-requires c = λ fails is. (c.requires.able (evaluated_used _ c.args.row.now fails (sym c.evaluation.ensures ∙ is))).failures

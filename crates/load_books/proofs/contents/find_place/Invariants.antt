@@ -1,4 +1,4 @@
-use Rattle.std.proofs.Common.{◌≡◌, ◌+◌, ◌≤◌, length, drop, map}
+use Rattle.std.proofs.Common.{◌≡◌, ◌+◌, ◌≤◌, drop, map}
 use Rattle.load_books.specs.Contents.{place_of, file_text}
 use Rattle.load_books.proofs.contents.find_place.Given as goal
 

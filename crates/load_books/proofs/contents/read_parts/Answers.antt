@@ -1,6 +1,6 @@
-use Rattle.std.proofs.Common.{◌∙◌, sym, ap}
+use Rattle.std.proofs.Common.{◌∙◌, ap}
 use Rattle.load_books.specs.Cuts.{parts_from}
-use Rattle.load_books.specs.Contents.{held_by, all_added, GivesParts}
+use Rattle.load_books.specs.Contents.{held_by, all_added}
 use Rattle.load_books.proofs.ContentsLemmas.{part_follows, part_fails, none_added, short_behind}
 use Rattle.load_books.proofs.contents.read_parts.Goals as goal
 

@@ -1,5 +1,4 @@
-use Rattle.std.proofs.Common.{sym, ap, ◌∙◌, take}
-use Rattle.load_books.specs.Cuts.{whole_lines, bare}
+use Rattle.std.proofs.Common.{sym}
 use Rattle.load_books.proofs.CutLemmas.{line_found, bare_found, line_alone, bare_alone}
 use Rattle.load_books.proofs.cuts.split_line.Goals as goal
 

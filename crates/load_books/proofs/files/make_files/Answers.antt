@@ -1,5 +1,5 @@
 use Rattle.std.proofs.Common.{◌∙◌, refl}
-use Rattle.load_books.proofs.FilesLemmas.{files_begin, file_follows, file_refused, files_end, accepted_more}
+use Rattle.load_books.proofs.FilesLemmas.{file_follows, file_refused, files_end, accepted_more}
 use Rattle.load_books.proofs.files.make_files.Goals as goal
 
 pub returns-in-Err-clause-said : goal.returns-in-Err-clause-said

@@ -1,4 +1,4 @@
-use Rattle.std.proofs.Common.{arith, ◌∙◌, sym}
+use Rattle.std.proofs.Common.{arith}
 use Rattle.std.proofs.lemmas.Bool.Decides.{nat_tests}
 use Rattle.table_forms.proofs.PayloadLemmas.{open_is}
 use Rattle.table_forms.proofs.HeaderLemmas.{header_zeros, header_ok, header_other, header_refused}

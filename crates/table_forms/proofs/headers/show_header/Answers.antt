@@ -1,4 +1,4 @@
-use Rattle.std.proofs.Common.{◌∙◌, sym}
+use Rattle.std.proofs.Common.{◌∙◌}
 use Rattle.table_forms.proofs.HeaderLemmas.{header_is_row}
 use Rattle.table_forms.proofs.headers.show_header.Goals as goal
 

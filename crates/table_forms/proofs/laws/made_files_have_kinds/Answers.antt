@@ -1,4 +1,4 @@
-use Rattle.table_forms.proofs.BytesLemmas.{made_kind, file_back}
+use Rattle.table_forms.proofs.BytesLemmas.{made_kind}
 use Rattle.table_forms.proofs.laws.made_files_have_kinds.Goals as goal
 
 pub returns : goal.returns

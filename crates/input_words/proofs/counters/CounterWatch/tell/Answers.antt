@@ -1,4 +1,4 @@
-use Rattle.std.proofs.Common.{◌≡◌, ◌++◌, [], false, ℕ, List, map, ap, sym, ◌∙◌, append-nil, subst}
+use Rattle.std.proofs.Common.{◌≡◌, ◌++◌, false, ℕ, List, map, ap, sym, ◌∙◌, append-nil, subst}
 use Rattle.std.specs.List.{list_any}
 use Rattle.input_words.specs.declared.counters.WatchedCounter.{WatchedCounter}
 use Rattle.input_words.specs.Counters.{counter_named, kept_behind, with_counters, watched_behind}

@@ -11,7 +11,6 @@ use Rattle.md_dwell.proofs.Counts.{dwell_counted}
 use Rattle.commands.proofs.Heard.{counted_more}
 use Rattle.md_dwell.proofs.Courses.{paused, again, round_over}
 use Rattle.md_dwell.proofs.streams.Stream.read_on.Goals as goal
-use Rattle.md_dwell.proofs.streams.Stream.read_on.Goals.{Then-self-list}
 
 pub returns-then-self-list-clause-items : goal.returns-then-self-list-clause-items
 returns-then-self-list-clause-items c = λ since r past some_delay held.

@@ -8,7 +8,7 @@ use Rattle.sc_sequences.specs.State.{DutyStands}
 use Rattle.sc_sequences.proofs.Takes.{turns_none, turns_idle, turns_taken, place_is}
 use Rattle.sc_sequences.proofs.Sending.{due_inside, due_runs}
 use Rattle.sc_sequences.proofs.duty.Duty.take_turns.Goals as goal
-use Rattle.sc_sequences.proofs.duty.Duty.take_turns.Goals.{In_default, In-Some, After-leave}
+use Rattle.sc_sequences.proofs.duty.Duty.take_turns.Goals.{In_default, After-leave}
 
 pub turns-init : goal.turns-init
 turns-init c = record {
