@@ -253,7 +253,7 @@ static EVENTS: [Event; COUNT_OF_EVENTS] = [
         number: 4,
         kind: Error,
         name: "outside",
-        sentence: "a command was refused: the bytes don't lie in one region",
+        sentence: "a command was refused: the bytes lie in no region, or not all in one",
     },
     Event {
         application: "MM",

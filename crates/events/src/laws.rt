@@ -21,7 +21,7 @@ pub fn worked_sentences()
     ensures accepted { event_said event_table (codes "MM") 19 2
         ≡ codes "MM: command poke was accepted" }
     ensures refused { event_said event_table (codes "MM") 4 3
-        ≡ codes "MM: a command was refused: the bytes don't lie in one region" }
+        ≡ codes "MM: a command was refused: the bytes lie in no region, or not all in one" }
     ensures checksum { event_said event_table (codes "HS") 1 3
         ≡ codes "HS: a command was refused: its checksum is wrong" }
     ensures acted { event_said event_table (codes "HS") 105 3
@@ -42,7 +42,7 @@ pub fn worked_sentences()
     ensures other_name { event_said event_table (codes "NAV") 65535 2
         ≡ codes "NAV: unknown event 65535 of type 2" }
     ensures poke { refusal_said event_table refusal_table (codes "MM") 3 4
-        ≡ codes "MM: command poke was refused: the bytes don't lie in one region" }
+        ≡ codes "MM: command poke was refused: the bytes lie in no region, or not all in one" }
     ensures jam { refusal_said event_table refusal_table (codes "MD") 4 4
         ≡ codes "MD: command jam was refused: the table isn't 1 to 4" }
     ensures length { refusal_said event_table refusal_table (codes "SC") 9 3

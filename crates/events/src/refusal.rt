@@ -57,7 +57,7 @@ pub fn find_reason(
 }
 
 /// Appends that a command of this code was refused, and why, as
-/// `MM: command poke was refused: the bytes don't lie in one region`. Code and number stand where no row has them.
+/// `MM: command poke was refused: the bytes lie in no region, or not all in one`. Code and number stand where no row has them.
 #[tactic(auto, unfolding(crate::specs::Refusals::refusal_said))]
 pub fn show_refusal(
     events: &[Event],

@@ -19,7 +19,7 @@ static REFUSALS: [Refusal; COUNT_OF_REFUSALS] = [
         application: "MM",
         code: 2,
         number: 4,
-        reason: "the bytes don't lie in one region",
+        reason: "the bytes lie in no region, or not all in one",
     },
     Refusal {
         application: "MM",
@@ -43,7 +43,7 @@ static REFUSALS: [Refusal; COUNT_OF_REFUSALS] = [
         application: "MM",
         code: 3,
         number: 4,
-        reason: "the bytes don't lie in one region",
+        reason: "the bytes lie in no region, or not all in one",
     },
     Refusal {
         application: "MM",
@@ -73,7 +73,7 @@ static REFUSALS: [Refusal; COUNT_OF_REFUSALS] = [
         application: "MM",
         code: 4,
         number: 4,
-        reason: "the bytes don't lie in one region",
+        reason: "the bytes lie in no region, or not all in one",
     },
     Refusal {
         application: "MM",
@@ -97,7 +97,7 @@ static REFUSALS: [Refusal; COUNT_OF_REFUSALS] = [
         application: "MM",
         code: 5,
         number: 4,
-        reason: "the bytes don't lie in one region",
+        reason: "the bytes lie in no region, or not all in one",
     },
     Refusal {
         application: "MM",
@@ -121,7 +121,7 @@ static REFUSALS: [Refusal; COUNT_OF_REFUSALS] = [
         application: "MM",
         code: 8,
         number: 4,
-        reason: "the bytes don't lie in one region",
+        reason: "the bytes lie in no region, or not all in one",
     },
     Refusal {
         application: "MM",
@@ -157,7 +157,7 @@ static REFUSALS: [Refusal; COUNT_OF_REFUSALS] = [
         application: "MM",
         code: 13,
         number: 4,
-        reason: "the bytes don't lie in one region",
+        reason: "the bytes lie in no region, or not all in one",
     },
     Refusal {
         application: "MM",

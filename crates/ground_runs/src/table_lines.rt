@@ -39,9 +39,14 @@ fn can_activate(kind: TableKind) -> bool {
     }
 }
 
+/// Whether an earlier FILE has a table of this kind.
+fn has_kind(kind: TableKind, earlier: &[TableKind]) -> bool {
+    earlier.iter().any(|other| *other == kind)
+}
+
 /// Where a table stands behind those of earlier FILEs.
 fn standing_of(kind: TableKind, earlier: &[TableKind]) -> &'static [u8] {
-    if !earlier.iter().any(|other| *other == kind) {
+    if !has_kind(kind, earlier) {
         return b"in force from the start\n";
     }
     if can_activate(kind) {
@@ -49,6 +54,45 @@ fn standing_of(kind: TableKind, earlier: &[TableKind]) -> &'static [u8] {
     } else {
         b"never used: an earlier file has this table\n"
     }
+}
+
+/// What a table's lines alone don't tell of it: what its application does with it by itself, and how long.
+fn note_of(kind: TableKind) -> &'static [u8] {
+    match kind {
+        TableKind::AppMon => {
+            b"one that acted watches no more until hs.apps_on, an activation of such a table or a processor reset\n"
+        }
+        TableKind::Rts(1) => {
+            b"SC starts it by itself as the run begins, and behind a processor reset\n"
+        }
+        TableKind::Eeprom | TableKind::Memory => {
+            b"CS takes new baselines each time that such a table becomes active, also this one again\n"
+        }
+        TableKind::Adt => {
+            b"one fires where `when` was true in so many frames in a row, and is passive then until lc.set_active or a processor reset\n"
+        }
+        TableKind::EventMon
+        | TableKind::ExeCount
+        | TableKind::MsgActs
+        | TableKind::Ats(_)
+        | TableKind::Rts(_)
+        | TableKind::Dwell(_)
+        | TableKind::Wdt => b"",
+    }
+}
+
+/// Appends what is to be known of the first table of its kind beside its lines, if anything is.
+fn push_note(
+    kind: TableKind,
+    earlier: &[TableKind],
+    lines: &mut Vec<u8>,
+) -> Result<(), AllocError> {
+    let note = note_of(kind);
+    if note.is_empty() || has_kind(kind, earlier) {
+        return Ok(());
+    }
+    lines.extend_from_slice(INDENT)?;
+    lines.extend_from_slice(note)
 }
 
 /// What tables are shown by, with their times in seconds.
@@ -120,7 +164,7 @@ pub(crate) fn push_watches(payload: &[u8], lines: &mut Vec<u8>) -> Result<(), Al
     Ok(())
 }
 
-/// Appends where a table stands, and its entries as its text has them.
+/// Appends where a table stands, its entries as its text has them, and what is to be known beside them.
 pub(crate) fn push_table(
     alloc: Global,
     kind: TableKind,
@@ -134,5 +178,6 @@ pub(crate) fn push_table(
     lines.extend_from_slice(standing_of(kind, earlier))?;
     let mut text = Vec::new(alloc);
     show_table(alloc, &text_forms(), kind, file, &mut text)?;
-    push_inner_lines(text.as_slice(), lines)
+    push_inner_lines(text.as_slice(), lines)?;
+    push_note(kind, earlier, lines)
 }

@@ -14,7 +14,7 @@ pub fn worked_sentences()
     ensures refused { sentence None (codes
         "1 pkt 0808C0010025000003E900004D4D000000000000000000000000000000000000000400030000004200000001")
         ≡ Ok (codes
-        "frame 1: MM: a command was refused: the bytes don't lie in one region (event 4)") }
+        "frame 1: MM: a command was refused: the bytes lie in no region, or not all in one (event 4)") }
     ensures unknown { sentence None (codes
         "1 pkt 0808C0010025000003E900004E4156000000000000000000000000000000000007FF00020000004200000001")
         ≡ Ok (codes "frame 1: NAV: unknown event 2047 of type 2 (event 2047)") }

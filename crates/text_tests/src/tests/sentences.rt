@@ -20,7 +20,7 @@ fn events_and_refusals_are_shown(rt: HostRuntime) -> Result<(), Fail> {
     show_refusal(events(), refusals(), b"MM", 3, 4, &mut line)?;
     assert_eq!(rt;
         line.as_slice(),
-        b"MM: command poke was refused: the bytes don't lie in one region".as_slice()
+        b"MM: command poke was refused: the bytes lie in no region, or not all in one".as_slice()
     );
     line.clear();
     show_refusal(events(), refusals(), b"MM", 99, 13, &mut line)?;
