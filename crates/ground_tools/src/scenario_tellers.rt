@@ -1,6 +1,6 @@
 //! What a scenario does, told beside the log of its rehearsal.
 
-ghost use Rattle.std.specs.Prelude.{◌≡◌, true, false, OnOk};
+ghost use Rattle.std.specs.Prelude.{◌≡◌, ◌++◌, true, false, OnOk};
 ghost use Rattle.scenario.specs.Standing.{Shows, is_finished};
 ghost use Rattle.ground_tools.specs.Appended.{Appends};
 
@@ -62,6 +62,19 @@ fn feed_more<T: Read>(
     true
 }
 
+/// How the lines behind the FILEs are to be read.
+const LEGEND: &[u8] =
+    b"> the log follows; lines with this mark tell what the scenario does. A frame is a second, and what is sent in one is read in the next\n";
+
+/// That there is no table, where there are no FILEs.
+fn tables_line(has_files: bool) -> &'static [u8] {
+    if has_files {
+        b""
+    } else {
+        b"> no table: nobody monitors, takes checksums, dwells or starts sequences\n"
+    }
+}
+
 /// Who gives the execution counters, and who does what Health and Safety asks for.
 fn subjects_line(are_simulated: bool) -> &'static [u8] {
     if are_simulated {
@@ -69,6 +82,21 @@ fn subjects_line(are_simulated: bool) -> &'static [u8] {
     } else {
         b"> the scenario gives the execution counters: nobody restarts or deletes what HS asks for\n"
     }
+}
+
+/// Appends three texts.
+fn push_three(
+    first: &[u8],
+    second: &[u8],
+    third: &[u8],
+    out: &mut Vec<u8>,
+) -> Result<(), AllocError>
+    ensures { OnOk result (out.new.items ≡ out.old.items
+        ++ (first.now ++ (second.now ++ third.now))) }
+{
+    out.extend_from_slice(first)?;
+    out.extend_from_slice(second)?;
+    out.extend_from_slice(third)
 }
 
 /// Appends what the counters do that are watched, if any are.
@@ -150,7 +178,7 @@ impl<T: Read + Drop> ScenarioTeller<T> {
         false
     }
 
-    /// Appends the FILEs, where they weren't told yet.
+    /// Appends the FILEs and what holds of the whole rehearsal, where they weren't told yet.
     fn tell_files_once(&mut self, out: &mut Vec<u8>) -> Result<(), AllocError>
         ensures { OnOk result (Appends out.old.items out.new.items) }
     {
@@ -159,7 +187,8 @@ impl<T: Read + Drop> ScenarioTeller<T> {
         }
         self.has_told_files = true;
         tell_files(self.files.as_slice(), out)?;
-        out.extend_from_slice(subjects_line(self.counters.is_none()))?;
+        let tables = tables_line(!self.files.as_slice().is_empty());
+        push_three(tables, subjects_line(self.counters.is_none()), LEGEND, out)?;
         Ok(())
     }
 

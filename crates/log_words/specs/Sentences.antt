@@ -61,7 +61,7 @@ drop_words v lost = codes "pipe " ++ pipe_text lost.pipe ++ cause_words lost.ful
 abbrev pub item_words : Vocabulary → LineItem → List ℕ
 item_words v (items.Packet p) = sent_words v p
 item_words v (items.Drop lost) = drop_words v lost
-item_words v items.Reset = codes "HS asks for a processor reset: behind this frame all applications start anew, on the first file of each table"
+item_words v items.Reset = codes "HS asks for a processor reset: behind this frame all applications start anew, on the first file of each table; memory, its protection and sequence counts stay"
 item_words v (items.Restart name) = codes "HS asks to restart " ++ name_text name
 item_words v (items.Delete name) = codes "HS asks to delete " ++ name_text name
 

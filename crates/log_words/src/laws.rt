@@ -25,7 +25,7 @@ pub fn worked_sentences()
         ≡ Ok (codes "frame 7: sent on board: mm.peek width=8 address=0x00001080") }
     ensures reset { sentence None (codes "9 reset")
         ≡ Ok (codes
-        "frame 9: HS asks for a processor reset: behind this frame all applications start anew, on the first file of each table") }
+        "frame 9: HS asks for a processor reset: behind this frame all applications start anew, on the first file of each table; memory, its protection and sequence counts stay") }
     ensures restart { sentence None (codes "9 restart LOAD")
         ≡ Ok (codes "frame 9: HS asks to restart LOAD") }
     ensures delete { sentence None (codes "9 delete LOAD")

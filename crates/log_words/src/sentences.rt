@@ -59,7 +59,7 @@ fn push_item(vocabulary: &Vocabulary, item: &LineItem, out: &mut Vec<u8>) -> Res
         LineItem::Packet(packet) => push_sent(vocabulary, packet, out),
         LineItem::Drop(dropped) => push_drop(vocabulary, dropped, out),
         LineItem::Reset => out.extend_from_slice(
-            b"HS asks for a processor reset: behind this frame all applications start anew, on the first file of each table",
+            b"HS asks for a processor reset: behind this frame all applications start anew, on the first file of each table; memory, its protection and sequence counts stay",
         ),
         LineItem::Restart(name) => push_named(b"HS asks to restart ", name, out),
         LineItem::Delete(name) => push_named(b"HS asks to delete ", name, out),

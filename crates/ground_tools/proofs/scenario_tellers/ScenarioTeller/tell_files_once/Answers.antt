@@ -6,5 +6,5 @@ returns-then-self g c = appends_none c.args.out.now.items
 
 pub returns : goal.returns
 returns g c =
-    appends_on c.args.out.now.items c.tell_files.new.out.items c.extend_from_slice.new.self.items
-    (_, c.in_ok-tell_files.ensures) (_, c.in_ok-extend_from_slice.ensures.items)
+    appends_on c.args.out.now.items c.tell_files.new.out.items c.push_three.new.out.items
+    (_, c.in_ok-tell_files.ensures) (_, c.in_ok-push_three.ensures)
