@@ -69,7 +69,7 @@ fn note_of(kind: TableKind) -> &'static [u8] {
             b"CS takes new baselines each time that such a table becomes active, also this one again\n"
         }
         TableKind::Adt => {
-            b"one fires where `when` was true in so many frames in a row, and is passive then until lc.set_active or a processor reset\n"
+            b"one fires where `when` was true in so many evaluations in a row, and is passive then until lc.set_active or a processor reset\n"
         }
         TableKind::EventMon
         | TableKind::ExeCount

@@ -180,7 +180,11 @@ fn check<'a>(alloc: Global) -> Result<Command<'a>, AllocError> {
             "Looks at files as vigil does, and at books: why they are refused, what is odd in them, and in which order they count",
         )
         .arg(map)?
-        .arg(files(alloc).required(true))
+        .arg(
+            files(alloc)
+                .required(true)
+                .help("Files of tables, files to be loaded, and books"),
+        )
 }
 
 /// How many threads share a rehearsal.
