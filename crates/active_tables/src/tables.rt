@@ -35,7 +35,18 @@ impl<'f> Model for Tables<'f> {
 
     ghost Value = { Loaded };
 
-    ghost view = { λ t. record { files = t.files.now; set = record { dwells = t.dwells; eeprom = t.eeprom; memory = t.memory; hs = t.hs; sc = t.sc; wdt = t.wdt; adt = t.adt } } };
+    ghost view = { λ t. record {
+      files = t.files.now;
+      set = record {
+        dwells = t.dwells;
+        eeprom = t.eeprom;
+        memory = t.memory;
+        hs = t.hs;
+        sc = t.sc;
+        wdt = t.wdt;
+        adt = t.adt;
+      };
+    } };
 
     ghost invariant = { λ t. length t.dwells ≡ 4 };
 }

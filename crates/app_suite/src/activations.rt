@@ -103,7 +103,7 @@ pub fn hand_over(
     hand_over_dwells(tables, kind, md);
 }
 
-/// The same of CS's tables.
+/// Hands CS the tables in force, where one of checksums became active.
 fn hand_over_segments(tables: &Tables<'_>, kind: TableKind, cs: &mut CsSlot)
     ensures { (first : TablePair) (history : List CsEntry)
         → CsStands first history cs.old.state.value
@@ -124,7 +124,7 @@ fn hand_over_segments(tables: &Tables<'_>, kind: TableKind, cs: &mut CsSlot)
     }
 }
 
-/// The same of MD's tables.
+/// Hands MD the table that became active, where it is one of dwells.
 #[tactic(auto, using(active_tables::proofs::GivenTables::given_at))]
 fn hand_over_dwells(tables: &Tables<'_>, kind: TableKind, md: &mut MdSlot)
     requires { IsKnown kind }

@@ -22,7 +22,7 @@ pub trait Application<X> {
     ghost items: { Setup → List Input → Input → List Out };
     // how many items a wakeup gives at most
     ghost most: { ℕ };
-    // what is read is what this setup says
+    // the tables that a wakeup reads are those with which a history of this setup goes on
     ghost belongs: { Setup → Reads → Type 0 };
 
     ghost input: { Reads → List (List ℕ) → Input };

@@ -34,7 +34,9 @@ impl Application<()> for Cs {
 
     ghost input = { λ reads commands. Woken (input_of reads.time commands reads.window) };
 
-    ghost can_step = { λ reads cs. SegmentsGiven (regions_of (seen reads.window).areas) reads.tables.now.set.eeprom × SegmentsGiven (regions_of (seen reads.window).areas) reads.tables.now.set.memory };
+    ghost can_step = { λ reads cs. SegmentsGiven
+        (regions_of (seen reads.window).areas) reads.tables.now.set.eeprom
+        × SegmentsGiven (regions_of (seen reads.window).areas) reads.tables.now.set.memory };
 
     ghost is_clear = { λ beside. Unit {0} };
 

@@ -27,7 +27,8 @@ impl Application<()> for Hs {
 
     ghost belongs = { λ setup reads. reads.tables.now.set.hs ≡ setup.now.hs };
 
-    ghost input = { λ reads commands. hs_reads reads.time commands reads.events.now reads.counters.now };
+    ghost input = { λ reads commands.
+        hs_reads reads.time commands reads.events.now reads.counters.now };
 
     ghost can_step = { λ reads hs. Unit {0} };
 

@@ -32,13 +32,16 @@ impl Application<Ops> for Mm {
 
     ghost belongs = { λ setup reads. Unit {0} };
 
-    ghost input = { λ reads commands. input_of reads.time commands reads.window reads.tables.now.files };
+    ghost input = { λ reads commands.
+        input_of reads.time commands reads.window reads.tables.now.files };
 
     ghost can_step = { λ reads mm. Unit {0} };
 
     ghost is_clear = { λ ops. ops ≡ [] };
 
-    ghost fills = { λ reads commands ops. (ops ≡ mm_operations (input_of reads.time commands reads.window reads.tables.now.files)) × CanLand (loads_of reads.tables.now.files) (seen reads.window) ops };
+    ghost fills = { λ reads commands ops. (ops
+        ≡ mm_operations (input_of reads.time commands reads.window reads.tables.now.files))
+        × CanLand (loads_of reads.tables.now.files) (seen reads.window) ops };
 
     #[inline(always)]
     fn is_idle(&self, reads: &Reads<'_, '_, '_>, commands: &[Packet]) -> bool {

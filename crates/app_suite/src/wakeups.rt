@@ -29,9 +29,37 @@ impl<'a, 'r, 'n, 'f> Model for Scene<'a, 'r, 'n, 'f> {
 
     ghost Value = { Seen };
 
-    ghost view = { λ s. record { hs = s.hs.now; events = s.reads.events.now; cs = s.cs.now; sc = s.sc.now; mm = s.mm.now; md = s.md.now; lc = s.lc.now.slot; telemetry = s.reads.telemetry.now.items; tables = s.reads.tables.now.set; files = s.reads.tables.now.files; memory = seen s.reads.window; counters = s.reads.counters.now; time = s.reads.time } };
+    ghost view = { λ s. record {
+      hs = s.hs.now;
+      events = s.reads.events.now;
+      cs = s.cs.now;
+      sc = s.sc.now;
+      mm = s.mm.now;
+      md = s.md.now;
+      lc = s.lc.now.slot;
+      telemetry = s.reads.telemetry.now.items;
+      tables = s.reads.tables.now.set;
+      files = s.reads.tables.now.files;
+      memory = seen s.reads.window;
+      counters = s.reads.counters.now;
+      time = s.reads.time;
+    } };
 
-    ghost invariant = { λ s. CanWake (record { hs = s.hs.now; events = s.reads.events.now; cs = s.cs.now; sc = s.sc.now; mm = s.mm.now; md = s.md.now; lc = s.lc.now.slot; telemetry = s.reads.telemetry.now.items; tables = s.reads.tables.now.set; files = s.reads.tables.now.files; memory = seen s.reads.window; counters = s.reads.counters.now; time = s.reads.time }) };
+    ghost invariant = { λ s. CanWake (record {
+      hs = s.hs.now;
+      events = s.reads.events.now;
+      cs = s.cs.now;
+      sc = s.sc.now;
+      mm = s.mm.now;
+      md = s.md.now;
+      lc = s.lc.now.slot;
+      telemetry = s.reads.telemetry.now.items;
+      tables = s.reads.tables.now.set;
+      files = s.reads.tables.now.files;
+      memory = seen s.reads.window;
+      counters = s.reads.counters.now;
+      time = s.reads.time;
+    }) };
 }
 
 /// The application that a job wakes.

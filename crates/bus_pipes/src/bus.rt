@@ -39,7 +39,17 @@ impl Model for Bus {
 
     ghost Value = { Pipes };
 
-    ghost view = { λ a. record { watched = is_some a.watch; hs = a.hs.packets; hs_ev = a.hs_ev.packets; cs = a.cs.packets; sc = a.sc.packets; mm = a.mm.packets; md = a.md.packets; lc = commands_of a.watch; lc_tlm = telemetry_of a.watch } };
+    ghost view = { λ a. record {
+      watched = is_some a.watch;
+      hs = a.hs.packets;
+      hs_ev = a.hs_ev.packets;
+      cs = a.cs.packets;
+      sc = a.sc.packets;
+      mm = a.mm.packets;
+      md = a.md.packets;
+      lc = commands_of a.watch;
+      lc_tlm = telemetry_of a.watch;
+    } };
 
     ghost invariant = { λ a. AreSized a.hs a.hs_ev a.cs a.sc a.mm a.md × IsWatchSized a.watch };
 }

@@ -35,7 +35,7 @@ pub fn pipes_are_apart()
         ≡ packets_in held pipes }
 {}
 
-/// The pipes that are there stay the same.
+/// Which pipes are there doesn't change by what they are offered.
 pub fn watching_stays()
     ensures { (pipes : Pipes) (packets : List (List ℕ))
         → (after_offers pipes packets).watched ≡ pipes.watched }

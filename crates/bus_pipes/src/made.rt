@@ -23,7 +23,7 @@ pub fn push_event(out: &mut Outbox, name: Name, id: u16, kind: u16, secs: u32)
     out.count += 1;
 }
 
-/// Makes of an item an event message.
+/// Writes an event message into the place of an item.
 fn make_event(item: &mut Out, name: Name, id: u16, kind: u16, secs: u32)
     ensures { item.new ≡ Made (event_of name id kind secs) }
 {
@@ -54,7 +54,7 @@ pub fn push_telemetry(out: &mut Outbox, mid: u16, secs: u32, payload: &[u8])
     out.count += 1;
 }
 
-/// Makes of an item telemetry.
+/// Writes a telemetry packet into the place of an item.
 fn make_telemetry(item: &mut Out, mid: u16, secs: u32, payload: &[u8])
     requires version { mid < 8192 }
     requires size { length payload.now ≤ TELEMETRY_PAYLOAD }
@@ -89,7 +89,7 @@ pub(crate) fn push_drop(drops: &mut Drops, pipe: PipeName, full: bool, packet: &
     drops.count += 1;
 }
 
-/// Makes of a place that of a refused packet.
+/// Writes a packet that a pipe refused into a place of the list of drops.
 fn make_drop(place: &mut Dropped, pipe: PipeName, full: bool, packet: &Packet)
     ensures { place.new ≡ record { pipe = pipe; full = full; packet = packet.now } }
 {

@@ -5,9 +5,9 @@ use packet_forms::{Name, Packet};
 
 /// How many packets a pipe holds at most, all together as well as of one id.
 pub const PIPE_DEPTH: u32 = 16;
-/// The same of the pipe of events.
+/// How many packets the pipe of events holds at most, all together as well as of one id.
 pub const EVENT_PIPE_DEPTH: u32 = 32;
-/// The same of the pipe of the telemetry that LC watches.
+/// How many packets the pipe of the telemetry that LC watches holds at most, all together as well as of one id.
 pub const TELEMETRY_PIPE_DEPTH: u32 = 256;
 
 /// The list that an application fills in a step.

@@ -24,7 +24,11 @@ impl Model for Pipe {
 
     ghost Value = { PipeState };
 
-    ghost view = { λ a. record { packets = a.packets.items; depth = a.packets.capacity; limit = a.limit } };
+    ghost view = { λ a. record {
+      packets = a.packets.items;
+      depth = a.packets.capacity;
+      limit = a.limit;
+    } };
 }
 
 impl Pipe {
@@ -32,7 +36,8 @@ impl Pipe {
     pub fn open(alloc: Global, depth: u32, limit: u32) -> Result<Pipe, NoMemory>
         requires depth { (1 ≤ depth) × (depth ≤ 1024) }
         requires limit { (1 ≤ limit) × (limit ≤ 1024) }
-        ensures { IfOk result (λ pipe. pipe ≡ record { packets = []; depth = depth; limit = limit }) }
+        ensures { IfOk result (λ pipe. pipe
+            ≡ record { packets = []; depth = depth; limit = limit }) }
     {
         match HeapCircularBuffer::with_capacity(alloc, depth as usize) {
             Ok(packets) => Ok(Pipe { packets, limit }),

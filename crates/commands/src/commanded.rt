@@ -74,7 +74,8 @@ pub trait Commanded<R: Copy> {
     // what safety needs after so many packets of a wakeup, and to obey
     ghost is_safe: { R → ℕ → Self → Self.Left → Type 0 } = { λ reads n state left. Unit {0} };
 
-    ghost can_obey: { R → Self → Self.Instruction → Type 0 } = { λ reads state instruction. Unit {0} };
+    ghost can_obey: { R → Self → Self.Instruction
+        → Type 0 } = { λ reads state instruction. Unit {0} };
     // how many items stand before the event of an accepted command at most
     ghost most: { ℕ };
 
@@ -117,7 +118,9 @@ pub trait Commanded<R: Copy> {
         ensures few { length out.new.items ≤ length out.old.items + most }
         ensures room { out.new.room ≡ out.old.room };
 
-    ghost still_safe: { (reads : R) (n : ℕ) (state : Self) (left : Self.Left) → is_safe reads n state left → is_safe reads (n + 1) state left };
+    ghost still_safe: { (reads : R) (n : ℕ) (state : Self) (left : Self.Left)
+        → is_safe reads n state left → is_safe reads (n + 1) state left };
 
-    ghost timed: { (turn : Turn) (reads : R) (now : ℕ) → belongs turn reads now → answers.time turn ≡ now };
+    ghost timed: { (turn : Turn) (reads : R) (now : ℕ) → belongs turn reads now → answers.time turn
+        ≡ now };
 }

@@ -38,9 +38,14 @@ impl<S> Model for Crew<S> {
     ghost use Rattle.crew_board.specs.Rows.{FitsJobs, first_scratches, draws_of};
     ghost use Rattle.crew_board.specs.Work.{AreInOrder};
 
-    ghost view = { λ c. record { jobs = c.jobs; results = if c.ran then first_scratches c.rows.items else []; drawn = draws_of c.rows.items } };
+    ghost view = { λ c. record {
+      jobs = c.jobs;
+      results = if c.ran then first_scratches c.rows.items else [];
+      drawn = draws_of c.rows.items;
+    } };
 
-    ghost invariant = { λ c. (0 < vec_len c.rows) × (vec_len c.rows ≤ 16) × (0 < c.jobs) × (c.jobs ≤ 64) × All (FitsJobs c.jobs) c.rows.items × AreInOrder c.jobs c.all.items };
+    ghost invariant = { λ c. (0 < vec_len c.rows) × (vec_len c.rows ≤ 16) × (0 < c.jobs)
+        × (c.jobs ≤ 64) × All (FitsJobs c.jobs) c.rows.items × AreInOrder c.jobs c.all.items };
 }
 
 /// So many rows.

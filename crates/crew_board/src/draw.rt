@@ -41,7 +41,7 @@ pub(crate) fn draw_jobs<S: Scratch, T: Task<Work = S>, G: Gate>(
     row.seat = Some(seat);
 }
 
-/// The same on the one row of a part.
+/// Draws jobs and does them on the one row of a part, until none is left.
 fn draw_part<S: Scratch, T: Task<Work = S>, G: Gate>(
     word: &Word,
     tasks: &[T],

@@ -36,8 +36,10 @@ fn take_over<S, T: Task<Work = S>>(tasks: &[T], first: &mut Row<S>, row: &mut Ro
     ensures drawn { (first.new.drawn.items ≡ first.old.drawn.items)
         × (row.new.drawn.items ≡ row.old.drawn.items) }
     ensures done { AreDone T.leaves tasks.now first.new.scratches.items row.old.drawn.items }
-    ensures kept { StayRight T.leaves tasks.now first.old.scratches.items first.new.scratches.items }
-    ensures others { StayBut row.old.drawn.items first.old.scratches.items first.new.scratches.items }
+    ensures kept { StayRight T.leaves tasks.now first.old.scratches.items
+        first.new.scratches.items }
+    ensures others { StayBut row.old.drawn.items first.old.scratches.items
+        first.new.scratches.items }
 {
     exchange(
         tasks,
@@ -57,7 +59,8 @@ fn take_over_all<S, T: Task<Work = S>>(tasks: &[T], first: &mut Row<S>, rows: &m
     ensures drawn { (first.new.drawn.items ≡ first.old.drawn.items)
         × (draws_of rows.new ≡ draws_of rows.old) }
     ensures done { All (AreDone T.leaves tasks.now first.new.scratches.items) (draws_of rows.old) }
-    ensures kept { StayRight T.leaves tasks.now first.old.scratches.items first.new.scratches.items }
+    ensures kept { StayRight T.leaves tasks.now first.old.scratches.items
+        first.new.scratches.items }
     ensures others { (job : ℕ) (s : S) → times_in job (draws_of rows.old) ≡ 0
         → slice_index_or first.new.scratches.items job s
         ≡ slice_index_or first.old.scratches.items job s }

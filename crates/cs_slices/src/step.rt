@@ -68,9 +68,11 @@ impl<'a> Commanded<Reads<'a>> for Duty {
 
     ghost basis = { λ turn. tables_after turn.setup turn.history };
 
-    ghost belongs = { λ turn reads now. (pair_of reads.eeprom.now reads.memory.now ≡ tables_after turn.setup turn.history) × (turn.input.time ≡ now) };
+    ghost belongs = { λ turn reads now. (pair_of reads.eeprom.now reads.memory.now
+        ≡ tables_after turn.setup turn.history) × (turn.input.time ≡ now) };
 
-    ghost stands = { λ turn orders duty left. DutyStands (tables_after turn.setup turn.history) (happened_in turn orders) duty };
+    ghost stands = { λ turn orders duty left. DutyStands (tables_after turn.setup turn.history)
+        (happened_in turn orders) duty };
 
     ghost can_obey = { λ reads duty instruction. IsNamed instruction };
 

@@ -65,7 +65,7 @@ pub fn limit_checker_is_there()
 {}
 
 /// A run of two frames in which MM alone is woken, and the first of which sends it a no-op: its log is the event that answers it, byte by byte.
-/// And a run of one frame that names a file which isn't there: its log is the event of the refused activation.
+/// A run of one frame that names a file which isn't there: its log is the event of the refused activation.
 pub fn worked_run()
     ensures answered { log_of noop_setup (noop_sent ∷ quiet ∷ []) ≡ noop_line }
     ensures refused { log_of noop_setup (none_activated ∷ []) ≡ refused_line }

@@ -44,7 +44,7 @@ pub fn upset_all(ram: &mut Ram, upsets: &[Upset])
     }
 }
 
-/// Makes of the items what is sent, where they stand.
+/// Gives each item that the bench makes its sequence count, where it stands.
 pub fn stamp_all(log: &mut Log, out: &mut Outbox)
     requires counted { AllPass is_item_counted out.old.items }
     ensures sent { (made : List (List ℕ)) → LogStands made log.old

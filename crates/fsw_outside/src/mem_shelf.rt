@@ -123,7 +123,9 @@ impl Shelf for MemShelf {
 
     ghost mark = { λ shelf. marked_faults shelf };
 
-    ghost nothing_left = { λ shelf content tells closed. told_rest (can_rise shelf.faults && can_rise shelf.openings) shelf.files.items shelf.reading shelf.openings shelf.last content tells closed };
+    ghost nothing_left = { λ shelf content tells closed. told_rest
+        (can_rise shelf.faults && can_rise shelf.openings) shelf.files.items
+        shelf.reading shelf.openings shelf.last content tells closed };
 
     fn open(&mut self, name: &str) -> Result<(), Failed>
         ensures content { WhereTold (told_content self.old) (told_content self.new)

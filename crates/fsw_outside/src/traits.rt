@@ -61,7 +61,8 @@ pub trait Shelf {
         ensures mark { mark self.new ≡ mark self.old };
 
     /// Nothing is left to read where no file is open.
-    ghost nothing_left: { (shelf : Self) → (content : Content) → told shelf ≡ Some content → IsFalse (is_open shelf) → content.rest ≡ [] };
+    ghost nothing_left: { (shelf : Self) → (content : Content) → told shelf ≡ Some content
+        → IsFalse (is_open shelf) → content.rest ≡ [] };
 }
 
 /// Where bytes go.
@@ -84,7 +85,8 @@ pub trait Sink {
         ensures cause { HasCause (held self.new) (faults self.old) (faults self.new) result };
 
     /// What is tallied is the tally of the bytes that are told. So each clause that tells bytes tells their tally too.
-    ghost tallied: { (sink : Self) → (t : Tally) → tally sink ≡ Some t → (bytes : List ℕ) × (held sink ≡ Some bytes) × (t ≡ tally_of bytes) };
+    ghost tallied: { (sink : Self) → (t : Tally) → tally sink ≡ Some t → (bytes : List ℕ)
+        × (held sink ≡ Some bytes) × (t ≡ tally_of bytes) };
 }
 
 /// Is told of each job, on the thread that does it.

@@ -147,7 +147,8 @@ impl<L: Sink + Drop, W: Sink + Drop, F: FrameTeller + Drop> Sink for ToldLog<L, 
 
     ghost faults = { λ s. L.faults s.log + s.refusals };
 
-    ghost tallied = { λ s t tells. tallied_while s.refusals (L.held s.log) (L.tally s.log) (L.tallied s.log) t tells };
+    ghost tallied = { λ s t tells. tallied_while s.refusals (L.held s.log) (L.tally s.log)
+        (L.tallied s.log) t tells };
 
     fn write(&mut self, piece: &[u8]) -> Result<usize, Failed>
         requires { 0 < length piece.now }

@@ -14,7 +14,8 @@ pub fn along_law<A, B>()
         → along f (xs ++ x ∷ []) ≡ along f xs ++ f xs x ∷ [] }
 {}
 
-/// The same where it gives a list at each element, one behind another; and of one list behind another.
+/// What a function that gives a list at each element gives along a list, one behind another: at one more element, and along one list
+/// behind another.
 #[tactic(auto, using(crate::proofs::Along::joined_more, crate::proofs::Along::joined_both))]
 pub fn joined_law<A, B>()
     ensures more { (f : List A → A → List B) (xs : List A) (x : A)
@@ -58,7 +59,7 @@ pub fn woken_law<W, A, X>()
         ≡ (if test (Woken w) then length (wakeups entries) else wakeups_before test entries) }
 {}
 
-/// And at one more activation.
+/// What a history has in wakeups and activations, at one more activation.
 #[tactic(auto, using(crate::proofs::Entries::wakeups_activated, crate::proofs::Entries::activations_activated, crate::proofs::Entries::in_force_activated, crate::proofs::Entries::wakeups_before_more))]
 pub fn activated_law<W, A, X>()
     ensures wakeups { (entries : List (Entry W A)) (a : A)

@@ -46,7 +46,8 @@ pub(crate) fn hear_all(
 fn hear(tables: &HsTables, packet: &Packet, now: u32, actions: &mut Actions, out: &mut Outbox)
     requires room { length out.old.items + 32 ≤ out.old.room }
     ensures performs { Performs tables.now.acts now
-        (λ k. event_attempts k tables.now.events packet.now) actions.old actions.new out.old out.new }
+        (λ k. event_attempts k tables.now.events packet.now) actions.old actions.new
+        out.old out.new }
     ensures counted { AllPass is_item_counted out.old.items
         → AllPass is_item_counted out.new.items }
     ensures few { length out.new.items ≤ length out.old.items + 32 }

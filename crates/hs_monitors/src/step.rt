@@ -52,9 +52,11 @@ impl<'a> Commanded<Reads<'a>> for Duty {
 
     ghost basis = { λ turn. tt };
 
-    ghost belongs = { λ turn reads now. (reads.tables.now ≡ tables_after turn.setup turn.history) × (reads.counters.now ≡ turn.input.seen.counters) × (turn.input.time ≡ now) };
+    ghost belongs = { λ turn reads now. (reads.tables.now ≡ tables_after turn.setup turn.history)
+        × (reads.counters.now ≡ turn.input.seen.counters) × (turn.input.time ≡ now) };
 
-    ghost stands = { λ turn orders duty left. DutyStands turn.setup turn.history orders (past_in turn.setup turn.history orders) duty };
+    ghost stands = { λ turn orders duty left. DutyStands turn.setup turn.history orders
+        (past_in turn.setup turn.history orders) duty };
 
     ghost most = { 0 };
 

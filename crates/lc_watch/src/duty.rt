@@ -158,7 +158,8 @@ fn serve_all(
         ∷ [])) k)
         → PointsStand (setup_of watch actions.now) history
         (ordered_at (setup_of watch actions.now) input) points.old → fired.old ≡ count % 65536
-        → fired.new ≡ (count + length (fired_at (setup_of watch actions.now) history input)) % 65536 }
+        → fired.new ≡ (count + length (fired_at
+        (setup_of watch actions.now) history input)) % 65536 }
     ensures counted { AllPass is_item_counted out.old.items
         → AllPass is_item_counted out.new.items }
     ensures few { length out.new.items ≤ length out.old.items + 32 }

@@ -50,7 +50,8 @@ impl<'a> Commanded<Reads<'a>> for Duty {
 
     ghost basis = { λ turn. turn.setup.actions };
 
-    ghost belongs = { λ turn reads now. (reads.actions.now ≡ turn.setup.actions) × (turn.input.time ≡ now) };
+    ghost belongs = { λ turn reads now. (reads.actions.now ≡ turn.setup.actions)
+        × (turn.input.time ≡ now) };
 
     ghost stands = { λ turn orders duty left. DutyStands turn.setup turn.history orders duty };
 

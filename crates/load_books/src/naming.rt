@@ -189,7 +189,8 @@ fn show_other(line: &[u8]) -> ShownLine<'_>
 
 /// A line of a plan, with numbers in place of names.
 fn show_line<'a>(files: &[FilePart<'_>], line: &'a [u8]) -> Result<ShownLine<'a>, BookReason>
-    ensures { GivesShown (line_shown (line_said (map file_text files.now) (words line.now))) result }
+    ensures { GivesShown (line_shown (line_said (map file_text files.now)
+        (words line.now))) result }
 {
     if let Some(others) = behind_word(b"activate", line) {
         return show_activation(files, others);

@@ -57,7 +57,8 @@ fn read_behind(
 ) -> Result<Vec<u8>, ReadError>
     requires fields { is_header fields.now ≡ true }
     requires short { first.now.number + 1 + length first.now.rest.now < 2 ^ 32 }
-    ensures { GivesLoad (addressed_filed fields.now named.now (Ok (addressed_by first.now))) result }
+    ensures { GivesLoad (addressed_filed fields.now named.now
+        (Ok (addressed_by first.now))) result }
 {
     let mut row = Vec::new(alloc);
     match read_header(fields, first.number, first.words, &mut row) {

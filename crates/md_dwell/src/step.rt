@@ -55,13 +55,16 @@ impl<'a> Commanded<Reads<'a>> for Duty {
 
     ghost basis = { λ turn. turn.input.seen };
 
-    ghost belongs = { λ turn reads now. (turn.input.seen ≡ seen reads.window) × (turn.input.time ≡ now) };
+    ghost belongs = { λ turn reads now. (turn.input.seen ≡ seen reads.window)
+        × (turn.input.time ≡ now) };
 
     ghost stands = { λ turn orders duty left. DutyStands turn.setup turn.history orders duty };
 
-    ghost is_safe = { λ reads n duty left. StreamsGiven (regions_of (seen reads.window).areas) duty };
+    ghost is_safe = { λ reads n duty left. StreamsGiven
+        (regions_of (seen reads.window).areas) duty };
 
-    ghost can_obey = { λ reads duty instruction. own_refusal (seen reads.window) instruction ≡ None };
+    ghost can_obey = { λ reads duty instruction. own_refusal (seen reads.window) instruction
+        ≡ None };
 
     ghost most = { 0 };
 

@@ -38,9 +38,14 @@ impl Model for Plan {
 
     ghost view = { λ p. p.entries };
 
-    ghost invariant = { λ p. (length p.entries ≡ 25) × (p.count ≡ length (list_of p.entries)) × (p.period ≡ delays (list_of p.entries)) };
+    ghost invariant = { λ p. (length p.entries ≡ 25) × (p.count ≡ length (list_of p.entries))
+        × (p.period ≡ delays (list_of p.entries)) };
 
-    ghost inverse = { λ entries. record { entries = entries; count = length (list_of entries); period = delays (list_of entries) } };
+    ghost inverse = { λ entries. record {
+      entries = entries;
+      count = length (list_of entries);
+      period = delays (list_of entries);
+    } };
 }
 
 /// A dwell table, seen as whether it is enabled and the list of its 25 entries. (After the table of the Memory Dwell application of

@@ -23,7 +23,9 @@ impl Model for Store {
 
     ghost view = { λ s. s.bytes.items };
 
-    ghost invariant = { λ s. (s.ptr ≡ s.bytes.at) × (length s.bytes.items ≡ s.size) × (s.bytes.spare ≡ 0) × (s.deed.at ≡ s.ptr) × (s.deed.len ≡ s.size) × (s.deed.alloc ≡ s.alloc) × (s.size < 2 ^ 63) };
+    ghost invariant = { λ s. (s.ptr ≡ s.bytes.at) × (length s.bytes.items ≡ s.size)
+        × (s.bytes.spare ≡ 0) × (s.deed.at ≡ s.ptr) × (s.deed.len ≡ s.size)
+        × (s.deed.alloc ≡ s.alloc) × (s.size < 2 ^ 63) };
 }
 
 impl Store {

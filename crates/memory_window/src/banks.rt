@@ -123,7 +123,8 @@ fn land_in_turn<G: Gate>(gate: &G, at: u32, place: u32, landing: &Landing<'_, '_
     }
 }
 
-/// The same in as many threads as there are workers, but no more than there are banks that change; each thread lands a run of banks.
+/// Lands the banks in as many threads as there are workers, but no more than there are banks that change; each thread lands a run of
+/// banks.
 /// One worker, and one bank, start no thread.
 fn land_beside<R: Threads + Sync, G: Gate>(
     rt: &R,

@@ -24,7 +24,8 @@ impl<'o, 'f> Change for Landing<'o, 'f> {
 
     ghost byte = { λ l. landed (loads_of l.files.now) l.ops.now };
 
-    ghost is_possible = { λ l. All IsSound l.ops.now × All (IsBacked (loads_of l.files.now)) l.ops.now };
+    ghost is_possible = { λ l. All IsSound l.ops.now
+        × All (IsBacked (loads_of l.files.now)) l.ops.now };
 
     fn apply(&self, at: u32, bank: &mut [u8]) {
         bank_land(at, bank, self.ops, self.files);

@@ -40,9 +40,13 @@ impl Model for Ram {
 
     ghost Value = { Memory };
 
-    ghost view = { λ r. record { areas = cut r.map r.store; guarded = take (length r.map) r.guarded } };
+    ghost view = { λ r. record {
+      areas = cut r.map r.store;
+      guarded = take (length r.map) r.guarded;
+    } };
 
-    ghost invariant = { λ r. (map_fault_of r.map ≡ None) × (length r.guarded ≡ 8) × (total_of r.map ≡ length r.store) };
+    ghost invariant = { λ r. (map_fault_of r.map ≡ None) × (length r.guarded ≡ 8)
+        × (total_of r.map ≡ length r.store) };
 }
 
 impl Ram {
@@ -101,7 +105,8 @@ impl Ram {
         self.land_banks_on(rt, MOST_BANKS, ops, files, gate);
     }
 
-    /// The same with at most so many workers, each of which lands banks that lie side by side. One worker starts no thread.
+    /// Lands operations bank by bank as `land_banks` does, with at most so many workers, each of which lands banks that lie side by side.
+    /// One worker starts no thread.
     pub fn land_banks_on<R: Threads + Sync, G: Gate>(
         &mut self,
         rt: &R,

@@ -266,9 +266,14 @@ impl Model for Map {
 
     ghost view = { λ m. take m.count m.regions };
 
-    ghost invariant = { λ m. (m.count ≤ 8) × (length m.regions ≡ 8) × (m.regions ≡ take m.count m.regions ++ replicate (8 - m.count) blank) × (map_fault_of (take m.count m.regions) ≡ None) };
+    ghost invariant = { λ m. (m.count ≤ 8) × (length m.regions ≡ 8)
+        × (m.regions ≡ take m.count m.regions ++ replicate (8 - m.count) blank)
+        × (map_fault_of (take m.count m.regions) ≡ None) };
 
-    ghost inverse = { λ regions. record { regions = regions ++ replicate (8 - length regions) blank; count = length regions } };
+    ghost inverse = { λ regions. record {
+      regions = regions ++ replicate (8 - length regions) blank;
+      count = length regions;
+    } };
 }
 
 impl Map {

@@ -23,7 +23,8 @@ pub struct Window<'a> {
     // One flag for each region; those behind the last one say nothing.
     flags: &'a [bool],
     block: &'a [u8],
-    ghost bounded: { (length regions.now ≤ 8) × (length flags.now ≡ 8) × (total_of regions.now ≡ length block.now) × (list_any ends_late regions.now ≡ false) },
+    ghost bounded: { (length regions.now ≤ 8) × (length flags.now ≡ 8)
+        × (total_of regions.now ≡ length block.now) × (list_any ends_late regions.now ≡ false) },
 }
 
 impl<'a> Part<'a> {

@@ -49,17 +49,23 @@ impl<'a> Commanded<Reads<'a>> for Duty {
 
     ghost basis = { λ turn. turn.input.seen };
 
-    ghost belongs = { λ turn reads now. (turn.input.seen ≡ seen_in reads.window reads.files.now) × (turn.input.time ≡ now) };
+    ghost belongs = { λ turn reads now. (turn.input.seen ≡ seen_in reads.window reads.files.now)
+        × (turn.input.time ≡ now) };
 
     ghost stands = { λ turn orders duty ops. ops ≡ operations_of turn.input.seen.loads orders };
 
     ghost is_safe = { λ reads n duty ops. CanLand (seen_in reads.window reads.files.now) n ops };
 
-    ghost can_obey = { λ reads duty instruction. CanObey (seen_in reads.window reads.files.now) instruction };
+    ghost can_obey = { λ reads duty instruction. CanObey
+        (seen_in reads.window reads.files.now) instruction };
 
     ghost most = { 16 };
 
-    ghost still_safe = { λ reads n duty ops safe. record { few = Prim.omega arith; admitted = safe.admitted; backed = safe.backed } };
+    ghost still_safe = { λ reads n duty ops safe. record {
+      few = Prim.omega arith;
+      admitted = safe.admitted;
+      backed = safe.backed;
+    } };
 
     ghost timed = { λ turn reads now belongs. belongs.1 };
 

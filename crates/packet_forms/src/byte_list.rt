@@ -21,9 +21,14 @@ impl<const N: usize> Model for ByteList<N> {
 
     ghost view = { λ a. take a.len a.places };
 
-    ghost invariant = { λ a. (a.len ≤ N) × (length a.places ≡ N) × (a.places ≡ take a.len a.places ++ replicate (N - a.len) 0) };
+    ghost invariant = { λ a. (a.len ≤ N) × (length a.places ≡ N)
+        × (a.places ≡ take a.len a.places ++ replicate (N - a.len) 0) };
 
-    ghost inverse = { λ xs. record { len = length xs; places = xs ++ replicate (N - length xs) 0 } };
+    ghost inverse = { λ xs. record {
+      len = length xs;
+      places = xs
+          ++ replicate (N - length xs) 0;
+    } };
 }
 
 impl<const N: usize> ByteList<N> {

@@ -24,7 +24,7 @@ pub fn place_hex(places: &mut [u8], at: usize, bytes: &[u8])
     place_few(places, at + 2 * whole, &bytes[whole..]);
 }
 
-/// The same of bytes whose number is a multiple of eight.
+/// Writes the digits of bytes whose number is a multiple of eight.
 fn place_eights(places: &mut [u8], at: usize, bytes: &[u8])
     requires eights { length bytes.now / 8 * 8 ≡ length bytes.now }
     requires room { at + 2 * length bytes.now ≤ length places.old }
@@ -81,7 +81,7 @@ fn digits_of_lanes(halves: u8x16) -> u8x16
     u8x16::from_array(DIGITS).swizzle_dyn(halves)
 }
 
-/// The same of fewer bytes: of four in a turn, and then of the rest.
+/// Writes the digits of a few bytes: of four in a turn, and then of the rest.
 fn place_few(places: &mut [u8], at: usize, bytes: &[u8])
     requires { at + 2 * length bytes.now ≤ length places.old }
     ensures { places.new ≡ take at places.old
@@ -92,7 +92,7 @@ fn place_few(places: &mut [u8], at: usize, bytes: &[u8])
     place_each(places, at + 2 * whole, &bytes[whole..]);
 }
 
-/// The same of bytes whose number is a multiple of four.
+/// Writes the digits of bytes whose number is a multiple of four.
 fn place_fours(places: &mut [u8], at: usize, bytes: &[u8])
     requires fours { length bytes.now / 4 * 4 ≡ length bytes.now }
     requires room { at + 2 * length bytes.now ≤ length places.old }
@@ -105,7 +105,7 @@ fn place_fours(places: &mut [u8], at: usize, bytes: &[u8])
     }
 }
 
-/// The same of four bytes.
+/// Writes the digits of four bytes.
 #[inline(always)]
 fn place_four(places: &mut [u8], at: usize, bytes: &[u8])
     requires four { length bytes.now ≡ 4 }
@@ -129,7 +129,7 @@ fn place_pair(places: &mut [u8], at: usize, pair: [u8; 2])
     places[at + 1] = pair[1];
 }
 
-/// The same of bytes one at a time.
+/// Writes the digits of bytes one at a time.
 fn place_each(places: &mut [u8], at: usize, bytes: &[u8])
     requires { at + 2 * length bytes.now ≤ length places.old }
     ensures { places.new ≡ take at places.old

@@ -33,9 +33,14 @@ impl Model for Block {
 
     ghost Value = { Waiting };
 
-    ghost view = { λ a. record { bytes = drop a.from a.bytes.items; taken = a.from; ends = a.ends.items } };
+    ghost view = { λ a. record {
+      bytes = drop a.from a.bytes.items;
+      taken = a.from;
+      ends = a.ends.items;
+    } };
 
-    ghost invariant = { λ a. IsRoomy (vec_len a.bytes) (vec_capacity a.bytes) a.from (vec_len a.ends) (vec_capacity a.ends) };
+    ghost invariant = { λ a. IsRoomy (vec_len a.bytes) (vec_capacity a.bytes) a.from
+        (vec_len a.ends) (vec_capacity a.ends) };
 }
 
 impl Block {

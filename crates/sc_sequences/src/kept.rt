@@ -34,7 +34,12 @@ impl Model for KeptCursor {
 
     ghost invariant = { λ k. IsKept k.span k.low };
 
-    ghost inverse = { λ c. record { low = low_of c.next; at = c.at; span = span_of c.next; enabled = c.enabled } };
+    ghost inverse = { λ c. record {
+      low = low_of c.next;
+      at = c.at;
+      span = span_of c.next;
+      enabled = c.enabled;
+    } };
 
     ghost inverse_ok = { λ k kept. kept_back k.span k.low k.at k.enabled kept };
 }

@@ -51,9 +51,12 @@ impl<'a> Commanded<Reads<'a>> for Duty {
 
     ghost basis = { λ wakeup. basis_of (sequences_of wakeup.setup wakeup.history) wakeup.input };
 
-    ghost belongs = { λ wakeup reads now. (reads.tables.now ≡ tables_after wakeup.setup wakeup.history) × (wakeup.input.time ≡ now) };
+    ghost belongs = { λ wakeup reads now. (reads.tables.now
+        ≡ tables_after wakeup.setup wakeup.history) × (wakeup.input.time ≡ now) };
 
-    ghost stands = { λ wakeup orders duty left. DutyStands (tables_after wakeup.setup wakeup.history) (ordered wakeup.input.time orders (sequences_of wakeup.setup wakeup.history)) duty };
+    ghost stands = { λ wakeup orders duty left. DutyStands
+        (tables_after wakeup.setup wakeup.history)
+        (ordered wakeup.input.time orders (sequences_of wakeup.setup wakeup.history)) duty };
 
     ghost is_safe = { λ reads n duty left. (s : Sequences) × DutyStands reads.tables.now s duty };
 

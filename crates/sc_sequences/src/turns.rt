@@ -48,7 +48,8 @@ impl Duty {
         requires runs { (time : ℕ) × ((cursor_in self.old.cursors place).next ≡ Some time) }
         requires room { length out.old.items + 2 ≤ out.old.room }
         ensures stands { (s : Sequences) → DutyStands tables.now s self.old
-            → DutyStands tables.now (leaving now s place (at_place s.all place).left).after self.new }
+            → DutyStands tables.now (leaving now s place
+            (at_place s.all place).left).after self.new }
         ensures items { (s : Sequences) → DutyStands tables.now s self.old
             → out.new ≡ adding out.old (leaving now s place (at_place s.all place).left).items }
         ensures counted { AllPass is_item_counted out.old.items

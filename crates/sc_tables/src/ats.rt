@@ -17,7 +17,8 @@ pub struct Ats<'f> {
     count: usize,
     ghost few: { count ≤ 1000 },
     ghost placed: { ArePlaced payload.now (take count places) } by { Prim.hlevel props },
-    ghost in_order: { AreInOrder (timed_in payload.now (take count places)) } by { Prim.hlevel props },
+    ghost in_order: { AreInOrder (timed_in payload.now
+        (take count places)) } by { Prim.hlevel props },
 }
 
 impl<'f> Ats<'f> {

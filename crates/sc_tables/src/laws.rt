@@ -28,7 +28,8 @@ pub fn payloads_spell_their_commands()
     ensures absolute { (payload : List ℕ) (commands : List Timed) → All (λ b. b < 256) payload
         → (stored_ats payload ≡ Ok commands) ↔ Spells timed_spelled AreTimed payload commands }
     ensures relative { (payload : List ℕ) (commands : List Relative) → All (λ b. b < 256) payload
-        → (stored_rts payload ≡ Ok commands) ↔ Spells relative_spelled AreRelative payload commands }
+        → (stored_rts payload ≡ Ok commands)
+        ↔ Spells relative_spelled AreRelative payload commands }
 {}
 
 /// A payload is refused exactly where something else stands behind the commands that it spells: the entry behind them, with its first reason.

@@ -53,9 +53,17 @@ impl Model for FrameInput {
 
     ghost Value = { Frame };
 
-    ghost view = { λ f. record { sends = f.sends; counters = f.counters.items; upsets = f.upsets.items; held = f.held.items; activations = f.activations.items } };
+    ghost view = { λ f. record {
+      sends = f.sends;
+      counters = f.counters.items;
+      upsets = f.upsets.items;
+      held = f.held.items;
+      activations = f.activations.items;
+    } };
 
-    ghost invariant = { λ f. (f.count ≡ length f.sends + length f.counters.items + length f.upsets.items + f.special) × (f.special ≡ length f.held.items + length f.activations.items) × (f.count ≤ 64) };
+    ghost invariant = { λ f. (f.count
+        ≡ length f.sends + length f.counters.items + length f.upsets.items + f.special)
+        × (f.special ≡ length f.held.items + length f.activations.items) × (f.count ≤ 64) };
 }
 
 impl FrameInput {

@@ -260,7 +260,10 @@ impl Progress {
         requires hidden { self.now.shown ≡ false }
         requires takes { takes ≤ 1000 }
         ensures value { (old : Before) → Follows self.now old
-            → Gives (λ _. said.new) result (reads old (record { bytes = line.now; takes = takes })) }
+            → Gives (λ _. said.new) result (reads old (record {
+              bytes = line.now;
+              takes = takes;
+            })) }
         ensures room { IfOk result (λ _. HasRoomFor self.now said.new) }
         ensures placed { IfOk result (λ _. IsPlaced self.now.place said.new) }
         ensures small { IfOk result (λ _. self.now.bytes + takes ≤ 16777216) }

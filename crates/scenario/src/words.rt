@@ -154,7 +154,7 @@ pub(crate) fn hex(word: &[u8], places: &mut [u8; PACKET_BYTES]) -> Option<usize>
     long_hex(word, places)
 }
 
-/// The same of at least eight pairs, eight at once. The last eight may be read in part before.
+/// Writes the bytes of at least eight pairs of digits, eight at once. The last eight may be read in part before.
 fn long_hex(word: &[u8], places: &mut [u8; PACKET_BYTES]) -> Option<usize>
     requires even { length word.now % 2 ≡ 0 }
     requires long { LANES ≤ length word.now }
@@ -174,7 +174,7 @@ fn long_hex(word: &[u8], places: &mut [u8; PACKET_BYTES]) -> Option<usize>
     Some(count)
 }
 
-/// The same, one pair after another.
+/// Writes the bytes of pairs of digits, one pair after another.
 fn short_hex(word: &[u8], places: &mut [u8; PACKET_BYTES]) -> Option<usize>
     requires { length word.now ≤ 2 * PACKET_BYTES }
     ensures bytes { option_map (λ count. take count places.new) result ≡ hex word.now }

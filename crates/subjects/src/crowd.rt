@@ -37,7 +37,8 @@ impl<S> Model for Crowd<S> {
 
     ghost view = { λ c. record { subjects = held c.seats.items; readings = c.readings.items } };
 
-    ghost invariant = { λ c. (length c.seats.items ≤ 64) × (length c.readings.items ≤ 64) × (length c.seats.items ≤ vec_capacity c.readings) };
+    ghost invariant = { λ c. (length c.seats.items ≤ 64) × (length c.readings.items ≤ 64)
+        × (length c.seats.items ≤ vec_capacity c.readings) };
 }
 
 /// Seats subjects in their order.

@@ -44,7 +44,11 @@ impl Model for Listed {
 
     ghost Value = { Simulated };
 
-    ghost view = { λ s. record { name = s.name; plan = record { values = s.values.items; back = s.back }; at = s.at } };
+    ghost view = { λ s. record {
+      name = s.name;
+      plan = record { values = s.values.items; back = s.back };
+      at = s.at;
+    } };
 
     ghost invariant = { λ s. (s.back < length s.values.items) × (s.at < length s.values.items) };
 }

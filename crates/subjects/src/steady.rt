@@ -20,7 +20,11 @@ impl Model for Steady {
 
     ghost Value = { Simulated };
 
-    ghost view = { λ s. record { name = s.name; plan = steady_plan; at = (if s.at_second then 1 else 0) } };
+    ghost view = { λ s. record {
+      name = s.name;
+      plan = steady_plan;
+      at = (if s.at_second then 1 else 0);
+    } };
 }
 
 impl Steady {

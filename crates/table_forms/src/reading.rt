@@ -63,7 +63,8 @@ pub fn read_table(alloc: Global, forms: &TextForms<'_>, text: &[u8]) -> Result<V
     requires layouts { are_layouts forms.now.layouts.now ≡ true }
     requires short { 1 + length text.now < 2 ^ 32 }
     ensures said { GivesFile (table_said forms.now text.now) result }
-    ensures accepted { IfOk result (λ file. IsTakenAs (first_said (kept_of 1 text.now)) file.items) }
+    ensures accepted { IfOk result (λ file. IsTakenAs
+        (first_said (kept_of 1 text.now)) file.items) }
 {
     let mut file = Vec::new(alloc);
     match read_file_of(alloc, forms, text, &mut file) {

@@ -25,7 +25,11 @@ struct Waiting {
 impl Subject for Waiting {
     ghost use Rattle.std.specs.Prelude.{[], ◌∷◌};
 
-    ghost seen = { λ s. record { name = s.name; plan = record { values = 9 ∷ []; back = 0 }; at = 0 } };
+    ghost seen = { λ s. record {
+      name = s.name;
+      plan = record { values = 9 ∷ []; back = 0 };
+      at = 0;
+    } };
 
     fn name(&self) -> Name {
         self.name
@@ -97,7 +101,11 @@ struct Counted {
 impl Subject for Counted {
     ghost use Rattle.std.specs.Prelude.{[], ◌∷◌};
 
-    ghost seen = { λ s. record { name = s.name; plan = record { values = 9 ∷ []; back = 0 }; at = 0 } };
+    ghost seen = { λ s. record {
+      name = s.name;
+      plan = record { values = 9 ∷ []; back = 0 };
+      at = 0;
+    } };
 
     fn name(&self) -> Name {
         self.name
