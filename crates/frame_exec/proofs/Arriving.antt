@@ -22,8 +22,7 @@ upset_none b = record {
   run = record { waits = refl; epoch = refl; number = refl; failed = refl; tables = refl };
   told = refl;
   apps = record { hs = refl; cs = refl; sc = refl; mm = refl; md = refl; lc = refl };
-  pipes = refl;
-  log = refl;
+  wires = refl;
   memory = refl;
 }
 

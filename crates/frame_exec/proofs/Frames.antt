@@ -14,6 +14,7 @@ use Rattle.packet_log.specs.Standing.{Stands as LogStands}
 use Rattle.scenario.specs.declared.frame.Upset.{Upset}
 use Rattle.scenario.specs.FrameLists.{Frame}
 use Rattle.frame_exec.specs.declared.bench.Bench.{Bench}
+use Rattle.frame_exec.specs.declared.wires.Wires.{Wires}
 use Rattle.hs_monitors.specs.Histories.{setup_of}
 use Rattle.hs_monitors.specs.State.{Stands as HsStands}
 use Rattle.hs_monitors.specs.Step.{resets_made, resets_maximum}
@@ -61,15 +62,15 @@ ready_by before b same tables kept ready = record {
 }
 
 -- the bench has what the run has come to after the wakeups of a frame
-pub has_after : (before b : Bench) (setup : Setup) (s : State) (frame : Frame) → KeepsApps before b → b.bus ≡ before.bus → b.log ≡ before.log → b.ram ≡ land (loads_of setup.files) before.ops.value before.ram
+pub has_after : (before b : Bench) (setup : Setup) (s : State) (frame : Frame) → KeepsApps before b → b.wires ≡ before.wires → b.ram ≡ land (loads_of setup.files) before.ops.value before.ram
     → b.number ≡ s.number + 1 → b.tables.set ≡ s.tables → RunsIn setup s frame before → Has b (after_wakeups setup s frame)
 unfolding after_wakeups
-has_after before b setup s frame kept pipes log memory number tables ran = record {
+has_after before b setup s frame kept wires memory number tables ran = record {
   number = number;
   tables = tables;
   apps = apps_kept before b (after_wakeups setup s frame) kept ran.apps;
-  pipes = pipes ∙ ran.pipes;
-  made = subst (LogStands _) (sym log) ran.made;
+  pipes = ap (λ (w : Wires). w.bus) wires ∙ ran.pipes;
+  made = subst (LogStands _) (sym (ap (λ (w : Wires). w.log) wires)) ran.made;
   memory = memory ∙ ap (λ (xs : List MemOp). land (loads_of setup.files) xs before.ram) ran.operations ∙ ap (λ (m : Memory). land (loads_of setup.files) (operations_at setup s frame) m) ran.memory;
 }
 
@@ -93,7 +94,7 @@ module _ (before middle b : Bench) (setup : Setup) (frames : List Frame) (frame 
   has_landed : before.tables.files ≡ setup.files → before.number ≡ (run_of setup frames).number → RunsIn setup (activated_at setup (run_of setup frames) frame) frame before
       → Has b (after_wakeups setup (activated_at setup (run_of setup frames) frame) frame)
   has_landed files number ran =
-      (has_after before b setup (activated_at setup (run_of setup frames) frame) frame kept (lands.pipes ∙ same.pipes) (lands.log ∙ same.log) (landed ∙ ap (λ (fs : List (List ℕ)). land (loads_of fs) before.ops.value before.ram) files) (lands.number ∙ ap (λ (n : ℕ). n + 1) (same.number ∙ number ∙ sym (activated_number setup (run_of setup frames) frame))) (ap (λ (t : Loaded). t.set) tables_same ∙ ran.tables) ran)
+      (has_after before b setup (activated_at setup (run_of setup frames) frame) frame kept (lands.wires ∙ same.wires) (landed ∙ ap (λ (fs : List (List ℕ)). land (loads_of fs) before.ops.value before.ram) files) (lands.number ∙ ap (λ (n : ℕ). n + 1) (same.number ∙ number ∙ sym (activated_number setup (run_of setup frames) frame))) (ap (λ (t : Loaded). t.set) tables_same ∙ ran.tables) ran)
 
   -- and then a processor reset took effect, where one was asked for
   pub has_next : (end : Bench) → StartsAnew b end → before.epoch ≡ setup.epoch → before.tables.files ≡ setup.files → before.number ≡ (run_of setup frames).number
@@ -125,7 +126,7 @@ can_land_still before middle same can =
 -- a bench whose histories begin: with this number of frames, at this time of SC, and with these resets of HS
 pub has_begun : (b : Bench) (setup : Setup) (number began resets limit : ℕ) (pipes : Pipes) (made : List (List ℕ)) (memory : Memory) → b.number ≡ number → b.tables.set ≡ tables_of setup.files
     → HsStands (setup_of b.tables.set.hs resets limit) [] b.hs.state.value → CsStands (cs_tables b.tables.set) [] b.cs.state.value → ScStands (begun_at began b.tables.set.sc) [] b.sc.state.value
-    → MmStands [] b.mm.state.value → MdStands b.tables.set.dwells [] b.md.state.value → LcStands b.tables.set.wdt b.tables.set.adt [] b.lc.slot.state.value → b.bus ≡ pipes → LogStands made b.log → b.ram ≡ memory
+    → MmStands [] b.mm.state.value → MdStands b.tables.set.dwells [] b.md.state.value → LcStands b.tables.set.wdt b.tables.set.adt [] b.lc.slot.state.value → b.wires.bus ≡ pipes → LogStands made b.wires.log → b.ram ≡ memory
     → Has b (record (beginning setup) { number = number; began = began; resets = resets; limit = limit; pipes = pipes; made = made; memory = memory })
 unfolding beginning
 has_begun b setup number began resets limit pipes made memory numbered tables hs cs sc mm md lc held log image =
@@ -157,7 +158,7 @@ ready_begun b regions same sequences dwells given = record {
 -- a bench that was opened stands for no frames
 pub stands_opened : (b : Bench) (setup : Setup) → b.epoch ≡ setup.epoch → b.tables.files ≡ setup.files → b.failed ≡ false → b.block ≡ empty_block → b.number ≡ 0 → b.tables.set ≡ tables_of setup.files
     → HsStands (setup_of b.tables.set.hs 0 3) [] b.hs.state.value → CsStands (cs_tables b.tables.set) [] b.cs.state.value → ScStands (begun_at setup.epoch b.tables.set.sc) [] b.sc.state.value → MmStands [] b.mm.state.value
-    → MdStands b.tables.set.dwells [] b.md.state.value → LcStands b.tables.set.wdt b.tables.set.adt [] b.lc.slot.state.value → AreGiven setup.regions b.tables → ScIsReady b.tables.set.sc b.sc.state.value → AllGiven setup.regions b.md.state.value → b.bus ≡ empty_pipes (lc_named setup.files) → LogStands [] b.log → b.ram ≡ start_memory setup.regions → Stands b setup []
+    → MdStands b.tables.set.dwells [] b.md.state.value → LcStands b.tables.set.wdt b.tables.set.adt [] b.lc.slot.state.value → AreGiven setup.regions b.tables → ScIsReady b.tables.set.sc b.sc.state.value → AllGiven setup.regions b.md.state.value → b.wires.bus ≡ empty_pipes (lc_named setup.files) → LogStands [] b.wires.log → b.ram ≡ start_memory setup.regions → Stands b setup []
 unfolding run_of beginning
 stands_opened b setup epoch files well waits number tables hs cs sc mm md lc given sequences dwells pipes made memory = record {
   epoch = epoch;

@@ -26,8 +26,9 @@ use Rattle.md_dwell.specs.Given.{TablesGiven}
 use Rattle.hs_monitors.specs.State.{Stands as HsStands}
 use Rattle.lc_watch.specs.Histories.{Setup as LcSetup}
 use Rattle.lc_watch.specs.declared.state.Lc.{Lc}
-use Rattle.frame_exec.specs.declared.bench.TheConstants.{DROPS, EVENTS_ROOM}
+use Rattle.frame_exec.specs.declared.bench.TheConstants.{EVENTS_ROOM}
 use Rattle.frame_exec.specs.declared.bench.Bench.{Bench}
+use Rattle.frame_exec.specs.declared.wires.Wires.{Wires}
 use Rattle.app_suite.specs.declared.activations.Naming.{Naming}
 use Rattle.app_suite.specs.declared.activations.Naming.TheVariants.{Accepted, Refused, Running}
 use Rattle.active_tables.specs.Tables.{TableSet, Loaded, AreGiven, with_table, with_file}
@@ -47,8 +48,7 @@ pub record KeepsRest (old new : Bench) : Type 0 where
   pub sc : new.sc.state ≡ old.sc.state
   pub mm : new.mm.state ≡ old.mm.state
   pub lc : new.lc.slot.state ≡ old.lc.slot.state
-  pub pipes : new.bus ≡ old.bus
-  pub log : new.log ≡ old.log
+  pub wires : new.wires ≡ old.wires
   pub memory : new.ram ≡ old.ram
 
 -- no sequence of this kind runs in a state of SC
@@ -87,8 +87,8 @@ module _ (old new : Bench) (kind : TableKind) (payload : List ℕ) (known : IsKn
           lc = subst (λ (limits : LcSetup). lc_stands limits s.lc new.lc.slot.state.value) (sym (limits_stay s.tables kind payload can))
               (subst (λ (state : Box Lc Global). lc_stands (lc_setup s.tables) s.lc state.value) (sym keeps.lc) has.apps.lc);
         };
-        pipes = keeps.pipes ∙ has.pipes;
-        made = subst (λ (log : List ℕ). LogStands s.made log) (sym keeps.log) has.made;
+        pipes = ap (λ (w : Wires). w.bus) keeps.wires ∙ has.pipes;
+        made = subst (λ (w : Wires). LogStands s.made w.log) (sym keeps.wires) has.made;
         memory = keeps.memory ∙ has.memory;
       }
 
@@ -175,8 +175,8 @@ named_active old new n kind is known can rests tables takes keeps goes told = re
 }
 
 -- what was told of activations is no part of what a run has come to
-pub has_told : (b : Bench) (events : Held Out) (drops : b.drops.room ≡ DROPS) (jobs : b.crew.jobs ≡ jobs_of b.bus.watched) (there : b.lc.there ≡ b.bus.watched) (room : events.room ≡ EVENTS_ROOM) (s : State) → Has b s → Has (record b { activations = events; drops_room = drops; manned = jobs; there = there; activations_room = room }) s
-has_told b events drops jobs there room s has = record {
+pub has_told : (b : Bench) (events : Held Out) (jobs : b.crew.jobs ≡ jobs_of b.wires.bus.watched) (there : b.lc.there ≡ b.wires.bus.watched) (room : events.room ≡ EVENTS_ROOM) (s : State) → Has b s → Has (record b { activations = events; manned = jobs; there = there; activations_room = room }) s
+has_told b events jobs there room s has = record {
   number = has.number;
   tables = has.tables;
   apps = record { hs = has.apps.hs; cs = has.apps.cs; sc = has.apps.sc; mm = has.apps.mm; md = has.apps.md; lc = has.apps.lc };
@@ -185,8 +185,8 @@ has_told b events drops jobs there room s has = record {
   memory = has.memory;
 }
 
-pub ready_told : (b : Bench) (events : Held Out) (drops : b.drops.room ≡ DROPS) (jobs : b.crew.jobs ≡ jobs_of b.bus.watched) (there : b.lc.there ≡ b.bus.watched) (room : events.room ≡ EVENTS_ROOM) → IsReady b → IsReady (record b { activations = events; drops_room = drops; manned = jobs; there = there; activations_room = room })
-ready_told b events drops jobs there room ready = record { sc = ready.sc; md = ready.md; given = ready.given }
+pub ready_told : (b : Bench) (events : Held Out) (jobs : b.crew.jobs ≡ jobs_of b.wires.bus.watched) (there : b.lc.there ≡ b.wires.bus.watched) (room : events.room ≡ EVENTS_ROOM) → IsReady b → IsReady (record b { activations = events; manned = jobs; there = there; activations_room = room })
+ready_told b events jobs there room ready = record { sc = ready.sc; md = ready.md; given = ready.given }
 
 -- which sequences run is the same behind lines that name files, and so is what becomes of further ones
 runs_stay : (setup : Setup) (s : State) (numbers : List ℕ) (kind : TableKind) → runs_at (fold (after_activation setup) s numbers) kind ≡ runs_at s kind
@@ -206,15 +206,15 @@ events_stay setup s numbers (n ∷ more) =
     ∙ ap (λ (items : List Out). table_event (time_at setup s) (naming_at s (kind_at setup.files n)) ∷ items) (events_stay setup s numbers more)
 
 -- no file is named, and what was told before is forgotten
-pub forgets : (b : Bench) (events : Held Out) (drops : b.drops.room ≡ DROPS) (jobs : b.crew.jobs ≡ jobs_of b.bus.watched) (there : b.lc.there ≡ b.bus.watched) (room : events.room ≡ EVENTS_ROOM) → events.items ≡ [] → Activates [] [] b (record b { activations = events; drops_room = drops; manned = jobs; there = there; activations_room = room })
+pub forgets : (b : Bench) (events : Held Out) (jobs : b.crew.jobs ≡ jobs_of b.wires.bus.watched) (there : b.lc.there ≡ b.wires.bus.watched) (room : events.room ≡ EVENTS_ROOM) → events.items ≡ [] → Activates [] [] b (record b { activations = events; manned = jobs; there = there; activations_room = room })
 unfolding table_events
-forgets b events drops jobs there room none = record {
+forgets b events jobs there room none = record {
   goes = record { waits = refl; epoch = refl; number = refl; failed = refl; files = refl };
   memory = refl;
   many = ap (λ (items : List Out). length items) none;
   counted = λ counted. subst (AllPass is_item_counted) (sym none) counted;
   events = λ setup s epoch files has. none;
-  has = λ setup s files has. has_told b events drops jobs there room s has;
+  has = λ setup s files has. has_told b events jobs there room s has;
 }
 
 -- no file is named yet
@@ -257,11 +257,11 @@ activates_more old middle new numbers more told between same first second =
     }
 
 -- what was told of one file
-pub activates_one : (old middle : Bench) (n : ℕ) (naming : Naming) (time : ℕ) (events : Held Out) (drops : middle.drops.room ≡ DROPS) (jobs : middle.crew.jobs ≡ jobs_of middle.bus.watched) (there : middle.lc.there ≡ middle.bus.watched) (room : events.room ≡ EVENTS_ROOM)
+pub activates_one : (old middle : Bench) (n : ℕ) (naming : Naming) (time : ℕ) (events : Held Out) (jobs : middle.crew.jobs ≡ jobs_of middle.wires.bus.watched) (there : middle.lc.there ≡ middle.wires.bus.watched) (room : events.room ≡ EVENTS_ROOM)
     → ((setup : Setup) (s : State) → old.tables.files ≡ setup.files → Has old s → naming ≡ naming_at s (kind_at setup.files n)) → time ≡ time_of old → NamesFile n old middle
-    → events.items ≡ middle.activations.items ++ table_event time naming ∷ [] → Activates (n ∷ []) old.activations.items old (record middle { activations = events; drops_room = drops; manned = jobs; there = there; activations_room = room })
+    → events.items ≡ middle.activations.items ++ table_event time naming ∷ [] → Activates (n ∷ []) old.activations.items old (record middle { activations = events; manned = jobs; there = there; activations_room = room })
 unfolding table_events
-activates_one old middle n naming time events drops jobs there room is at names told =
+activates_one old middle n naming time events jobs there room is at names told =
     let told_here : events.items ≡ old.activations.items ++ table_event time naming ∷ [] = told ∙ ap (λ (held : Held Out). held.items ++ table_event time naming ∷ []) names.told in
     record {
       goes = record { waits = names.goes.waits; epoch = names.goes.epoch; number = names.goes.number; failed = names.goes.failed; files = names.goes.files };
@@ -271,7 +271,7 @@ activates_one old middle n naming time events drops jobs there room is at names 
       events = λ setup s epoch files has.
           told_here ∙ ap (λ (m : Naming). old.activations.items ++ table_event time m ∷ []) (is setup s files has)
           ∙ ap (λ (t : ℕ). old.activations.items ++ table_event t (naming_at s (kind_at setup.files n)) ∷ []) (at ∙ ap (λ (e : ℕ). e + old.number) epoch ∙ ap (λ (k : ℕ). setup.epoch + k) has.number);
-      has = λ setup s files has. has_told middle events drops jobs there room (after_activation setup s n) (names.has setup s files has);
+      has = λ setup s files has. has_told middle events jobs there room (after_activation setup s n) (names.has setup s files has);
     }
 
 -- a bench that has the state behind the files that a frame names

@@ -16,6 +16,7 @@ use Rattle.scenario.specs.declared.frame.App.TheVariants as names
 use Rattle.scenario.specs.declared.frame.Upset.{Upset}
 use Rattle.scenario.specs.FrameLists.{Frame}
 use Rattle.frame_exec.specs.declared.bench.Bench.{Bench}
+use Rattle.frame_exec.specs.declared.wires.Wires.{Wires}
 use Rattle.active_tables.specs.Tables.{TableSet, Loaded}
 use Rattle.app_suite.specs.Applications.{cs_tables, lc_setup, hs_stands, cs_stands, sc_stands, mm_stands, md_stands, lc_stands, hs_gives, cs_gives, sc_gives, mm_gives, md_gives, lc_gives, hs_reads, cs_reads, sc_reads, mm_reads, md_reads, lc_reads}
 use Rattle.app_suite.specs.Wakes.{HasTaken, IsWoken, unless, joined}
@@ -27,7 +28,7 @@ use Rattle.frame_exec.proofs.Waking.{woken_state, woken_items, woken_beside, see
 
 -- A bench that has what a run has come to but for the frame's upsets, which are written; then what the applications took, and then that
 -- they were woken.
-module _ (setup : Setup) (s : State) (frame : Frame) (start took stepped : Bench) (epoch : start.epoch ≡ setup.epoch) (files : start.tables.files ≡ setup.files) (number : start.number ≡ s.number) (tables : start.tables.set ≡ s.tables) (pipes : start.bus ≡ s.pipes)
+module _ (setup : Setup) (s : State) (frame : Frame) (start took stepped : Bench) (epoch : start.epoch ≡ setup.epoch) (files : start.tables.files ≡ setup.files) (number : start.number ≡ s.number) (tables : start.tables.set ≡ s.tables) (pipes : start.wires.bus ≡ s.pipes)
     (image : start.ram ≡ image_at s frame) (apps : AppsStand start s) (takes : Takes frame.held start took) (steps : Steps frame.counters took stepped) where
   same_tables : took.tables.set ≡ s.tables
   same_tables = ap (λ (t : Loaded). t.set) takes.run.tables ∙ tables
@@ -139,16 +140,16 @@ module _ (setup : Setup) (s : State) (frame : Frame) (start took stepped : Bench
       same_time same_image steps.operations))
 
   -- what the pipes hold then
-  left : stepped.bus ≡ left_by frame.held s.pipes
-  left = steps.pipes ∙ takes.pipes ∙ ap (left_by frame.held) pipes
+  left : stepped.wires.bus ≡ left_by frame.held s.pipes
+  left = ap (λ (w : Wires). w.bus) steps.wires ∙ takes.pipes ∙ ap (left_by frame.held) pipes
 
   -- and once the items were sent, behind what was told of the frame's activations, what of the frame remains to be written and to land
-  pub ran : (end : Bench) → stepped.activations.items ≡ table_events setup s frame.activations → LogStands s.made start.log → Sends frame.sends stepped end → RunsIn setup s frame end
+  pub ran : (end : Bench) → stepped.activations.items ≡ table_events setup s frame.activations → LogStands s.made start.wires.log → Sends frame.sends stepped end → RunsIn setup s frame end
   unfolding sent_at resets_at offers_at
   ran end events stood sends =
       let items : joined (items_in stepped) ≡ joined (items_at setup s frame) =
       ap (λ (told : List Out). joined (told ∷ given_in stepped)) events ∙ ap (λ (lists : List (List Out)). joined lists) items_after in
-      let log : LogStands s.made stepped.log = subst (LogStands s.made) (sym (steps.log ∙ takes.log)) stood in
+      let log : LogStands s.made stepped.wires.log = subst (LogStands s.made) (sym (ap (λ (w : Wires). w.log) steps.wires ∙ takes.log)) stood in
       let sent : joined (items_in end) ≡ sent_of s.made (joined (items_at setup s frame)) = sends.sent s.made log ∙ ap (sent_of s.made) items in
       let resets : end.resets ≡ resets_at setup s frame = sends.resets ∙ ap (list_any is_reset) items in
       let offers : offered end.resets frame.sends (joined (items_in end)) ≡ offers_at setup s frame =
@@ -160,7 +161,7 @@ module _ (setup : Setup) (s : State) (frame : Frame) (start took stepped : Bench
         resets = resets;
         drops = sends.drops ∙ ap (λ (p : Pipes). drops_from p (offered end.resets frame.sends (joined (items_in end)))) left ∙ ap (drops_from (left_by frame.held s.pipes)) offers;
         pipes = sends.pipes ∙ ap (λ (p : Pipes). after_offers p (offered end.resets frame.sends (joined (items_in end)))) left ∙ ap (after_offers (left_by frame.held s.pipes)) offers;
-        made = subst (λ (items : List Out). LogStands (s.made ++ flat_map makes items) end.log) items (sends.made s.made log);
+        made = subst (λ (items : List Out). LogStands (s.made ++ flat_map makes items) end.wires.log) items (sends.made s.made log);
         operations = sends.operations ∙ operations_after;
         memory = sends.memory ∙ steps.memory ∙ same_image;
       }

@@ -13,7 +13,7 @@ use Rattle.md_dwell.specs.State.{AllGiven}
 use Rattle.md_dwell.specs.declared.state.Md.{Md}
 use Rattle.hs_monitors.specs.declared.step.TheConstants.{MOST_ITEMS as hs_most}
 use Rattle.lc_watch.specs.declared.step.TheConstants.{MOST_ITEMS as lc_most}
-use Rattle.frame_exec.specs.declared.bench.TheConstants.{DROPS, EVENTS_ROOM}
+use Rattle.frame_exec.specs.declared.bench.TheConstants.{EVENTS_ROOM}
 use Rattle.frame_exec.specs.declared.bench.Bench.{Bench}
 use Rattle.crew_board.specs.Seen.{Seen as Crew}
 use Rattle.app_suite.specs.declared.left.Left.{Left}
@@ -50,9 +50,9 @@ pub rested : {Input State : Type 0} (stands : List Input → State → Type 0) (
 rested stands gives held input old items none woken = record { state = woken.state; given = λ history stood. none ∙ woken.given history stood }
 
 -- what the jobs left but LC's was taken over, and then LC's: the rest stays as it was
-pub over_beside : (old new : Bench) (lc : LcSlot) (crew : Crew Left) (room : new.drops.room ≡ DROPS) (manned : crew.jobs ≡ jobs_of new.bus.watched) (there : lc.there ≡ new.bus.watched) (told : new.activations.room ≡ EVENTS_ROOM)
-    → TakesOver old new → TakesOver old (record new { lc = lc; crew = crew; drops_room = room; manned = manned; there = there; activations_room = told })
-over_beside old new lc crew room manned there told taken = record {
+pub over_beside : (old new : Bench) (lc : LcSlot) (crew : Crew Left) (manned : crew.jobs ≡ jobs_of new.wires.bus.watched) (there : lc.there ≡ new.wires.bus.watched) (told : new.activations.room ≡ EVENTS_ROOM)
+    → TakesOver old new → TakesOver old (record new { lc = lc; crew = crew; manned = manned; there = there; activations_room = told })
+over_beside old new lc crew manned there told taken = record {
   run = record { waits = taken.run.waits; epoch = taken.run.epoch; number = taken.run.number; failed = taken.run.failed; tables = taken.run.tables };
   told = taken.told;
   hs = taken.hs;
@@ -60,16 +60,15 @@ over_beside old new lc crew room manned there told taken = record {
   sc = taken.sc;
   mm = taken.mm;
   md = taken.md;
-  pipes = taken.pipes;
-  log = taken.log;
+  wires = taken.wires;
   memory = taken.memory;
 }
 
 -- the applications were woken in a bench that is the same but for the proofs of its facts
-pub steps_beside : (counters : List Counter) (old new : Bench) (room : old.drops.room ≡ DROPS) (manned : old.crew.jobs ≡ jobs_of old.bus.watched) (roomy : old.lc.telemetry.room ≡ TELEMETRY_PIPE_DEPTH)
-    (away : old.lc.there ≡ false → (old.lc.slot.held ≡ true) × (old.lc.slot.out.items ≡ [])) (there : old.lc.there ≡ old.bus.watched) (told : old.activations.room ≡ EVENTS_ROOM)
-    → Steps counters (record old { lc = record old.lc { roomy = roomy; away = away }; drops_room = room; manned = manned; there = there; activations_room = told }) new → Steps counters old new
-steps_beside counters old new room manned roomy away there told steps = record {
+pub steps_beside : (counters : List Counter) (old new : Bench) (manned : old.crew.jobs ≡ jobs_of old.wires.bus.watched) (roomy : old.lc.telemetry.room ≡ TELEMETRY_PIPE_DEPTH)
+    (away : old.lc.there ≡ false → (old.lc.slot.held ≡ true) × (old.lc.slot.out.items ≡ [])) (there : old.lc.there ≡ old.wires.bus.watched) (told : old.activations.room ≡ EVENTS_ROOM)
+    → Steps counters (record old { lc = record old.lc { roomy = roomy; away = away }; manned = manned; there = there; activations_room = told }) new → Steps counters old new
+steps_beside counters old new manned roomy away there told steps = record {
   run = record { waits = steps.run.waits; epoch = steps.run.epoch; number = steps.run.number; failed = steps.run.failed; tables = steps.run.tables };
   told = steps.told;
   hs = steps.hs;
@@ -79,8 +78,7 @@ steps_beside counters old new room manned roomy away there told steps = record {
   md = steps.md;
   lc = steps.lc;
   operations = steps.operations;
-  pipes = steps.pipes;
-  log = steps.log;
+  wires = steps.wires;
   memory = steps.memory;
 }
 
@@ -106,8 +104,7 @@ module _ (counters : List Counter) (old middle new : Bench) (woken : AreWoken co
         md = λ tables. taken_woken _ _ _ _ _ _ _ _ _ _ _ _ _ (woken.md taken.md.0 taken.md.1).0 (ap (λ slot. slot.state.value) slots.md) taken.md.2.0 taken.md.2.1 tables tt;
         lc = lc;
         operations = taken.mm.2.2 ∙ (woken.mm taken.mm.0 taken.mm.1).1.are;
-        pipes = taken.pipes ∙ slots.pipes;
-        log = taken.log ∙ slots.log;
+        wires = taken.wires ∙ slots.wires;
         memory = same_memory;
       }
 

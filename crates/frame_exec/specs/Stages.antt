@@ -94,8 +94,7 @@ pub record IsUpset (upsets : List Upset) (old new : Bench) : Type 0 where
   pub run : IsSameRun old new
   pub told : new.activations ≡ old.activations
   pub apps : KeepsApps old new
-  pub pipes : new.bus ≡ old.bus
-  pub log : new.log ≡ old.log
+  pub wires : new.wires ≡ old.wires
   pub memory : new.ram ≡ fold upset_by old.ram upsets
 
 -- each application took what its pipes held, unless it was held, and LC where its pipes are there; and gave nothing yet
@@ -103,17 +102,17 @@ pub record Takes (held : List App) (old new : Bench) : Type 0 where
   pub run : IsSameRun old new
   pub told : new.activations ≡ old.activations
   pub apps : KeepsApps old new
-  pub hs : HasTaken (list_any (is_same names.Hs) held) old.bus.hs new.hs.held new.hs.commands new.hs.out.items
-  pub events : list_any (is_same names.Hs) held ≡ false → new.events ≡ old.bus.hs_ev
-  pub cs : HasTaken (list_any (is_same names.Cs) held) old.bus.cs new.cs.held new.cs.commands new.cs.out.items
-  pub sc : HasTaken (list_any (is_same names.Sc) held) old.bus.sc new.sc.held new.sc.commands new.sc.out.items
-  pub mm : HasTaken (list_any (is_same names.Mm) held) old.bus.mm new.mm.held new.mm.commands new.mm.out.items
-  pub md : HasTaken (list_any (is_same names.Md) held) old.bus.md new.md.held new.md.commands new.md.out.items
-  pub lc : HasTaken (not old.bus.watched) old.bus.lc new.lc.slot.held new.lc.slot.commands new.lc.slot.out.items
-  pub telemetry : not old.bus.watched ≡ false → new.lc.telemetry.items ≡ old.bus.lc_tlm
+  pub hs : HasTaken (list_any (is_same names.Hs) held) old.wires.bus.hs new.hs.held new.hs.commands new.hs.out.items
+  pub events : list_any (is_same names.Hs) held ≡ false → new.events ≡ old.wires.bus.hs_ev
+  pub cs : HasTaken (list_any (is_same names.Cs) held) old.wires.bus.cs new.cs.held new.cs.commands new.cs.out.items
+  pub sc : HasTaken (list_any (is_same names.Sc) held) old.wires.bus.sc new.sc.held new.sc.commands new.sc.out.items
+  pub mm : HasTaken (list_any (is_same names.Mm) held) old.wires.bus.mm new.mm.held new.mm.commands new.mm.out.items
+  pub md : HasTaken (list_any (is_same names.Md) held) old.wires.bus.md new.md.held new.md.commands new.md.out.items
+  pub lc : HasTaken (not old.wires.bus.watched) old.wires.bus.lc new.lc.slot.held new.lc.slot.commands new.lc.slot.out.items
+  pub telemetry : not old.wires.bus.watched ≡ false → new.lc.telemetry.items ≡ old.wires.bus.lc_tlm
   pub operations : new.ops.value ≡ []
-  pub pipes : new.bus ≡ left_by held old.bus
-  pub log : new.log ≡ old.log
+  pub pipes : new.wires.bus ≡ left_by held old.wires.bus
+  pub log : new.wires.log ≡ old.wires.log
   pub memory : new.ram ≡ old.ram
 
 -- these upsets were written, and each application took what its pipes held, but those that are held
@@ -153,8 +152,7 @@ pub record Steps (counters : List Counter) (old new : Bench) : Type 0 where
   pub md : (tables : Active) → IsWoken (md_stands tables) (md_gives tables) old.md.held (md_reads (time_of old) old.md.commands old.ram) old.md.state.value new.md.state.value new.md.out.items
   pub lc : IsWoken (lc_stands (lc_setup old.tables.set)) (lc_gives (lc_setup old.tables.set)) old.lc.slot.held (lc_reads (time_of old) old.lc.slot.commands old.lc.telemetry.items) old.lc.slot.state.value new.lc.slot.state.value new.lc.slot.out.items
   pub operations : new.ops.value ≡ unless old.mm.held (mm_operations (mm_reads (loads_in old) (time_of old) old.mm.commands old.ram))
-  pub pipes : new.bus ≡ old.bus
-  pub log : new.log ≡ old.log
+  pub wires : new.wires ≡ old.wires
   pub memory : new.ram ≡ old.ram
 
 -- the slots of the applications stay, and the operations, pipes, counts and memory
@@ -166,8 +164,7 @@ pub record KeepsSlots (old new : Bench) : Type 0 where
   pub md : new.md ≡ old.md
   pub lc : new.lc ≡ old.lc
   pub operations : new.ops ≡ old.ops
-  pub pipes : new.bus ≡ old.bus
-  pub log : new.log ≡ old.log
+  pub wires : new.wires ≡ old.wires
   pub memory : new.ram ≡ old.ram
 
 -- the result of a job is one of which this holds
@@ -183,7 +180,7 @@ pub record AreWoken (counters : List Counter) (old new : Bench) : Type 0 where
   pub run : IsSameRun old new
   pub told : new.activations ≡ old.activations
   pub slots : KeepsSlots old new
-  pub manned : length new.crew.results ≡ jobs_of old.bus.watched
+  pub manned : length new.crew.results ≡ jobs_of old.wires.bus.watched
   pub hs : HasLeft new 0 (λ left. Gives (λ t. old.tables.set.hs ≡ t.now.hs) hs_stands hs_gives hs_most old.hs.held (hs_reads (time_of old) old.hs.commands old.events counters) old.hs.state.value left.stays left.hs.value left.out.items)
   pub cs : HasLeft new 1 (λ left. Gives (λ t. cs_tables old.tables.set ≡ cs_tables t.now) cs_stands cs_gives cs_most old.cs.held (cs_reads (time_of old) old.cs.commands old.ram) old.cs.state.value left.stays left.cs.value left.out.items)
   pub sc : HasLeft new 2 (λ left. Gives (λ t. old.tables.set.sc ≡ t.now.sc) sc_stands sc_gives sc_most old.sc.held (sc_reads (time_of old) old.sc.commands) old.sc.state.value left.stays left.sc.value left.out.items
@@ -192,7 +189,7 @@ pub record AreWoken (counters : List Counter) (old new : Bench) : Type 0 where
       × Operates (loads_in old) old.mm.held (time_of old) old.mm.commands old.ram left.ops.value)
   pub md : HasLeft new 4 (λ left. Gives {Setup = Active} (λ t. Unit {0}) md_stands md_gives md_most old.md.held (md_reads (time_of old) old.md.commands old.ram) old.md.state.value left.stays left.md.value left.out.items
       × AllGiven (regions_of old.ram.areas) (next_of left.stays left.md.value old.md.state.value))
-  pub lc : old.bus.watched ≡ true → HasLeft new 5 (λ left. Gives (λ t. lc_setup old.tables.set ≡ t) lc_stands lc_gives lc_most old.lc.slot.held (lc_reads (time_of old) old.lc.slot.commands old.lc.telemetry.items) old.lc.slot.state.value left.stays left.lc.value left.out.items)
+  pub lc : old.wires.bus.watched ≡ true → HasLeft new 5 (λ left. Gives (λ t. lc_setup old.tables.set ≡ t) lc_stands lc_gives lc_most old.lc.slot.held (lc_reads (time_of old) old.lc.slot.commands old.lc.telemetry.items) old.lc.slot.state.value left.stays left.lc.value left.out.items)
 
 -- what the jobs left but LC's was taken over: the next states, the items and the operations
 pub record TakesOver (old new : Bench) : Type 0 where
@@ -203,8 +200,7 @@ pub record TakesOver (old new : Bench) : Type 0 where
   pub sc : IsTaken old 2 (λ left. (new.sc.state.value ≡ next_of left.stays left.sc.value old.sc.state.value) × (new.sc.out.items ≡ left.out.items))
   pub mm : IsTaken old 3 (λ left. (new.mm.state.value ≡ next_of left.stays left.mm.value old.mm.state.value) × (new.mm.out.items ≡ left.out.items) × (new.ops.value ≡ left.ops.value))
   pub md : IsTaken old 4 (λ left. (new.md.state.value ≡ next_of left.stays left.md.value old.md.state.value) × (new.md.out.items ≡ left.out.items))
-  pub pipes : new.bus ≡ old.bus
-  pub log : new.log ≡ old.log
+  pub wires : new.wires ≡ old.wires
   pub memory : new.ram ≡ old.ram
 
 -- what the wakeups leave can be sent, and landed on the frame's image
@@ -222,12 +218,12 @@ pub record IsStamped (old new : Bench) : Type 0 where
   pub run : IsSameRun old new
   pub apps : KeepsApps old new
   pub operations : new.ops.value ≡ old.ops.value
-  pub sent : (made : List (List ℕ)) → LogStands made old.log → joined (items_in new) ≡ sent_of made (joined (items_in old))
-  pub made : (made : List (List ℕ)) → LogStands made old.log → LogStands (made ++ flat_map makes (joined (items_in old))) new.log
+  pub sent : (made : List (List ℕ)) → LogStands made old.wires.log → joined (items_in new) ≡ sent_of made (joined (items_in old))
+  pub made : (made : List (List ℕ)) → LogStands made old.wires.log → LogStands (made ++ flat_map makes (joined (items_in old))) new.wires.log
   pub few : length (joined (items_in new)) ≡ length (joined (items_in old))
   pub resets : new.resets ≡ old.resets
-  pub pipes : new.bus ≡ old.bus
-  pub drops : new.drops ≡ old.drops
+  pub pipes : new.wires.bus ≡ old.wires.bus
+  pub drops : new.wires.drops ≡ old.wires.drops
   pub memory : new.ram ≡ old.ram
 
 -- the items were sent behind these packets
@@ -235,11 +231,11 @@ pub record Sends (sends : List (List ℕ)) (old new : Bench) : Type 0 where
   pub run : IsSameRun old new
   pub apps : KeepsApps old new
   pub operations : new.ops.value ≡ old.ops.value
-  pub sent : (made : List (List ℕ)) → LogStands made old.log → joined (items_in new) ≡ sent_of made (joined (items_in old))
-  pub made : (made : List (List ℕ)) → LogStands made old.log → LogStands (made ++ flat_map makes (joined (items_in old))) new.log
+  pub sent : (made : List (List ℕ)) → LogStands made old.wires.log → joined (items_in new) ≡ sent_of made (joined (items_in old))
+  pub made : (made : List (List ℕ)) → LogStands made old.wires.log → LogStands (made ++ flat_map makes (joined (items_in old))) new.wires.log
   pub resets : new.resets ≡ list_any is_reset (joined (items_in old))
-  pub pipes : new.bus ≡ after_offers old.bus (offered new.resets sends (joined (items_in new)))
-  pub drops : new.drops.items ≡ drops_from old.bus (offered new.resets sends (joined (items_in new)))
+  pub pipes : new.wires.bus ≡ after_offers old.wires.bus (offered new.resets sends (joined (items_in new)))
+  pub drops : new.wires.drops.items ≡ drops_from old.wires.bus (offered new.resets sends (joined (items_in new)))
   pub memory : new.ram ≡ old.ram
 
 -- The frame was run on s, which is the state behind its activations, up to its lines: memory is its image, and its operations haven't
@@ -249,9 +245,9 @@ pub record RunsIn (setup : Setup) (s : State) (frame : Frame) (b : Bench) : Type
   pub apps : AppsStand b (after_wakeups setup s frame)
   pub sent : joined (items_in b) ≡ sent_at setup s frame
   pub resets : b.resets ≡ resets_at setup s frame
-  pub drops : b.drops.items ≡ drops_from (left_by frame.held s.pipes) (offers_at setup s frame)
-  pub pipes : b.bus ≡ after_offers (left_by frame.held s.pipes) (offers_at setup s frame)
-  pub made : LogStands (s.made ++ flat_map makes (joined (items_at setup s frame))) b.log
+  pub drops : b.wires.drops.items ≡ drops_from (left_by frame.held s.pipes) (offers_at setup s frame)
+  pub pipes : b.wires.bus ≡ after_offers (left_by frame.held s.pipes) (offers_at setup s frame)
+  pub made : LogStands (s.made ++ flat_map makes (joined (items_at setup s frame))) b.wires.log
   pub operations : b.ops.value ≡ operations_at setup s frame
   pub memory : b.ram ≡ image_at s frame
 
@@ -263,8 +259,7 @@ pub record IsSameFrame (old new : Bench) : Type 0 where
   pub failed : new.failed ≡ old.failed
   pub tables : new.tables ≡ old.tables
   pub apps : KeepsApps old new
-  pub pipes : new.bus ≡ old.bus
-  pub log : new.log ≡ old.log
+  pub wires : new.wires ≡ old.wires
   pub operations : new.ops.value ≡ old.ops.value
   pub resets : new.resets ≡ old.resets
   pub memory : new.ram ≡ old.ram
@@ -277,8 +272,7 @@ pub record Lands (old new : Bench) : Type 0 where
   pub failed : new.failed ≡ old.failed
   pub tables : new.tables ≡ old.tables
   pub apps : KeepsApps old new
-  pub pipes : new.bus ≡ old.bus
-  pub log : new.log ≡ old.log
+  pub wires : new.wires ≡ old.wires
   pub waits : new.block ≡ old.block
   pub resets : new.resets ≡ old.resets
   pub memory : new.ram ≡ land (loads_in old) old.ops.value old.ram
@@ -293,7 +287,7 @@ pub record StartsAnew (old new : Bench) : Type 0 where
 
 -- the lines of what was sent and dropped
 abbrev pub lines_in : Bench → List ℕ
-lines_in b = flat_map (item_line b.number) (joined (items_in b)) ++ flat_map (drop_line b.number) b.drops.items
+lines_in b = flat_map (item_line b.number) (joined (items_in b)) ++ flat_map (drop_line b.number) b.wires.drops.items
 
 -- the bench has the items of a frame that was run behind these frames, as they were sent, and whether one asks for a processor reset
 pub record HasGiven (b : Bench) (setup : Setup) (frames : List Frame) (frame : Frame) : Type 0 where

@@ -28,8 +28,8 @@ pub record Has (b : Bench) (s : State) : Type 0 where
   pub number : b.number ≡ s.number
   pub tables : b.tables.set ≡ s.tables
   pub apps : AppsStand b s
-  pub pipes : b.bus ≡ s.pipes
-  pub made : LogStands s.made b.log
+  pub pipes : b.wires.bus ≡ s.pipes
+  pub made : LogStands s.made b.wires.log
   pub memory : b.ram ≡ s.memory
 
 -- each application can be woken

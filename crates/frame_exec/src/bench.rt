@@ -1,22 +1,23 @@
 //! The bench: one frame after another.
 
 ghost use Rattle.std.specs.Prelude.{◌≡◌};
-ghost use Rattle.frame_exec.specs.declared.bench.TheConstants.{DROPS, EVENTS_ROOM};
+ghost use Rattle.frame_exec.specs.declared.bench.TheConstants.{EVENTS_ROOM};
 ghost use Rattle.app_suite.specs.Jobs.{jobs_of};
 
 use crate::cut::Cut;
 use crate::kind::FrameKind;
+use crate::wires::Wires;
 use crate::yielded::Yield;
 use active_tables::Tables;
 use app_suite::{
-    CsSlot, Holds, HsSlot, LcSlot, Left, MdSlot, MmSlot, Naming, ScSlot, deliver_all, hand_over,
-    in_order, naming_of, tell,
+    CsSlot, Holds, HsSlot, LcSlot, Left, MdSlot, MmSlot, Naming, ScSlot, hand_over, in_order,
+    naming_of, tell,
 };
-use bus_pipes::{Batch, Bus, Drops, Outbox, PipeName};
+use bus_pipes::{Batch, Outbox, PipeName};
 use crew_board::Crew;
 use cs_slices::Cs;
 use frame_runs::obey_frame;
-use frame_wires::{has_reset, put_frame, stamp_all, take_unless, upset_all};
+use frame_wires::{has_reset, put_frame, take_unless, upset_all};
 use fsw_outside::{Failed, Gate, Sink};
 use hs_monitors::Hs;
 use lc_watch::Lc;
@@ -24,14 +25,11 @@ use md_dwell::Md;
 use memory_window::{Ops, Ram};
 use mm_core::Mm;
 use packet_forms::Counter;
-use packet_log::{Block, LineBuffer, Log};
+use packet_log::{Block, LineBuffer};
 use sc_sequences::Sc;
 use scenario::{FrameInput, Upset};
 use std::thread::Threads;
 use subjects::{Crowd, Subject};
-
-/// How many packets are dropped in a frame at most: all that are sent and all that the applications give.
-pub(crate) const DROPS: u32 = 1573;
 
 /// How many events of activations a frame has at most: one for each of its items.
 pub(crate) const EVENTS_ROOM: u32 = 64;
@@ -60,18 +58,15 @@ pub struct Bench<'f> {
     pub(crate) lc: LcSlot,
     // who wakes the applications, with what each left
     pub(crate) crew: Crew<Left>,
+    pub(crate) wires: Wires,
     pub(crate) ops: Box<Ops>,
-    pub(crate) drops: Drops,
-    pub(crate) bus: Bus,
-    pub(crate) log: Log,
     pub(crate) ram: Ram,
     // the line that was written last: a new one would be wiped in each frame
     pub(crate) line: LineBuffer,
     // lines, until they are handed on
     pub(crate) block: Block,
-    ghost drops_room: { drops.room ≡ DROPS },
-    ghost manned: { crew.jobs ≡ jobs_of bus.watched },
-    ghost there: { lc.there ≡ bus.watched },
+    ghost manned: { crew.jobs ≡ jobs_of wires.bus.watched },
+    ghost there: { lc.there ≡ wires.bus.watched },
     ghost activations_room: { activations.room ≡ EVENTS_ROOM },
 }
 
@@ -388,7 +383,7 @@ impl<'f> Bench<'f> {
         self.mm.begin(Mm::start());
         self.md.begin(Md::start(self.tables.dwells()));
         self.lc.begin(Lc::start(self.tables.adt()));
-        self.bus.clear();
+        self.wires.empty();
     }
 
     /// Forgets what an earlier frame told of activations.
@@ -464,13 +459,18 @@ impl<'f> Bench<'f> {
         ensures takes { (held : List App) → AreHeld held holds → Takes held self.old self.new }
         ensures ready { IsReady self.old → IsReady self.new }
     {
-        self.hs.take(&mut self.bus, PipeName::Hs, holds.hs);
-        take_unless(&mut self.bus, PipeName::HsEv, holds.hs, &mut self.events);
-        self.cs.take(&mut self.bus, PipeName::Cs, holds.cs);
-        self.sc.take(&mut self.bus, PipeName::Sc, holds.sc);
-        self.mm.take(&mut self.bus, PipeName::Mm, holds.mm);
-        self.md.take(&mut self.bus, PipeName::Md, holds.md);
-        self.lc.take(&mut self.bus);
+        self.hs.take(&mut self.wires.bus, PipeName::Hs, holds.hs);
+        take_unless(
+            &mut self.wires.bus,
+            PipeName::HsEv,
+            holds.hs,
+            &mut self.events,
+        );
+        self.cs.take(&mut self.wires.bus, PipeName::Cs, holds.cs);
+        self.sc.take(&mut self.wires.bus, PipeName::Sc, holds.sc);
+        self.mm.take(&mut self.wires.bus, PipeName::Mm, holds.mm);
+        self.md.take(&mut self.wires.bus, PipeName::Md, holds.md);
+        self.lc.take(&mut self.wires.bus);
         self.ops.clear();
     }
 
@@ -484,7 +484,7 @@ impl<'f> Bench<'f> {
         ensures sends { Sends input.now.sends self.old self.new }
         ensures silent { result ≡ yields.Nothing → lines_in self.new ≡ [] }
     {
-        self.drops.clear();
+        self.wires.drops.clear();
         self.resets = false;
         if items.is_nothing() && self.activations.is_empty() && input.sends().is_empty() {
             return Yield::Nothing;
@@ -499,7 +499,7 @@ impl<'f> Bench<'f> {
         requires can { CanSend self.old }
         requires told { AllPass is_item_counted self.old.activations.items }
         requires few { length input.now.sends + length self.old.activations.items ≤ 64 }
-        requires none { self.old.drops.items ≡ [] }
+        requires none { self.old.wires.drops.items ≡ [] }
         ensures { Sends input.now.sends self.old self.new }
     {
         self.resets = self.asks_for_reset();
@@ -507,9 +507,8 @@ impl<'f> Bench<'f> {
         if self.resets {
             return;
         }
-        self.bus.deliver(input.sends(), &mut self.drops);
-        deliver_all(
-            &mut self.bus,
+        self.wires.deliver(input.sends());
+        let lists = in_order(
             &self.activations,
             &self.hs,
             &self.cs,
@@ -517,8 +516,8 @@ impl<'f> Bench<'f> {
             &self.mm,
             &self.md,
             &self.lc,
-            &mut self.drops,
         );
+        self.wires.deliver_lists(&lists);
     }
 
     /// Gives the items their sequence counts.
@@ -527,13 +526,13 @@ impl<'f> Bench<'f> {
         requires told { AllPass is_item_counted self.old.activations.items }
         ensures { IsStamped self.old self.new }
     {
-        stamp_all(&mut self.log, &mut self.activations);
-        stamp_all(&mut self.log, &mut self.hs.out);
-        stamp_all(&mut self.log, &mut self.cs.out);
-        stamp_all(&mut self.log, &mut self.sc.out);
-        stamp_all(&mut self.log, &mut self.mm.out);
-        stamp_all(&mut self.log, &mut self.md.out);
-        stamp_all(&mut self.log, &mut self.lc.slot.out);
+        self.wires.stamp(&mut self.activations);
+        self.wires.stamp(&mut self.hs.out);
+        self.wires.stamp(&mut self.cs.out);
+        self.wires.stamp(&mut self.sc.out);
+        self.wires.stamp(&mut self.mm.out);
+        self.wires.stamp(&mut self.md.out);
+        self.wires.stamp(&mut self.lc.slot.out);
     }
 
     /// Does what comes before the wakeups of a frame: makes the tables active that it names, writes its upsets, and lets each application
@@ -656,7 +655,7 @@ impl<'f> Bench<'f> {
             &mut self.line,
             self.number as u32,
             &lists,
-            self.drops.items(),
+            self.wires.dropped(),
         )
     }
 
@@ -700,7 +699,7 @@ impl<'f> Bench<'f> {
     fn is_silent(&self) -> bool
         ensures { result ≡ true → lines_in self.now ≡ [] }
     {
-        self.gave_nothing() && self.drops.is_empty()
+        self.gave_nothing() && self.wires.dropped_nothing()
     }
 
     /// Whether nothing was told of activations nor given in the frame that was run.

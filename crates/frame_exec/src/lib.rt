@@ -7,6 +7,7 @@ mod in_place;
 mod kind;
 mod opening;
 mod steps;
+mod wires;
 mod yielded;
 
 pub use active_tables::{OpenFault, Tables, TablesFault};

@@ -3,14 +3,15 @@
 ghost use Rattle.std.specs.Prelude.{IfOk};
 ghost use Rattle.frame_exec.specs.Opening.{IsEmpty};
 
-use crate::bench::{Bench, DROPS, EVENTS_ROOM};
+use crate::bench::{Bench, EVENTS_ROOM};
+use crate::wires::Wires;
 use active_tables::{OpenFault, Tables, names_limit_checker, refused_place};
 use app_suite::{Left, Slots, jobs_of};
-use bus_pipes::{Batch, Bus, Drops, Outbox};
+use bus_pipes::{Batch, Outbox};
 use crew_board::Crew;
 use fsw_outside::NoMemory;
 use memory_window::{Ops, Ram};
-use packet_log::{Block, LineBuffer, Log};
+use packet_log::{Block, LineBuffer};
 use scenario::Header;
 use std::alloc::Global;
 use table_files::Files;
@@ -20,9 +21,8 @@ use table_files::Files;
 pub(crate) struct Room {
     pub(crate) activations: Outbox,
     pub(crate) crew: Crew<Left>,
+    pub(crate) wires: Wires,
     pub(crate) ops: Box<Ops>,
-    pub(crate) drops: Drops,
-    pub(crate) bus: Bus,
     pub(crate) ram: Ram,
     pub(crate) block: Block,
 }
@@ -38,9 +38,8 @@ impl Room {
         Ok(Room {
             activations: Outbox::open(alloc, EVENTS_ROOM)?,
             crew: Crew::open(alloc, workers, jobs_of(lc))?,
+            wires: Wires::open(alloc, lc)?,
             ops: Box::new(alloc, Ops::new())?,
-            drops: Drops::open(alloc, DROPS)?,
-            bus: Bus::open(alloc, lc)?,
             ram: Ram::new(alloc, header.map)?,
             block: Block::open(alloc)?,
         })
@@ -111,10 +110,8 @@ impl<'f> Bench<'f> {
             tables,
             activations: room.activations,
             crew: room.crew,
+            wires: room.wires,
             ops: room.ops,
-            drops: room.drops,
-            bus: room.bus,
-            log: Log::start(),
             ram: room.ram,
             line: LineBuffer::new(),
             block: room.block,

@@ -58,7 +58,7 @@ returns-in-Ok-clause-follows g c = λ setup earlier later follows.
     let same = c.in-Ok.ensures.same in
     let r = c.run-lines.ensures.runs setup (run_of setup (earlier ++ later)) follows.epoch follows.files follows.has in
     let frame = with_counters c.args.counters.now c.args.input.now in
-    let lines = lines_are setup (earlier ++ later) frame c.run-lines.new.self.number _ c.run-lines.new.self.drops.items (run.number ∙ follows.has.number) r.sent r.drops in
+    let lines = lines_are setup (earlier ++ later) frame c.run-lines.new.self.number _ c.run-lines.new.self.wires.drops.items (run.number ∙ follows.has.number) r.sent r.drops in
     let goes = c.go_on.ensures.anew.goes in
     follows_next c.go_on.new.self setup earlier later frame _ c.run-lines.new.self.block c.add_lines.new.self.block _ _
     (goes.epoch ∙ c.land.ensures.epoch ∙ same.epoch ∙ run.epoch ∙ follows.epoch) (goes.files ∙ ap (λ (t : Loaded). t.files) (c.land.ensures.tables ∙ same.tables) ∙ run.files ∙ follows.files) (goes.failed ∙ c.land.ensures.failed ∙ same.failed ∙ run.failed ∙ follows.well)
@@ -71,14 +71,14 @@ pub returns-in-Ok-clause-told : goal.returns-in-Ok-clause-told
 returns-in-Ok-clause-told g c = λ setup earlier later follows.
     let r = c.run-lines.ensures.runs setup (run_of setup (earlier ++ later)) follows.epoch follows.files follows.has in
     let frame = with_counters c.args.counters.now c.args.input.now in
-    let lines = lines_are setup (earlier ++ later) frame c.run-lines.new.self.number _ c.run-lines.new.self.drops.items (c.run-lines.ensures.run.number ∙ follows.has.number) r.sent r.drops in
+    let lines = lines_are setup (earlier ++ later) frame c.run-lines.new.self.number _ c.run-lines.new.self.wires.drops.items (c.run-lines.ensures.run.number ∙ follows.has.number) r.sent r.drops in
     told_added _ _ c.args.self.now.block c.run-lines.new.self.block c.add_lines.new.self.block c.go_on.new.self.block _ _ lines c.run-lines.ensures.run.waits (c.go_on.ensures.anew.goes.waits ∙ c.land.ensures.waits) c.in-Ok.ensures.adds
 
 pub returns-in-Err-clause-cut : goal.returns-in-Err-clause-cut
 returns-in-Err-clause-cut g c = λ setup earlier later follows.
     let r = c.run-lines.ensures.runs setup (run_of setup (earlier ++ later)) follows.epoch follows.files follows.has in
     let frame = with_counters c.args.counters.now c.args.input.now in
-    let lines = lines_are setup (earlier ++ later) frame c.run-lines.new.self.number _ c.run-lines.new.self.drops.items (c.run-lines.ensures.run.number ∙ follows.has.number) r.sent r.drops in
+    let lines = lines_are setup (earlier ++ later) frame c.run-lines.new.self.number _ c.run-lines.new.self.wires.drops.items (c.run-lines.ensures.run.number ∙ follows.has.number) r.sent r.drops in
     cut_added {E = Failed} c.in-Err.field-0 setup earlier later frame (lines_in c.run-lines.new.self) c.args.self.now.block c.add_lines.new.self.block (g.O.Sink.held c.args.sink.now) (g.O.Sink.held c.add_lines.new.sink) c.cut.result.late
     lines follows.notes
     (subst (λ (block : Waiting). Adds {E = Failed} (Err c.in-Err.field-0) (lines_in c.run-lines.new.self) block c.add_lines.new.self.block (g.O.Sink.held c.args.sink.now) (g.O.Sink.held c.add_lines.new.sink)) c.run-lines.ensures.run.waits c.in-Err.ensures.adds)

@@ -52,7 +52,7 @@ pub returns-in-Ok-clause-lines : goal.returns-in-Ok-clause-lines
 returns-in-Ok-clause-lines g c = λ setup frames stands.
     let r = c.run-lines.ensures.runs setup (run_of setup frames) stands.epoch stands.files stands.has in
     let frame = with_counters c.args.counters.now c.args.input.now in
-    let lines = lines_are setup frames frame c.run-lines.new.self.number _ c.run-lines.new.self.drops.items (c.run-lines.ensures.run.number ∙ stands.has.number) r.sent r.drops in
+    let lines = lines_are setup frames frame c.run-lines.new.self.number _ c.run-lines.new.self.wires.drops.items (c.run-lines.ensures.run.number ∙ stands.has.number) r.sent r.drops in
     told_map c.in-Ok.ensures.content (λ before after written. written ∙ ap (λ (bytes : List ℕ). before ++ bytes) lines)
 
 pub returns-in-Ok-clause-stands : goal.returns-in-Ok-clause-stands
@@ -77,7 +77,7 @@ pub returns-in-Err-clause-lines : goal.returns-in-Err-clause-lines
 returns-in-Err-clause-lines g c = λ setup frames stands.
     let r = c.run-lines.ensures.runs setup (run_of setup frames) stands.epoch stands.files stands.has in
     let frame = with_counters c.args.counters.now c.args.input.now in
-    let lines = lines_are setup frames frame c.run-lines.new.self.number _ c.run-lines.new.self.drops.items (c.run-lines.ensures.run.number ∙ stands.has.number) r.sent r.drops in
+    let lines = lines_are setup frames frame c.run-lines.new.self.number _ c.run-lines.new.self.wires.drops.items (c.run-lines.ensures.run.number ∙ stands.has.number) r.sent r.drops in
     told_map c.in-Err.ensures.content (λ before after part. subst (λ (bytes : List ℕ). AppendsPart bytes before after) lines part)
 
 pub returns-in-Ok-clause-given : goal.returns-in-Ok-clause-given

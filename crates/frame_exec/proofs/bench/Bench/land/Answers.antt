@@ -17,8 +17,7 @@ returns-then-is_empty g c =
       failed = refl;
       tables = refl;
       apps = record { hs = refl; cs = refl; sc = refl; mm = refl; md = refl; lc = refl };
-      pipes = refl;
-      log = refl;
+      wires = refl;
       waits = refl;
       resets = refl;
       memory = sym (nothing-landed (loads_in old) old.ops.value old.ram (nil_from_length old.ops.value none));

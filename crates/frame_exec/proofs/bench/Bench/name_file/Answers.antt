@@ -7,8 +7,8 @@ use Rattle.frame_exec.proofs.bench.Bench.name_file.Goals as goal
 
 pub returns-clause-activates : goal.returns-clause-activates
 returns-clause-activates c =
-    activates_one c.args.self.now c.make_active-naming.new.self c.args.file c.make_active-naming.result _ c.tell.new.out _ _ _ _ c.make_active-naming.ensures.naming refl c.make_active-naming.ensures.names
+    activates_one c.args.self.now c.make_active-naming.new.self c.args.file c.make_active-naming.result _ c.tell.new.out _ _ _ c.make_active-naming.ensures.naming refl c.make_active-naming.ensures.names
     (ap (λ (held : Held Out). held.items) c.tell.ensures.after ∙ items-adding _ _)
 
 pub returns-clause-ready : goal.returns-clause-ready
-returns-clause-ready c = ready_told c.make_active-naming.new.self c.tell.new.out _ _ _ _ c.make_active-naming.ensures.ready
+returns-clause-ready c = ready_told c.make_active-naming.new.self c.tell.new.out _ _ _ c.make_active-naming.ensures.ready

@@ -13,5 +13,5 @@ returns-then-is_nothing-clause-puts g c =
 
 pub returns-clause-puts : goal.returns-clause-puts
 returns-clause-puts g c =
-    let lines = lines_by c.args.self.now.number _ _ _ _ c.in_order-lists.ensures.shown c.items.ensures in
+    let lines = lines_by c.args.self.now.number _ _ _ _ c.in_order-lists.ensures.shown c.dropped.ensures in
     subst (λ (text : List ℕ). Puts c.put_frame.result text c.args.self.now.block c.put_frame.new.block (g.O.Sink.held c.args.sink.now) (g.O.Sink.held c.put_frame.new.sink)) lines c.put_frame.ensures.puts

@@ -31,9 +31,9 @@ returns-then-is_empty-2-clause-sends c =
       operations = refl;
       sent = λ made stands. none ∙ sym (ap (sent_of made) none ∙ sent_none made);
       made = λ made stands.
-          subst (λ (items : List Out). LogStands (made ++ flat_map makes items) old.log) (sym none) (subst (λ (packets : List (List ℕ)). LogStands packets old.log) (sym (append-nil made)) stands);
+          subst (λ (items : List Out). LogStands (made ++ flat_map makes items) old.wires.log) (sym none) (subst (λ (packets : List (List ℕ)). LogStands packets old.wires.log) (sym (append-nil made)) stands);
       resets = sym (ap (list_any is_reset) none);
-      pipes = sym (ap (after_offers old.bus) offered ∙ after_offers_none old.bus);
-      drops = c.clear.ensures.none ∙ sym (ap (drops_from old.bus) offered ∙ drops_none old.bus);
+      pipes = sym (ap (after_offers old.wires.bus) offered ∙ after_offers_none old.wires.bus);
+      drops = c.clear.ensures.none ∙ sym (ap (drops_from old.wires.bus) offered ∙ drops_none old.wires.bus);
       memory = refl;
     }

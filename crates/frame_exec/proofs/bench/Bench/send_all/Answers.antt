@@ -1,4 +1,4 @@
-use Rattle.std.proofs.Common.{◌≡◌, Bool, ℕ, ◌+◌, List, [], ◌++◌, length, length-append, sym, ◌∙◌, ap, arith}
+use Rattle.std.proofs.Common.{◌≡◌, Bool, ℕ, ◌+◌, List, [], ◌++◌, length, length-append, sym, ◌∙◌, ap, subst, arith}
 use Rattle.std.specs.List.{flat_map}
 use Rattle.bus_pipes.specs.Held.{Held, adding}
 use Rattle.bus_pipes.specs.Delivery.{after_offers, drops_from}
@@ -6,6 +6,8 @@ use Rattle.bus_pipes.specs.declared.names.Dropped.{Dropped}
 use Rattle.bus_pipes.specs.declared.names.Out.{Out}
 use Rattle.bus_pipes.specs.Pipes.{Pipes}
 use Rattle.bus_pipes.proofs.Deliveries.{after_offers_none, drops_none, watched_after}
+use Rattle.packet_log.specs.Sent.{makes}
+use Rattle.packet_log.specs.Standing.{Stands as LogStands}
 use Rattle.frame_wires.specs.Sending.{packet_in, offered}
 use Rattle.app_suite.specs.Jobs.{jobs_of}
 use Rattle.frame_exec.specs.Stages.{items_in}
@@ -28,8 +30,8 @@ returns-then-self c =
       sent = stamped.sent;
       made = stamped.made;
       resets = stamped.resets ∙ c.asks_for_reset-self.ensures;
-      pipes = stamped.pipes ∙ sym (ap (after_offers old.bus) none ∙ after_offers_none old.bus);
-      drops = ap (λ (held : Held Dropped). held.items) stamped.drops ∙ c.requires.none ∙ sym (ap (drops_from old.bus) none ∙ drops_none old.bus);
+      pipes = stamped.pipes ∙ sym (ap (after_offers old.wires.bus) none ∙ after_offers_none old.wires.bus);
+      drops = ap (λ (held : Held Dropped). held.items) stamped.drops ∙ c.requires.none ∙ sym (ap (drops_from old.wires.bus) none ∙ drops_none old.wires.bus);
       memory = stamped.memory;
     }
 
@@ -42,26 +44,33 @@ returns c =
     let sends = c.sends.ensures.value in
     let packets = flat_map packet_in (joined (items_in c.stamp.new.self)) in
     let none : offered c.stamp.new.self.resets c.args.input.now.sends (joined (items_in c.stamp.new.self)) ≡ c.args.input.now.sends ++ packets = ap (λ (b : Bool). offered b c.args.input.now.sends (joined (items_in c.stamp.new.self))) c.if-self.false in
-    let offered_first = c.deliver.ensures.after ∙ ap (λ (p : Pipes). after_offers p c.sends.result.now) stamped.pipes ∙ ap (after_offers old.bus) sends in
+    let offered_first = c.deliver.ensures.pipes ∙ ap (λ (p : Pipes). after_offers p c.sends.result.now) stamped.pipes ∙ ap (after_offers old.wires.bus) sends in
     record {
       run = record { waits = run.waits; epoch = run.epoch; number = run.number; failed = run.failed; tables = run.tables };
       apps = record { hs = apps.hs; cs = apps.cs; sc = apps.sc; mm = apps.mm; md = apps.md; lc = apps.lc };
       operations = stamped.operations;
       sent = stamped.sent;
-      made = stamped.made;
+      made = λ made stands. subst (λ (log : List ℕ). LogStands (made ++ flat_map makes (joined (items_in old))) log) (sym (c.deliver_lists.ensures.log ∙ c.deliver.ensures.log)) (stamped.made made stands);
       resets = stamped.resets ∙ c.asks_for_reset-self.ensures;
-      pipes = offers_two old.bus c.deliver.new.self _ c.args.input.now.sends packets offered_first c.deliver_all.ensures.after ∙ sym (ap (after_offers old.bus) none);
-      drops = drops_two old.bus c.deliver.new.self c.args.self.now.drops c.deliver.new.drops _ c.args.input.now.sends packets c.requires.none offered_first
-          (c.deliver.ensures.drops ∙ ap (λ (held : Held Dropped). adding held (drops_from c.stamp.new.self.bus c.sends.result.now)) stamped.drops
-          ∙ ap (λ (p : Pipes). adding old.drops (drops_from p c.sends.result.now)) stamped.pipes ∙ ap (λ (packets : List (List ℕ)). adding old.drops (drops_from old.bus packets)) sends) c.deliver_all.ensures.drops ∙ sym (ap (drops_from old.bus) none);
+      pipes = offers_two old.wires.bus c.deliver.new.self.bus _ c.args.input.now.sends packets offered_first (c.deliver_lists.ensures.pipes ∙ ap (λ (items : List Out). after_offers c.deliver.new.self.bus (flat_map packet_in items)) c.in_order-lists.ensures.shown) ∙ sym (ap (after_offers old.wires.bus) none);
+      drops = drops_two old.wires.bus c.deliver.new.self.bus c.args.self.now.wires.drops c.deliver.new.self.drops _ c.args.input.now.sends packets c.requires.none offered_first
+          (c.deliver.ensures.drops ∙ ap (λ (held : Held Dropped). adding held (drops_from c.stamp.new.self.wires.bus c.sends.result.now)) stamped.drops
+          ∙ ap (λ (p : Pipes). adding old.wires.drops (drops_from p c.sends.result.now)) stamped.pipes ∙ ap (λ (packets : List (List ℕ)). adding old.wires.drops (drops_from old.wires.bus packets)) sends) (c.deliver_lists.ensures.drops ∙ ap (λ (items : List Out). adding c.deliver.new.self.drops (drops_from c.deliver.new.self.bus (flat_map packet_in items))) c.in_order-lists.ensures.shown) ∙ sym (ap (drops_from old.wires.bus) none);
       memory = stamped.memory;
     }
 
+pub deliver-requires : goal.deliver-requires
+deliver-requires c =
+    let before = ap (λ (held : Held Dropped). length held.items) c.stamp.ensures.drops in
+    let none = ap (λ (items : List Dropped). length items) c.requires.none in
+    let sends = ap (λ (packets : List (List ℕ)). length packets) c.sends.ensures.value in
+    omega (arith, c.requires.few, before, none, sends)
+
 -- the pipes that are there stay the same
-watched_is : (c : goal.After-deliver_all) → c.stamp.new.self.bus.watched ≡ c.deliver_all.new.bus.watched
+watched_is : (c : goal.After-deliver_lists) → c.stamp.new.self.wires.bus.watched ≡ c.deliver_lists.new.self.bus.watched
 watched_is c =
-    let first = ap (λ (p : Pipes). p.watched) c.deliver.ensures.after ∙ watched_after c.stamp.new.self.bus c.sends.result.now in
-    let second = ap (λ (p : Pipes). p.watched) c.deliver_all.ensures.after ∙ watched_after c.deliver.new.self _ in
+    let first = ap (λ (p : Pipes). p.watched) c.deliver.ensures.pipes ∙ watched_after c.stamp.new.self.wires.bus c.sends.result.now in
+    let second = ap (λ (p : Pipes). p.watched) c.deliver_lists.ensures.pipes ∙ watched_after c.deliver.new.self.bus _ in
     sym (second ∙ first)
 
 pub invariant_of-self-2-clause-manned : goal.invariant_of-self-2-clause-manned
@@ -74,13 +83,13 @@ invariant_of-self-2-clause-there c = c.stamp.new.self.there ∙ watched_is c
 seven_long : (a b c d e f g : List Out) → length (a ++ (b ++ (c ++ (d ++ (e ++ (f ++ (g ++ []))))))) ≡ length a + (length b + (length c + (length d + (length e + (length f + (length g + 0))))))
 seven_long a b c d e f g = simp length-append
 
-pub deliver_all-requires : goal.deliver_all-requires
-deliver_all-requires c =
+pub deliver_lists-requires : goal.deliver_lists-requires
+deliver_lists-requires c =
     let old = c.args.self.now in
     let can = c.requires.can in
+    let all = ap (λ (items : List Out). length items) c.in_order-lists.ensures.shown in
     let sum = seven_long old.activations.items old.hs.out.items old.cs.out.items old.sc.out.items old.mm.out.items old.md.out.items old.lc.slot.out.items in
     let before = ap (λ (held : Held Dropped). length held.items) c.stamp.ensures.drops in
     let none = ap (λ (items : List Dropped). length items) c.requires.none in
-    let room = ap (λ (held : Held Dropped). held.room) c.stamp.ensures.drops in
     let sends = ap (λ (packets : List (List ℕ)). length packets) c.sends.ensures.value in
-    omega (arith, c.deliver.ensures.few, c.deliver.ensures.room, c.stamp.ensures.few, c.requires.few, can.hs.few, can.cs.few, can.sc.few, can.mm.few, can.md.few, can.lc.few, old.drops_room, sum, before, none, room, sends)
+    omega (arith, c.deliver.ensures.few, all, c.stamp.ensures.few, c.requires.few, can.hs.few, can.cs.few, can.sc.few, can.mm.few, can.md.few, can.lc.few, sum, before, none, sends)

@@ -8,6 +8,7 @@ use Rattle.md_dwell.specs.State.{Stands as MdStands, AllGiven}
 use Rattle.md_dwell.specs.Tables.{DwellTable}
 use Rattle.bus_pipes.specs.Pipes.{emptied_pipes}
 use Rattle.lc_watch.specs.State.{Stands as LcStands}
+use Rattle.packet_log.specs.Standing.{Stands as LogStands}
 use Rattle.lc_watch.specs.declared.actionpoints.ActRow.{ActRow}
 use Rattle.sc_tables.specs.Commands.{TimedCommand}
 use Rattle.sc_sequences.specs.Histories.{begun_at}
@@ -48,7 +49,7 @@ returns-clause-anew c =
           (subst (MmStands []) (sym c.begin-4.ensures.state) c.start-4.ensures)
           (subst (MdStands tables.dwells []) (sym c.begin-5.ensures.state) (subst (λ (ts : List DwellTable). MdStands ts [] c.start-5.result) c.dwells.ensures.dwells c.start-5.ensures.stands))
           (subst (LcStands tables.wdt tables.adt []) (sym c.begin-6.ensures.state) (subst (λ (adt : List ActRow). LcStands tables.wdt adt [] c.start-6.result) c.adt.ensures (c.start-6.ensures tables.wdt)))
-          (c.clear.ensures ∙ ap emptied_pipes has.pipes) has.made has.memory));
+          (c.empty.ensures.pipes ∙ ap emptied_pipes has.pipes) (subst (LogStands s.made) (sym c.empty.ensures.log) has.made) has.memory));
     }
 
 pub returns-clause-ready : goal.returns-clause-ready

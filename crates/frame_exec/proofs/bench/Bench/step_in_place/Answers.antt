@@ -47,8 +47,7 @@ returns-clause-steps g c =
       lc = c.wake_in_place-lc.ensures.woken (lc_setup b.tables.set) refl;
       operations = left_unless b.mm.held c.wake_in_place-mm.new.beside (mm_operations (mm_reads (loads_in b) time b.mm.commands b.ram)) c.wake_in_place-mm.ensures.held
           (λ here. (c.wake_in_place-mm.ensures.fills here).0 ∙ ap (λ (m : Memory). mm_operations (mm_reads (loads_in b) time b.mm.commands m)) is);
-      pipes = refl;
-      log = refl;
+      wires = refl;
       memory = refl;
     }
 
@@ -79,7 +78,7 @@ returns-clause-none g c = λ nothing.
 
 -- the crew wakes all: its bench is the same but for the proofs of its ghost facts
 pub returns-then-are_shared-clause-steps : goal.returns-then-are_shared-clause-steps
-returns-then-are_shared-clause-steps g c = steps_beside _ _ _ _ _ _ _ _ _ c.step_on_crew.ensures.steps
+returns-then-are_shared-clause-steps g c = steps_beside _ _ _ _ _ _ _ _ c.step_on_crew.ensures.steps
 
 -- all rest
 pub returns-then-all_rest-clause-steps : goal.returns-then-all_rest-clause-steps
@@ -103,8 +102,7 @@ returns-then-all_rest-clause-steps g c =
       lc = rested _ _ _ _ _ _ clear.lc (c.rests-lc_rests.ensures.woken (lc_setup b.tables.set) all.5 refl);
       operations = left_unless b.mm.held b.ops.value (mm_operations (mm_reads (loads_in b) time b.mm.commands b.ram)) (λ held. clear.operations)
           (λ here. (c.rests-mm_rests.ensures.fills b.ops.value all.3 here clear.operations).0 ∙ ap (λ (m : Memory). mm_operations (mm_reads (loads_in b) time b.mm.commands m)) is);
-      pipes = refl;
-      log = refl;
+      wires = refl;
       memory = refl;
     }
 

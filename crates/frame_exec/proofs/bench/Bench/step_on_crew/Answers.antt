@@ -9,7 +9,7 @@ use Rattle.frame_exec.proofs.Woken.{all_step, all_can_send, all_ready, over_besi
 use Rattle.frame_exec.proofs.bench.Bench.step_on_crew.Goals as goal
 
 pub take_over-none-requires-clause-manned : goal.take_over-none-requires-clause-manned
-take_over-none-requires-clause-manned g c = omega (arith, c.wake.ensures.manned, five_or_six c.args.self.now.bus.watched)
+take_over-none-requires-clause-manned g c = omega (arith, c.wake.ensures.manned, five_or_six c.args.self.now.wires.bus.watched)
 
 -- LC isn't there: it stays as it was, and gave nothing
 pub returns-then-not-self-clause-steps : goal.returns-then-not-self-clause-steps
@@ -44,7 +44,7 @@ returns-clause-steps g c =
     let lc = c.take_over.ensures in
     let here = over.lc ∙ woken.slots.lc in
     let watched = sym c.args.self.now.there ∙ sym (ap (λ (l : LcSlot). l.there) here) ∙ c.if-not-self.false in
-    all_step _ _ _ _ woken (over_beside _ _ _ _ _ _ _ _ over.over)
+    all_step _ _ _ _ woken (over_beside _ _ _ _ _ _ _ over.over)
     (taken_woken _ _ _ _ _ _ _ _ _ _ _ _ _ (woken.lc watched lc.from.0 (sym (over.last lc.from.0) ∙ lc.from.1)) (ap (λ (l : LcSlot). l.slot.state.value) here) lc.from.2 lc.from.3 _ refl)
 
 pub returns-clause-can_send : goal.returns-clause-can_send
@@ -54,11 +54,11 @@ returns-clause-can_send g c =
     let lc = c.take_over.ensures in
     let here = over.lc ∙ woken.slots.lc in
     let watched = sym c.args.self.now.there ∙ sym (ap (λ (l : LcSlot). l.there) here) ∙ c.if-not-self.false in
-    all_can_send _ _ _ _ woken (over_beside _ _ _ _ _ _ _ _ over.over)
+    all_can_send _ _ _ _ woken (over_beside _ _ _ _ _ _ _ over.over)
     (taken_sendable _ _ _ _ _ _ _ _ _ _ _ _ _ (woken.lc watched lc.from.0 (sym (over.last lc.from.0) ∙ lc.from.1)) (ap (λ (l : LcSlot). l.slot.state.value) here) lc.from.2 lc.from.3)
 
 pub returns-clause-ready : goal.returns-clause-ready
-returns-clause-ready g c = all_ready _ _ _ _ c.wake.ensures (over_beside _ _ _ _ _ _ _ _ c.take_over-none.ensures.over) c.requires.ready
+returns-clause-ready g c = all_ready _ _ _ _ c.wake.ensures (over_beside _ _ _ _ _ _ _ c.take_over-none.ensures.over) c.requires.ready
 
 pub returns-clause-none : goal.returns-clause-none
 returns-clause-none g c = λ nothing.

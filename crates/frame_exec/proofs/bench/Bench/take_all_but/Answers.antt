@@ -36,7 +36,7 @@ returns-clause-takes c = λ held are.
       lc = taken_by _ _ _ _ _ _ _ (ap (λ (w : Bool). not w) watched) lc c.take-6.ensures.takes;
       telemetry = λ there. c.take-6.ensures.telemetry (ap (λ (w : Bool). not w) watched ∙ there) ∙ telemetry;
       operations = c.clear.ensures;
-      pipes = left_is held c.args.self.now.bus c.take.new.bus c.take_unless.new.bus c.take-2.new.bus c.take-3.new.bus c.take-4.new.bus c.take-5.new.bus c.take-6.new.bus c.args.holds.hs c.args.holds.cs c.args.holds.sc c.args.holds.mm c.args.holds.md are.hs are.cs are.sc are.mm are.md c.take.ensures.pipes c.take_unless.ensures.pipes c.take-2.ensures.pipes
+      pipes = left_is held c.args.self.now.wires.bus c.take.new.bus c.take_unless.new.bus c.take-2.new.bus c.take-3.new.bus c.take-4.new.bus c.take-5.new.bus c.take-6.new.bus c.args.holds.hs c.args.holds.cs c.args.holds.sc c.args.holds.mm c.args.holds.md are.hs are.cs are.sc are.mm are.md c.take.ensures.pipes c.take_unless.ensures.pipes c.take-2.ensures.pipes
           c.take-3.ensures.pipes c.take-4.ensures.pipes c.take-5.ensures.pipes c.take-6.ensures.pipes;
       log = refl;
       memory = refl;

@@ -41,8 +41,7 @@ returns-clause-over c =
             ∙ sym (get_or-set_other behind 3 4 gave md.from.0 (omega arith)) ∙ sym (mm.others 4 md.from.0 (omega arith)) ∙ md.from.1,
         (md.from.2, md.from.3),
       );
-      pipes = refl;
-      log = refl;
+      wires = refl;
       memory = refl;
     }
 
