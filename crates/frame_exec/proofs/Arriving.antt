@@ -10,6 +10,7 @@ use Rattle.scenario.specs.declared.frame.App.{App}
 use Rattle.scenario.specs.declared.frame.Upset.{Upset}
 use Rattle.scenario.specs.FrameLists.{Frame}
 use Rattle.frame_exec.specs.declared.bench.Bench.{Bench}
+use Rattle.frame_exec.specs.declared.memory.Memory.{Memory as BenchMemory}
 use Rattle.frame_runs.proofs.Frames.{regions_same}
 use Rattle.frame_exec.specs.Standing.{AreMapped, IsReady}
 use Rattle.frame_exec.specs.Stages.{Activates, IsUpset, Takes, Enters, Arrives}
@@ -32,11 +33,11 @@ ready_took held old new takes ready = ready_by old new (ap (λ (m : Memory). reg
 
 -- and once the upsets were written
 pub ready_upset : (upsets : List Upset) (old new : Bench) → IsUpset upsets old new → IsReady old → IsReady new
-ready_upset upsets old new upset ready = ready_by old new (regions_same old.ram new.ram upsets upset.memory) upset.run.tables upset.apps ready
+ready_upset upsets old new upset ready = ready_by old new (regions_same old.memory.ram new.memory.ram upsets upset.memory) upset.run.tables upset.apps ready
 
 -- upsets lie in memory as long as it stays
-pub mapped_still : (upsets : List Upset) (old new : Memory) → new ≡ old → AreMapped upsets old → AreMapped upsets new
-mapped_still upsets old new same mapped = subst (AreMapped upsets) (sym same) mapped
+pub mapped_still : (upsets : List Upset) (old new : BenchMemory) → new ≡ old → AreMapped upsets old.ram → AreMapped upsets new.ram
+mapped_still upsets old new same mapped = subst (λ (m : BenchMemory). AreMapped upsets m.ram) (sym same) mapped
 
 -- nothing was upset before the applications took their packets
 pub enters_sending : (frame : Frame) (old new : Bench) → frame.upsets ≡ [] → frame.held ≡ [] → Takes [] old new → Enters frame.upsets frame.held old new

@@ -15,6 +15,7 @@ use Rattle.scenario.specs.declared.frame.Upset.{Upset}
 use Rattle.scenario.specs.FrameLists.{Frame}
 use Rattle.frame_exec.specs.declared.bench.Bench.{Bench}
 use Rattle.frame_exec.specs.declared.wires.Wires.{Wires}
+use Rattle.frame_exec.specs.declared.memory.Memory.{Memory as BenchMemory}
 use Rattle.hs_monitors.specs.Histories.{setup_of}
 use Rattle.hs_monitors.specs.State.{Stands as HsStands}
 use Rattle.hs_monitors.specs.Step.{resets_made, resets_maximum}
@@ -54,15 +55,15 @@ apps_kept before b s kept stand = record {
 }
 
 -- the applications can be woken, where their states, the tables and the regions were kept
-pub ready_by : (before b : Bench) → regions_of b.ram.areas ≡ regions_of before.ram.areas → b.tables ≡ before.tables → KeepsApps before b → IsReady before → IsReady b
+pub ready_by : (before b : Bench) → regions_of b.memory.ram.areas ≡ regions_of before.memory.ram.areas → b.tables ≡ before.tables → KeepsApps before b → IsReady before → IsReady b
 ready_by before b same tables kept ready = record {
   sc = subst (λ (t : Loaded). ScIsReady t.set.sc b.sc.state.value) (sym tables) (subst (λ (state : Box Sc Global). ScIsReady before.tables.set.sc state.value) (sym kept.sc) ready.sc);
-  md = subst (λ (regions : List Region). AllGiven regions b.md.state.value) (sym same) (subst (λ (state : Box Md Global). AllGiven (regions_of before.ram.areas) state.value) (sym kept.md) ready.md);
-  given = subst (λ (regions : List Region). AreGiven regions b.tables) (sym same) (subst (AreGiven (regions_of before.ram.areas)) (sym tables) ready.given);
+  md = subst (λ (regions : List Region). AllGiven regions b.md.state.value) (sym same) (subst (λ (state : Box Md Global). AllGiven (regions_of before.memory.ram.areas) state.value) (sym kept.md) ready.md);
+  given = subst (λ (regions : List Region). AreGiven regions b.tables) (sym same) (subst (AreGiven (regions_of before.memory.ram.areas)) (sym tables) ready.given);
 }
 
 -- the bench has what the run has come to after the wakeups of a frame
-pub has_after : (before b : Bench) (setup : Setup) (s : State) (frame : Frame) → KeepsApps before b → b.wires ≡ before.wires → b.ram ≡ land (loads_of setup.files) before.ops.value before.ram
+pub has_after : (before b : Bench) (setup : Setup) (s : State) (frame : Frame) → KeepsApps before b → b.wires ≡ before.wires → b.memory.ram ≡ land (loads_of setup.files) before.memory.ops.value before.memory.ram
     → b.number ≡ s.number + 1 → b.tables.set ≡ s.tables → RunsIn setup s frame before → Has b (after_wakeups setup s frame)
 unfolding after_wakeups
 has_after before b setup s frame kept wires memory number tables ran = record {
@@ -71,7 +72,7 @@ has_after before b setup s frame kept wires memory number tables ran = record {
   apps = apps_kept before b (after_wakeups setup s frame) kept ran.apps;
   pipes = ap (λ (w : Wires). w.bus) wires ∙ ran.pipes;
   made = subst (LogStands _) (sym (ap (λ (w : Wires). w.log) wires)) ran.made;
-  memory = memory ∙ ap (λ (xs : List MemOp). land (loads_of setup.files) xs before.ram) ran.operations ∙ ap (λ (m : Memory). land (loads_of setup.files) (operations_at setup s frame) m) ran.memory;
+  memory = memory ∙ ap (λ (xs : List MemOp). land (loads_of setup.files) xs before.memory.ram) ran.operations ∙ ap (λ (m : Memory). land (loads_of setup.files) (operations_at setup s frame) m) ran.memory;
 }
 
 -- the states of the applications were kept twice
@@ -83,10 +84,9 @@ module _ (before middle b : Bench) (setup : Setup) (frames : List Frame) (frame 
   kept : KeepsApps before b
   kept = kept_twice before middle b same.apps lands.apps
 
-  landed : b.ram ≡ land (loads_in before) before.ops.value before.ram
+  landed : b.memory.ram ≡ land (loads_in before) before.memory.ops.value before.memory.ram
   landed =
-      lands.memory ∙ ap (λ (t : Loaded). land (loads_of t.files) middle.ops.value middle.ram) same.tables ∙ ap (λ (ops : List MemOp). land (loads_in before) ops middle.ram) same.operations
-      ∙ ap (λ (m : Memory). land (loads_in before) before.ops.value m) same.memory
+      lands.memory ∙ ap (λ (t : Loaded). land (loads_of t.files) middle.memory.ops.value middle.memory.ram) same.tables ∙ ap (λ (m : BenchMemory). land (loads_in before) m.ops.value m.ram) same.memory
 
   tables_same : b.tables ≡ before.tables
   tables_same = lands.tables ∙ same.tables
@@ -94,7 +94,7 @@ module _ (before middle b : Bench) (setup : Setup) (frames : List Frame) (frame 
   has_landed : before.tables.files ≡ setup.files → before.number ≡ (run_of setup frames).number → RunsIn setup (activated_at setup (run_of setup frames) frame) frame before
       → Has b (after_wakeups setup (activated_at setup (run_of setup frames) frame) frame)
   has_landed files number ran =
-      (has_after before b setup (activated_at setup (run_of setup frames) frame) frame kept (lands.wires ∙ same.wires) (landed ∙ ap (λ (fs : List (List ℕ)). land (loads_of fs) before.ops.value before.ram) files) (lands.number ∙ ap (λ (n : ℕ). n + 1) (same.number ∙ number ∙ sym (activated_number setup (run_of setup frames) frame))) (ap (λ (t : Loaded). t.set) tables_same ∙ ran.tables) ran)
+      (has_after before b setup (activated_at setup (run_of setup frames) frame) frame kept (lands.wires ∙ same.wires) (landed ∙ ap (λ (fs : List (List ℕ)). land (loads_of fs) before.memory.ops.value before.memory.ram) files) (lands.number ∙ ap (λ (n : ℕ). n + 1) (same.number ∙ number ∙ sym (activated_number setup (run_of setup frames) frame))) (ap (λ (t : Loaded). t.set) tables_same ∙ ran.tables) ran)
 
   -- and then a processor reset took effect, where one was asked for
   pub has_next : (end : Bench) → StartsAnew b end → before.epoch ≡ setup.epoch → before.tables.files ≡ setup.files → before.number ≡ (run_of setup frames).number
@@ -107,7 +107,7 @@ module _ (before middle b : Bench) (setup : Setup) (frames : List Frame) (frame 
       (anew.has setup s (lands.epoch ∙ same.epoch ∙ epoch) (ap (λ (t : Loaded). t.files) tables_same ∙ files) (has_landed files number ran)))
 
   pub ready_next : IsReady before → IsReady b
-  ready_next ready = ready_by before b (ap (λ (m : Memory). regions_of m.areas) landed ∙ regions-changed _ before.ram.areas) tables_same kept ready
+  ready_next ready = ready_by before b (ap (λ (m : Memory). regions_of m.areas) landed ∙ regions-changed _ before.memory.ram.areas) tables_same kept ready
 
 -- what the frame gave stays once its operations landed and a processor reset took effect
 pub has_given : (before middle b end : Bench) (setup : Setup) (frames : List Frame) (frame : Frame) → IsSameFrame before middle → Lands middle b → StartsAnew b end
@@ -118,15 +118,15 @@ has_given before middle b end setup frames frame same lands anew ran = record {
 }
 
 -- what can be landed on the frame's image can be once its lines were given away
-pub can_land_still : (before middle : Bench) → IsSameFrame before middle → CanLand (loads_in before) before.ram before.ops.value → CanLand (loads_in middle) middle.ram middle.ops.value
+pub can_land_still : (before middle : Bench) → IsSameFrame before middle → CanLand (loads_in before) before.memory.ram before.memory.ops.value → CanLand (loads_in middle) middle.memory.ram middle.memory.ops.value
 can_land_still before middle same can =
-    subst (λ (t : Loaded). CanLand (loads_of t.files) middle.ram middle.ops.value) (sym same.tables)
-    (subst (λ (m : Memory). CanLand (loads_in before) m middle.ops.value) (sym same.memory) (subst (λ (ops : List MemOp). CanLand (loads_in before) before.ram ops) (sym same.operations) can))
+    subst (λ (t : Loaded). CanLand (loads_of t.files) middle.memory.ram middle.memory.ops.value) (sym same.tables)
+    (subst (λ (m : BenchMemory). CanLand (loads_in before) m.ram m.ops.value) (sym same.memory) can)
 
 -- a bench whose histories begin: with this number of frames, at this time of SC, and with these resets of HS
 pub has_begun : (b : Bench) (setup : Setup) (number began resets limit : ℕ) (pipes : Pipes) (made : List (List ℕ)) (memory : Memory) → b.number ≡ number → b.tables.set ≡ tables_of setup.files
     → HsStands (setup_of b.tables.set.hs resets limit) [] b.hs.state.value → CsStands (cs_tables b.tables.set) [] b.cs.state.value → ScStands (begun_at began b.tables.set.sc) [] b.sc.state.value
-    → MmStands [] b.mm.state.value → MdStands b.tables.set.dwells [] b.md.state.value → LcStands b.tables.set.wdt b.tables.set.adt [] b.lc.slot.state.value → b.wires.bus ≡ pipes → LogStands made b.wires.log → b.ram ≡ memory
+    → MmStands [] b.mm.state.value → MdStands b.tables.set.dwells [] b.md.state.value → LcStands b.tables.set.wdt b.tables.set.adt [] b.lc.slot.state.value → b.wires.bus ≡ pipes → LogStands made b.wires.log → b.memory.ram ≡ memory
     → Has b (record (beginning setup) { number = number; began = began; resets = resets; limit = limit; pipes = pipes; made = made; memory = memory })
 unfolding beginning
 has_begun b setup number began resets limit pipes made memory numbered tables hs cs sc mm md lc held log image =
@@ -148,7 +148,7 @@ has_begun b setup number began resets limit pipes made memory numbered tables hs
     }
 
 -- and can be woken
-pub ready_begun : (b : Bench) (regions : List Region) → regions_of b.ram.areas ≡ regions → ScIsReady b.tables.set.sc b.sc.state.value → AllGiven regions b.md.state.value → AreGiven regions b.tables → IsReady b
+pub ready_begun : (b : Bench) (regions : List Region) → regions_of b.memory.ram.areas ≡ regions → ScIsReady b.tables.set.sc b.sc.state.value → AllGiven regions b.md.state.value → AreGiven regions b.tables → IsReady b
 ready_begun b regions same sequences dwells given = record {
   sc = sequences;
   md = subst (λ (rs : List Region). AllGiven rs b.md.state.value) (sym same) dwells;
@@ -158,7 +158,7 @@ ready_begun b regions same sequences dwells given = record {
 -- a bench that was opened stands for no frames
 pub stands_opened : (b : Bench) (setup : Setup) → b.epoch ≡ setup.epoch → b.tables.files ≡ setup.files → b.failed ≡ false → b.block ≡ empty_block → b.number ≡ 0 → b.tables.set ≡ tables_of setup.files
     → HsStands (setup_of b.tables.set.hs 0 3) [] b.hs.state.value → CsStands (cs_tables b.tables.set) [] b.cs.state.value → ScStands (begun_at setup.epoch b.tables.set.sc) [] b.sc.state.value → MmStands [] b.mm.state.value
-    → MdStands b.tables.set.dwells [] b.md.state.value → LcStands b.tables.set.wdt b.tables.set.adt [] b.lc.slot.state.value → AreGiven setup.regions b.tables → ScIsReady b.tables.set.sc b.sc.state.value → AllGiven setup.regions b.md.state.value → b.wires.bus ≡ empty_pipes (lc_named setup.files) → LogStands [] b.wires.log → b.ram ≡ start_memory setup.regions → Stands b setup []
+    → MdStands b.tables.set.dwells [] b.md.state.value → LcStands b.tables.set.wdt b.tables.set.adt [] b.lc.slot.state.value → AreGiven setup.regions b.tables → ScIsReady b.tables.set.sc b.sc.state.value → AllGiven setup.regions b.md.state.value → b.wires.bus ≡ empty_pipes (lc_named setup.files) → LogStands [] b.wires.log → b.memory.ram ≡ start_memory setup.regions → Stands b setup []
 unfolding run_of beginning
 stands_opened b setup epoch files well waits number tables hs cs sc mm md lc given sequences dwells pipes made memory = record {
   epoch = epoch;
@@ -183,7 +183,7 @@ pub has_behind : (b : Bench) (setup : Setup) (s : State) (resets : Bool) → res
 has_behind b setup s resets is has = subst (λ (r : Bool). Has b (behind r setup s)) (sym is) has
 
 -- the upsets of a frame that can be run lie in the bench's regions
-pub upsets_mapped : (b : Bench) (setup : Setup) (frames : List Frame) (frame : Frame) → Has b (run_of setup frames) → CanRun setup frames frame → All (λ (u : Upset). is_mapped (regions_of b.ram.areas) u.at ≡ true) frame.upsets
+pub upsets_mapped : (b : Bench) (setup : Setup) (frames : List Frame) (frame : Frame) → Has b (run_of setup frames) → CanRun setup frames frame → All (λ (u : Upset). is_mapped (regions_of b.memory.ram.areas) u.at ≡ true) frame.upsets
 upsets_mapped b setup frames frame has can =
     let same = ap (λ (m : Memory). regions_of m.areas) has.memory ∙ run_regions setup frames in
     subst (λ (regions : List Region). All (λ (u : Upset). is_mapped regions u.at ≡ true) frame.upsets) (sym same) can.upsets

@@ -10,7 +10,7 @@ use Rattle.bus_pipes.specs.Held.{Held}
 use Rattle.bus_pipes.specs.Counted.{is_item_counted}
 use Rattle.packet_log.specs.Standing.{Stands as LogStands}
 use Rattle.bus_pipes.specs.declared.names.Out.{Out}
-use Rattle.memory_window.specs.Memory.{Memory, regions_of}
+use Rattle.memory_window.specs.Memory.{regions_of}
 use Rattle.memory_window.specs.declared.regions.Region.{Region}
 use Rattle.table_files.specs.Files.{file_at, kind_at}
 use Rattle.table_files.specs.Headers.{payload_of_file}
@@ -29,6 +29,7 @@ use Rattle.lc_watch.specs.declared.state.Lc.{Lc}
 use Rattle.frame_exec.specs.declared.bench.TheConstants.{EVENTS_ROOM}
 use Rattle.frame_exec.specs.declared.bench.Bench.{Bench}
 use Rattle.frame_exec.specs.declared.wires.Wires.{Wires}
+use Rattle.frame_exec.specs.declared.memory.Memory.{Memory as BenchMemory}
 use Rattle.app_suite.specs.declared.activations.Naming.{Naming}
 use Rattle.app_suite.specs.declared.activations.Naming.TheVariants.{Accepted, Refused, Running}
 use Rattle.active_tables.specs.Tables.{TableSet, Loaded, AreGiven, with_table, with_file}
@@ -49,7 +50,7 @@ pub record KeepsRest (old new : Bench) : Type 0 where
   pub mm : new.mm.state ≡ old.mm.state
   pub lc : new.lc.slot.state ≡ old.lc.slot.state
   pub wires : new.wires ≡ old.wires
-  pub memory : new.ram ≡ old.ram
+  pub memory : new.memory ≡ old.memory
 
 -- no sequence of this kind runs in a state of SC
 abbrev Rests : TableKind → Sc → Type 0
@@ -89,13 +90,13 @@ module _ (old new : Bench) (kind : TableKind) (payload : List ℕ) (known : IsKn
         };
         pipes = ap (λ (w : Wires). w.bus) keeps.wires ∙ has.pipes;
         made = subst (λ (w : Wires). LogStands s.made w.log) (sym keeps.wires) has.made;
-        memory = keeps.memory ∙ has.memory;
+        memory = ap (λ (m : BenchMemory). m.ram) keeps.memory ∙ has.memory;
       }
 
-  pub ready_active : ((regions : List Region) → TablesGiven regions new.tables.set.dwells → AllGiven regions old.md.state.value → AllGiven regions new.md.state.value) → AreGiven (regions_of old.ram.areas) new.tables
+  pub ready_active : ((regions : List Region) → TablesGiven regions new.tables.set.dwells → AllGiven regions old.md.state.value → AllGiven regions new.md.state.value) → AreGiven (regions_of old.memory.ram.areas) new.tables
       → IsReady old → IsReady new
   ready_active dwells given ready =
-      let regions : regions_of new.ram.areas ≡ regions_of old.ram.areas = ap (λ (m : Memory). regions_of m.areas) keeps.memory in
+      let regions : regions_of new.memory.ram.areas ≡ regions_of old.memory.ram.areas = ap (λ (m : BenchMemory). regions_of m.ram.areas) keeps.memory in
       let sequences = (with_table old.tables.set kind payload).sc in
       let stood = ready.sc in
       let sc : ScIsReady sequences old.sc.state.value = record {
@@ -106,7 +107,7 @@ module _ (old new : Bench) (kind : TableKind) (payload : List ℕ) (known : IsKn
       } in
       record {
         sc = subst (λ (t : TableSet). ScIsReady t.sc new.sc.state.value) (sym tables) (subst (λ (state : Box Sc Global). ScIsReady sequences state.value) (sym keeps.sc) sc);
-        md = subst (λ (rs : List Region). AllGiven rs new.md.state.value) (sym regions) (dwells (regions_of old.ram.areas) given.set.dwells ready.md);
+        md = subst (λ (rs : List Region). AllGiven rs new.md.state.value) (sym regions) (dwells (regions_of old.memory.ram.areas) given.set.dwells ready.md);
         given = subst (λ (rs : List Region). AreGiven rs new.tables) (sym regions) given;
       }
 

@@ -17,6 +17,7 @@ use Rattle.scenario.specs.declared.frame.Upset.{Upset}
 use Rattle.scenario.specs.FrameLists.{Frame}
 use Rattle.frame_exec.specs.declared.bench.Bench.{Bench}
 use Rattle.frame_exec.specs.declared.wires.Wires.{Wires}
+use Rattle.frame_exec.specs.declared.memory.Memory.{Memory as BenchMemory}
 use Rattle.active_tables.specs.Tables.{TableSet, Loaded}
 use Rattle.app_suite.specs.Applications.{cs_tables, lc_setup, hs_stands, cs_stands, sc_stands, mm_stands, md_stands, lc_stands, hs_gives, cs_gives, sc_gives, mm_gives, md_gives, lc_gives, hs_reads, cs_reads, sc_reads, mm_reads, md_reads, lc_reads}
 use Rattle.app_suite.specs.Wakes.{HasTaken, IsWoken, unless, joined}
@@ -29,7 +30,7 @@ use Rattle.frame_exec.proofs.Waking.{woken_state, woken_items, woken_beside, see
 -- A bench that has what a run has come to but for the frame's upsets, which are written; then what the applications took, and then that
 -- they were woken.
 module _ (setup : Setup) (s : State) (frame : Frame) (start took stepped : Bench) (epoch : start.epoch ≡ setup.epoch) (files : start.tables.files ≡ setup.files) (number : start.number ≡ s.number) (tables : start.tables.set ≡ s.tables) (pipes : start.wires.bus ≡ s.pipes)
-    (image : start.ram ≡ image_at s frame) (apps : AppsStand start s) (takes : Takes frame.held start took) (steps : Steps frame.counters took stepped) where
+    (image : start.memory.ram ≡ image_at s frame) (apps : AppsStand start s) (takes : Takes frame.held start took) (steps : Steps frame.counters took stepped) where
   same_tables : took.tables.set ≡ s.tables
   same_tables = ap (λ (t : Loaded). t.set) takes.run.tables ∙ tables
 
@@ -39,7 +40,7 @@ module _ (setup : Setup) (s : State) (frame : Frame) (start took stepped : Bench
   same_loads : loads_in took ≡ loads_of setup.files
   same_loads = ap (λ (t : Loaded). loads_of t.files) takes.run.tables ∙ ap loads_of files
 
-  same_image : took.ram ≡ image_at s frame
+  same_image : took.memory.ram ≡ image_at s frame
   same_image = takes.memory ∙ image
 
   stand : AppsStand took s
@@ -84,11 +85,11 @@ module _ (setup : Setup) (s : State) (frame : Frame) (start took stepped : Bench
   mm_woken =
       subst (λ (loads : List (ℕ × List ℕ)). IsWoken (mm_stands s.tables) (mm_gives s.tables) took.mm.held (mm_reads loads (time_at setup s) took.mm.commands (image_at s frame)) took.mm.state.value stepped.mm.state.value stepped.mm.out.items) same_loads
       (moved (λ (t : TableSet) (n : ℕ) (m : Memory). IsWoken (mm_stands t) (mm_gives t) took.mm.held (mm_reads (loads_in took) n took.mm.commands m) took.mm.state.value stepped.mm.state.value stepped.mm.out.items)
-      took.tables.set s.tables (time_of took) (time_at setup s) took.ram (image_at s frame) same_tables same_time same_image (steps.mm took.tables.set))
+      took.tables.set s.tables (time_of took) (time_at setup s) took.memory.ram (image_at s frame) same_tables same_time same_image (steps.mm took.tables.set))
 
   md_woken : IsWoken (md_stands (active_in s)) (md_gives (active_in s)) took.md.held (md_reads (time_at setup s) took.md.commands (image_at s frame)) took.md.state.value stepped.md.state.value stepped.md.out.items
   md_woken = moved (λ (t : TableSet) (n : ℕ) (m : Memory). IsWoken (md_stands (active_in s)) (md_gives (active_in s)) took.md.held (md_reads n took.md.commands m) took.md.state.value stepped.md.state.value stepped.md.out.items)
-      took.tables.set s.tables (time_of took) (time_at setup s) took.ram (image_at s frame) same_tables same_time same_image (steps.md (active_in s))
+      took.tables.set s.tables (time_of took) (time_at setup s) took.memory.ram (image_at s frame) same_tables same_time same_image (steps.md (active_in s))
 
   lc_woken : IsWoken (lc_stands (lc_setup s.tables)) (lc_gives (lc_setup s.tables)) took.lc.slot.held (lc_reads (time_at setup s) took.lc.slot.commands s.pipes.lc_tlm) took.lc.slot.state.value stepped.lc.slot.state.value stepped.lc.slot.out.items
   lc_woken =
@@ -131,12 +132,12 @@ module _ (setup : Setup) (s : State) (frame : Frame) (start took stepped : Bench
       took.lc.slot.state.value stepped.lc.slot.state.value s.lc lc_took lc_woken stand.lc in
       rw (hs, cs, sc, mm, md, lc) refl
 
-  pub operations_after : stepped.ops.value ≡ operations_at setup s frame
+  pub operations_after : stepped.memory.ops.value ≡ operations_at setup s frame
   unfolding operations_at mm_input_at
   operations_after =
-      woken_beside (λ commands. mm_operations (mm_reads (loads_of setup.files) (time_at setup s) commands (image_at s frame))) _ took.mm.held s.pipes.mm took.mm.commands took.mm.out.items stepped.ops.value mm_took
-      (subst (λ (loads : List (ℕ × List ℕ)). stepped.ops.value ≡ unless took.mm.held (mm_operations (mm_reads loads (time_at setup s) took.mm.commands (image_at s frame)))) same_loads
-      (moved (λ (t : TableSet) (n : ℕ) (m : Memory). stepped.ops.value ≡ unless took.mm.held (mm_operations (mm_reads (loads_in took) n took.mm.commands m))) took.tables.set s.tables (time_of took) (time_at setup s) took.ram (image_at s frame) same_tables
+      woken_beside (λ commands. mm_operations (mm_reads (loads_of setup.files) (time_at setup s) commands (image_at s frame))) _ took.mm.held s.pipes.mm took.mm.commands took.mm.out.items stepped.memory.ops.value mm_took
+      (subst (λ (loads : List (ℕ × List ℕ)). stepped.memory.ops.value ≡ unless took.mm.held (mm_operations (mm_reads loads (time_at setup s) took.mm.commands (image_at s frame)))) same_loads
+      (moved (λ (t : TableSet) (n : ℕ) (m : Memory). stepped.memory.ops.value ≡ unless took.mm.held (mm_operations (mm_reads (loads_in took) n took.mm.commands m))) took.tables.set s.tables (time_of took) (time_at setup s) took.memory.ram (image_at s frame) same_tables
       same_time same_image steps.operations))
 
   -- what the pipes hold then
@@ -162,8 +163,8 @@ module _ (setup : Setup) (s : State) (frame : Frame) (start took stepped : Bench
         drops = sends.drops ∙ ap (λ (p : Pipes). drops_from p (offered end.resets frame.sends (joined (items_in end)))) left ∙ ap (drops_from (left_by frame.held s.pipes)) offers;
         pipes = sends.pipes ∙ ap (λ (p : Pipes). after_offers p (offered end.resets frame.sends (joined (items_in end)))) left ∙ ap (after_offers (left_by frame.held s.pipes)) offers;
         made = subst (λ (items : List Out). LogStands (s.made ++ flat_map makes items) end.wires.log) items (sends.made s.made log);
-        operations = sends.operations ∙ operations_after;
-        memory = sends.memory ∙ steps.memory ∙ same_image;
+        operations = ap (λ (m : BenchMemory). m.ops.value) sends.memory ∙ operations_after;
+        memory = ap (λ (m : BenchMemory). m.ram) sends.memory ∙ steps.memory ∙ same_image;
       }
 
 -- what was told of activations stays until the applications were woken

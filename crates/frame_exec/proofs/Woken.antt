@@ -15,6 +15,7 @@ use Rattle.hs_monitors.specs.declared.step.TheConstants.{MOST_ITEMS as hs_most}
 use Rattle.lc_watch.specs.declared.step.TheConstants.{MOST_ITEMS as lc_most}
 use Rattle.frame_exec.specs.declared.bench.TheConstants.{EVENTS_ROOM}
 use Rattle.frame_exec.specs.declared.bench.Bench.{Bench}
+use Rattle.frame_exec.specs.declared.memory.Memory.{Memory as BenchMemory}
 use Rattle.crew_board.specs.Seen.{Seen as Crew}
 use Rattle.app_suite.specs.declared.left.Left.{Left}
 use Rattle.app_suite.specs.declared.lc_slot.LcSlot.{LcSlot}
@@ -83,8 +84,8 @@ steps_beside counters old new manned roomy away there told steps = record {
 }
 
 module _ (counters : List Counter) (old middle new : Bench) (woken : AreWoken counters old middle) (taken : TakesOver middle new) where
-  same_memory : new.ram ≡ old.ram
-  same_memory = taken.memory ∙ woken.slots.memory
+  same_memory : new.memory.ram ≡ old.memory.ram
+  same_memory = taken.memory ∙ ap (λ (m : BenchMemory). m.ram) woken.slots.memory
 
   same_tables : new.tables ≡ old.tables
   same_tables = taken.run.tables ∙ woken.run.tables
@@ -122,8 +123,8 @@ module _ (counters : List Counter) (old middle new : Bench) (woken : AreWoken co
         mm = taken_sendable _ _ _ _ _ _ _ _ _ _ _ _ _ (woken.mm taken.mm.0 taken.mm.1).0 (ap (λ slot. slot.state.value) slots.mm) taken.mm.2.0 taken.mm.2.1;
         md = taken_sendable _ _ _ _ _ _ _ _ _ _ _ _ _ (woken.md taken.md.0 taken.md.1).0 (ap (λ slot. slot.state.value) slots.md) taken.md.2.0 taken.md.2.1;
         lc = lc;
-        operations = subst (λ (t : Loaded). CanLand (loads_of t.files) new.ram new.ops.value) (sym same_tables)
-            (subst (λ (m : Memory). CanLand (loads_in old) m new.ops.value) (sym same_memory) (subst (λ (ops : List MemOp). CanLand (loads_in old) old.ram ops) (sym taken.mm.2.2) land));
+        operations = subst (λ (t : Loaded). CanLand (loads_of t.files) new.memory.ram new.memory.ops.value) (sym same_tables)
+            (subst (λ (m : Memory). CanLand (loads_in old) m new.memory.ops.value) (sym same_memory) (subst (λ (ops : List MemOp). CanLand (loads_in old) old.memory.ram ops) (sym taken.mm.2.2) land));
       }
 
   pub all_ready : IsReady old → IsReady new
@@ -135,6 +136,6 @@ module _ (counters : List Counter) (old middle new : Bench) (woken : AreWoken co
         sc = subst (λ (t : Loaded). ScIsReady t.set.sc new.sc.state.value) (sym same_tables)
             (subst (λ (s : Sc). ScIsReady old.tables.set.sc s) (sym (state_is _ _ _ _ _ _ _ _ _ _ _ _ _ sc.0 (ap (λ slot. slot.state.value) slots.sc) taken.sc.2.0 taken.sc.2.1)) sc.1);
         md = subst (λ (m : Memory). AllGiven (regions_of m.areas) new.md.state.value) (sym same_memory)
-            (subst (λ (s : Md). AllGiven (regions_of old.ram.areas) s) (sym (state_is _ _ _ _ _ _ _ _ _ _ _ _ _ md.0 (ap (λ slot. slot.state.value) slots.md) taken.md.2.0 taken.md.2.1)) md.1);
-        given = subst (λ (m : Memory). AreGiven (regions_of m.areas) new.tables) (sym same_memory) (subst (AreGiven (regions_of old.ram.areas)) (sym same_tables) ready.given);
+            (subst (λ (s : Md). AllGiven (regions_of old.memory.ram.areas) s) (sym (state_is _ _ _ _ _ _ _ _ _ _ _ _ _ md.0 (ap (λ slot. slot.state.value) slots.md) taken.md.2.0 taken.md.2.1)) md.1);
+        given = subst (λ (m : Memory). AreGiven (regions_of m.areas) new.tables) (sym same_memory) (subst (AreGiven (regions_of old.memory.ram.areas)) (sym same_tables) ready.given);
       }

@@ -20,5 +20,5 @@ pub record IsEmpty (regions : List Region) (there : Bool) (room : Room) : Type 0
   pub told : room.activations.room ≡ EVENTS_ROOM
   pub manned : room.crew.jobs ≡ jobs_of there
   pub wires : AreUnused there room.wires
-  pub memory : room.ram ≡ start_memory regions
+  pub memory : room.memory.ram ≡ start_memory regions
   pub lines : room.block ≡ empty_block

@@ -59,14 +59,14 @@ pub record GoesOn (old new : Bench) : Type 0 where
 -- a line named file n: its table is active now, where it can be
 pub record NamesFile (n : ℕ) (old new : Bench) : Type 0 where
   pub goes : GoesOn old new
-  pub memory : new.ram ≡ old.ram
+  pub memory : new.memory ≡ old.memory
   pub told : new.activations ≡ old.activations
   pub has : (setup : Setup) (s : State) → old.tables.files ≡ setup.files → Has old s → Has new (after_activation setup s n)
 
 -- lines named these files, one after another, and of each was told what became of it, behind what was told before
 pub record Activates (numbers : List ℕ) (told : List Out) (old new : Bench) : Type 0 where
   pub goes : GoesOn old new
-  pub memory : new.ram ≡ old.ram
+  pub memory : new.memory ≡ old.memory
   pub many : length new.activations.items ≡ length told + length numbers
   pub counted : AllPass is_item_counted told → AllPass is_item_counted new.activations.items
   pub events : (setup : Setup) (s : State) → old.epoch ≡ setup.epoch → old.tables.files ≡ setup.files → Has old s → new.activations.items ≡ told ++ table_events setup s numbers
@@ -95,7 +95,7 @@ pub record IsUpset (upsets : List Upset) (old new : Bench) : Type 0 where
   pub told : new.activations ≡ old.activations
   pub apps : KeepsApps old new
   pub wires : new.wires ≡ old.wires
-  pub memory : new.ram ≡ fold upset_by old.ram upsets
+  pub memory : new.memory.ram ≡ fold upset_by old.memory.ram upsets
 
 -- each application took what its pipes held, unless it was held, and LC where its pipes are there; and gave nothing yet
 pub record Takes (held : List App) (old new : Bench) : Type 0 where
@@ -110,10 +110,10 @@ pub record Takes (held : List App) (old new : Bench) : Type 0 where
   pub md : HasTaken (list_any (is_same names.Md) held) old.wires.bus.md new.md.held new.md.commands new.md.out.items
   pub lc : HasTaken (not old.wires.bus.watched) old.wires.bus.lc new.lc.slot.held new.lc.slot.commands new.lc.slot.out.items
   pub telemetry : not old.wires.bus.watched ≡ false → new.lc.telemetry.items ≡ old.wires.bus.lc_tlm
-  pub operations : new.ops.value ≡ []
+  pub operations : new.memory.ops.value ≡ []
   pub pipes : new.wires.bus ≡ left_by held old.wires.bus
   pub log : new.wires.log ≡ old.wires.log
-  pub memory : new.ram ≡ old.ram
+  pub memory : new.memory.ram ≡ old.memory.ram
 
 -- these upsets were written, and each application took what its pipes held, but those that are held
 pub record Enters (upsets : List Upset) (held : List App) (old new : Bench) : Type 0 where
@@ -135,7 +135,7 @@ pub record IsClear (b : Bench) : Type 0 where
   pub mm : b.mm.out.items ≡ []
   pub md : b.md.out.items ≡ []
   pub lc : b.lc.slot.out.items ≡ []
-  pub operations : b.ops.value ≡ []
+  pub operations : b.memory.ops.value ≡ []
 
 -- the load files that MM reads
 abbrev pub loads_in : Bench → List (ℕ × List ℕ)
@@ -146,14 +146,14 @@ pub record Steps (counters : List Counter) (old new : Bench) : Type 0 where
   pub run : IsSameRun old new
   pub told : new.activations ≡ old.activations
   pub hs : (tables : Active) → tables.now.hs ≡ old.tables.set.hs → IsWoken (hs_stands tables) (hs_gives tables) old.hs.held (hs_reads (time_of old) old.hs.commands old.events counters) old.hs.state.value new.hs.state.value new.hs.out.items
-  pub cs : (tables : Active) → cs_tables tables.now ≡ cs_tables old.tables.set → IsWoken (cs_stands tables) (cs_gives tables) old.cs.held (cs_reads (time_of old) old.cs.commands old.ram) old.cs.state.value new.cs.state.value new.cs.out.items
+  pub cs : (tables : Active) → cs_tables tables.now ≡ cs_tables old.tables.set → IsWoken (cs_stands tables) (cs_gives tables) old.cs.held (cs_reads (time_of old) old.cs.commands old.memory.ram) old.cs.state.value new.cs.state.value new.cs.out.items
   pub sc : (tables : Active) → tables.now.sc ≡ old.tables.set.sc → IsWoken (sc_stands tables) (sc_gives tables) old.sc.held (sc_reads (time_of old) old.sc.commands) old.sc.state.value new.sc.state.value new.sc.out.items
-  pub mm : (tables : TableSet) → IsWoken (mm_stands tables) (mm_gives tables) old.mm.held (mm_reads (loads_in old) (time_of old) old.mm.commands old.ram) old.mm.state.value new.mm.state.value new.mm.out.items
-  pub md : (tables : Active) → IsWoken (md_stands tables) (md_gives tables) old.md.held (md_reads (time_of old) old.md.commands old.ram) old.md.state.value new.md.state.value new.md.out.items
+  pub mm : (tables : TableSet) → IsWoken (mm_stands tables) (mm_gives tables) old.mm.held (mm_reads (loads_in old) (time_of old) old.mm.commands old.memory.ram) old.mm.state.value new.mm.state.value new.mm.out.items
+  pub md : (tables : Active) → IsWoken (md_stands tables) (md_gives tables) old.md.held (md_reads (time_of old) old.md.commands old.memory.ram) old.md.state.value new.md.state.value new.md.out.items
   pub lc : IsWoken (lc_stands (lc_setup old.tables.set)) (lc_gives (lc_setup old.tables.set)) old.lc.slot.held (lc_reads (time_of old) old.lc.slot.commands old.lc.telemetry.items) old.lc.slot.state.value new.lc.slot.state.value new.lc.slot.out.items
-  pub operations : new.ops.value ≡ unless old.mm.held (mm_operations (mm_reads (loads_in old) (time_of old) old.mm.commands old.ram))
+  pub operations : new.memory.ops.value ≡ unless old.mm.held (mm_operations (mm_reads (loads_in old) (time_of old) old.mm.commands old.memory.ram))
   pub wires : new.wires ≡ old.wires
-  pub memory : new.ram ≡ old.ram
+  pub memory : new.memory.ram ≡ old.memory.ram
 
 -- the slots of the applications stay, and the operations, pipes, counts and memory
 pub record KeepsSlots (old new : Bench) : Type 0 where
@@ -163,9 +163,8 @@ pub record KeepsSlots (old new : Bench) : Type 0 where
   pub mm : new.mm ≡ old.mm
   pub md : new.md ≡ old.md
   pub lc : new.lc ≡ old.lc
-  pub operations : new.ops ≡ old.ops
   pub wires : new.wires ≡ old.wires
-  pub memory : new.ram ≡ old.ram
+  pub memory : new.memory ≡ old.memory
 
 -- the result of a job is one of which this holds
 abbrev pub HasLeft : Bench → ℕ → (Left → Type 0) → Type 0
@@ -182,13 +181,13 @@ pub record AreWoken (counters : List Counter) (old new : Bench) : Type 0 where
   pub slots : KeepsSlots old new
   pub manned : length new.crew.results ≡ jobs_of old.wires.bus.watched
   pub hs : HasLeft new 0 (λ left. Gives (λ t. old.tables.set.hs ≡ t.now.hs) hs_stands hs_gives hs_most old.hs.held (hs_reads (time_of old) old.hs.commands old.events counters) old.hs.state.value left.stays left.hs.value left.out.items)
-  pub cs : HasLeft new 1 (λ left. Gives (λ t. cs_tables old.tables.set ≡ cs_tables t.now) cs_stands cs_gives cs_most old.cs.held (cs_reads (time_of old) old.cs.commands old.ram) old.cs.state.value left.stays left.cs.value left.out.items)
+  pub cs : HasLeft new 1 (λ left. Gives (λ t. cs_tables old.tables.set ≡ cs_tables t.now) cs_stands cs_gives cs_most old.cs.held (cs_reads (time_of old) old.cs.commands old.memory.ram) old.cs.state.value left.stays left.cs.value left.out.items)
   pub sc : HasLeft new 2 (λ left. Gives (λ t. old.tables.set.sc ≡ t.now.sc) sc_stands sc_gives sc_most old.sc.held (sc_reads (time_of old) old.sc.commands) old.sc.state.value left.stays left.sc.value left.out.items
       × ScIsReady old.tables.set.sc (next_of left.stays left.sc.value old.sc.state.value))
-  pub mm : HasLeft new 3 (λ left. Gives {Setup = TableSet} (λ t. Unit {0}) mm_stands mm_gives mm_most old.mm.held (mm_reads (loads_in old) (time_of old) old.mm.commands old.ram) old.mm.state.value left.stays left.mm.value left.out.items
-      × Operates (loads_in old) old.mm.held (time_of old) old.mm.commands old.ram left.ops.value)
-  pub md : HasLeft new 4 (λ left. Gives {Setup = Active} (λ t. Unit {0}) md_stands md_gives md_most old.md.held (md_reads (time_of old) old.md.commands old.ram) old.md.state.value left.stays left.md.value left.out.items
-      × AllGiven (regions_of old.ram.areas) (next_of left.stays left.md.value old.md.state.value))
+  pub mm : HasLeft new 3 (λ left. Gives {Setup = TableSet} (λ t. Unit {0}) mm_stands mm_gives mm_most old.mm.held (mm_reads (loads_in old) (time_of old) old.mm.commands old.memory.ram) old.mm.state.value left.stays left.mm.value left.out.items
+      × Operates (loads_in old) old.mm.held (time_of old) old.mm.commands old.memory.ram left.ops.value)
+  pub md : HasLeft new 4 (λ left. Gives {Setup = Active} (λ t. Unit {0}) md_stands md_gives md_most old.md.held (md_reads (time_of old) old.md.commands old.memory.ram) old.md.state.value left.stays left.md.value left.out.items
+      × AllGiven (regions_of old.memory.ram.areas) (next_of left.stays left.md.value old.md.state.value))
   pub lc : old.wires.bus.watched ≡ true → HasLeft new 5 (λ left. Gives (λ t. lc_setup old.tables.set ≡ t) lc_stands lc_gives lc_most old.lc.slot.held (lc_reads (time_of old) old.lc.slot.commands old.lc.telemetry.items) old.lc.slot.state.value left.stays left.lc.value left.out.items)
 
 -- what the jobs left but LC's was taken over: the next states, the items and the operations
@@ -198,10 +197,10 @@ pub record TakesOver (old new : Bench) : Type 0 where
   pub hs : IsTaken old 0 (λ left. (new.hs.state.value ≡ next_of left.stays left.hs.value old.hs.state.value) × (new.hs.out.items ≡ left.out.items))
   pub cs : IsTaken old 1 (λ left. (new.cs.state.value ≡ next_of left.stays left.cs.value old.cs.state.value) × (new.cs.out.items ≡ left.out.items))
   pub sc : IsTaken old 2 (λ left. (new.sc.state.value ≡ next_of left.stays left.sc.value old.sc.state.value) × (new.sc.out.items ≡ left.out.items))
-  pub mm : IsTaken old 3 (λ left. (new.mm.state.value ≡ next_of left.stays left.mm.value old.mm.state.value) × (new.mm.out.items ≡ left.out.items) × (new.ops.value ≡ left.ops.value))
+  pub mm : IsTaken old 3 (λ left. (new.mm.state.value ≡ next_of left.stays left.mm.value old.mm.state.value) × (new.mm.out.items ≡ left.out.items) × (new.memory.ops.value ≡ left.ops.value))
   pub md : IsTaken old 4 (λ left. (new.md.state.value ≡ next_of left.stays left.md.value old.md.state.value) × (new.md.out.items ≡ left.out.items))
   pub wires : new.wires ≡ old.wires
-  pub memory : new.ram ≡ old.ram
+  pub memory : new.memory.ram ≡ old.memory.ram
 
 -- what the wakeups leave can be sent, and landed on the frame's image
 pub record CanSend (b : Bench) : Type 0 where
@@ -211,32 +210,30 @@ pub record CanSend (b : Bench) : Type 0 where
   pub mm : AreSendable mm_most b.mm.out.items
   pub md : AreSendable md_most b.md.out.items
   pub lc : AreSendable lc_most b.lc.slot.out.items
-  pub operations : CanLand (loads_in b) b.ram b.ops.value
+  pub operations : CanLand (loads_in b) b.memory.ram b.memory.ops.value
 
 -- the items got their sequence counts: they are as they are sent
 pub record IsStamped (old new : Bench) : Type 0 where
   pub run : IsSameRun old new
   pub apps : KeepsApps old new
-  pub operations : new.ops.value ≡ old.ops.value
   pub sent : (made : List (List ℕ)) → LogStands made old.wires.log → joined (items_in new) ≡ sent_of made (joined (items_in old))
   pub made : (made : List (List ℕ)) → LogStands made old.wires.log → LogStands (made ++ flat_map makes (joined (items_in old))) new.wires.log
   pub few : length (joined (items_in new)) ≡ length (joined (items_in old))
   pub resets : new.resets ≡ old.resets
   pub pipes : new.wires.bus ≡ old.wires.bus
   pub drops : new.wires.drops ≡ old.wires.drops
-  pub memory : new.ram ≡ old.ram
+  pub memory : new.memory ≡ old.memory
 
 -- the items were sent behind these packets
 pub record Sends (sends : List (List ℕ)) (old new : Bench) : Type 0 where
   pub run : IsSameRun old new
   pub apps : KeepsApps old new
-  pub operations : new.ops.value ≡ old.ops.value
   pub sent : (made : List (List ℕ)) → LogStands made old.wires.log → joined (items_in new) ≡ sent_of made (joined (items_in old))
   pub made : (made : List (List ℕ)) → LogStands made old.wires.log → LogStands (made ++ flat_map makes (joined (items_in old))) new.wires.log
   pub resets : new.resets ≡ list_any is_reset (joined (items_in old))
   pub pipes : new.wires.bus ≡ after_offers old.wires.bus (offered new.resets sends (joined (items_in new)))
   pub drops : new.wires.drops.items ≡ drops_from old.wires.bus (offered new.resets sends (joined (items_in new)))
-  pub memory : new.ram ≡ old.ram
+  pub memory : new.memory ≡ old.memory
 
 -- The frame was run on s, which is the state behind its activations, up to its lines: memory is its image, and its operations haven't
 -- landed.
@@ -248,8 +245,8 @@ pub record RunsIn (setup : Setup) (s : State) (frame : Frame) (b : Bench) : Type
   pub drops : b.wires.drops.items ≡ drops_from (left_by frame.held s.pipes) (offers_at setup s frame)
   pub pipes : b.wires.bus ≡ after_offers (left_by frame.held s.pipes) (offers_at setup s frame)
   pub made : LogStands (s.made ++ flat_map makes (joined (items_at setup s frame))) b.wires.log
-  pub operations : b.ops.value ≡ operations_at setup s frame
-  pub memory : b.ram ≡ image_at s frame
+  pub operations : b.memory.ops.value ≡ operations_at setup s frame
+  pub memory : b.memory.ram ≡ image_at s frame
 
 -- all that a frame makes of the bench stays, but for the lines that wait
 pub record IsSameFrame (old new : Bench) : Type 0 where
@@ -260,9 +257,8 @@ pub record IsSameFrame (old new : Bench) : Type 0 where
   pub tables : new.tables ≡ old.tables
   pub apps : KeepsApps old new
   pub wires : new.wires ≡ old.wires
-  pub operations : new.ops.value ≡ old.ops.value
   pub resets : new.resets ≡ old.resets
-  pub memory : new.ram ≡ old.ram
+  pub memory : new.memory ≡ old.memory
 
 -- the frame's operations have landed, and the next frame comes
 pub record Lands (old new : Bench) : Type 0 where
@@ -275,14 +271,14 @@ pub record Lands (old new : Bench) : Type 0 where
   pub wires : new.wires ≡ old.wires
   pub waits : new.block ≡ old.block
   pub resets : new.resets ≡ old.resets
-  pub memory : new.ram ≡ land (loads_in old) old.ops.value old.ram
+  pub memory : new.memory.ram ≡ land (loads_in old) old.memory.ops.value old.memory.ram
 
 -- a processor reset took effect where one was asked for
 pub record StartsAnew (old new : Bench) : Type 0 where
   pub goes : GoesOn old new
   pub items : items_in new ≡ items_in old
   pub resets : new.resets ≡ old.resets
-  pub memory : new.ram ≡ old.ram
+  pub memory : new.memory ≡ old.memory
   pub has : (setup : Setup) (s : State) → old.epoch ≡ setup.epoch → old.tables.files ≡ setup.files → Has old s → Has new (behind old.resets setup s)
 
 -- the lines of what was sent and dropped

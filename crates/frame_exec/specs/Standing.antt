@@ -30,13 +30,13 @@ pub record Has (b : Bench) (s : State) : Type 0 where
   pub apps : AppsStand b s
   pub pipes : b.wires.bus ≡ s.pipes
   pub made : LogStands s.made b.wires.log
-  pub memory : b.ram ≡ s.memory
+  pub memory : b.memory.ram ≡ s.memory
 
 -- each application can be woken
 pub record IsReady (b : Bench) : Type 0 where
   pub sc : ScIsReady b.tables.set.sc b.sc.state.value
-  pub md : AllGiven (regions_of b.ram.areas) b.md.state.value
-  pub given : AreGiven (regions_of b.ram.areas) b.tables
+  pub md : AllGiven (regions_of b.memory.ram.areas) b.md.state.value
+  pub given : AreGiven (regions_of b.memory.ram.areas) b.tables
 
 -- these upsets lie in memory
 abbrev pub AreMapped : List Upset → Memory → Type 0
@@ -61,7 +61,7 @@ pub record Stands (b : Bench) (setup : Setup) (frames : List Frame) : Type 0 whe
 
 -- A frame behind these frames was interrupted, as its lines couldn't all be written: its upsets are in memory, and none of its operations is.
 pub record IsInterrupted (b : Bench) (setup : Setup) (frames : List Frame) (frame : Frame) : Type 0 where
-  pub memory : b.ram ≡ image_at (run_of setup frames) frame
+  pub memory : b.memory.ram ≡ image_at (run_of setup frames) frame
 
 -- a further frame can be run: its time and that of the frame behind it are numbers of four bytes, and its upsets lie in the map
 pub record CanRun (setup : Setup) (frames : List Frame) (frame : Frame) : Type 0 where

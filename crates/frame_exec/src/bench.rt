@@ -6,6 +6,7 @@ ghost use Rattle.app_suite.specs.Jobs.{jobs_of};
 
 use crate::cut::Cut;
 use crate::kind::FrameKind;
+use crate::memory::Memory;
 use crate::wires::Wires;
 use crate::yielded::Yield;
 use active_tables::Tables;
@@ -17,12 +18,11 @@ use bus_pipes::{Batch, Outbox, PipeName};
 use crew_board::Crew;
 use cs_slices::Cs;
 use frame_runs::obey_frame;
-use frame_wires::{has_reset, put_frame, take_unless, upset_all};
+use frame_wires::{has_reset, put_frame, take_unless};
 use fsw_outside::{Failed, Gate, Sink};
 use hs_monitors::Hs;
 use lc_watch::Lc;
 use md_dwell::Md;
-use memory_window::{Ops, Ram};
 use mm_core::Mm;
 use packet_forms::Counter;
 use packet_log::{Block, LineBuffer};
@@ -59,8 +59,7 @@ pub struct Bench<'f> {
     // who wakes the applications, with what each left
     pub(crate) crew: Crew<Left>,
     pub(crate) wires: Wires,
-    pub(crate) ops: Box<Ops>,
-    pub(crate) ram: Ram,
+    pub(crate) memory: Memory,
     // the line that was written last: a new one would be wiped in each frame
     pub(crate) line: LineBuffer,
     // lines, until they are handed on
@@ -327,10 +326,10 @@ impl<'f> Bench<'f> {
     #[inline(always)]
     fn land<R: Threads + Sync, G: Gate>(&mut self, rt: &R, gate: &G)
         requires number { self.old.number < 4294967296 }
-        requires can_land { CanLand (loads_in self.old) self.old.ram self.old.ops.value }
+        requires can_land { CanLand (loads_in self.old) self.old.memory.ram self.old.memory.ops.value }
         ensures { Lands self.old self.new }
     {
-        if self.ops.items().is_empty() {
+        if self.memory.stays() {
             self.number += 1;
             return;
         }
@@ -341,12 +340,11 @@ impl<'f> Bench<'f> {
     #[inline(never)]
     fn land_all<R: Threads + Sync, G: Gate>(&mut self, rt: &R, gate: &G)
         requires number { self.old.number < 4294967296 }
-        requires can_land { CanLand (loads_in self.old) self.old.ram self.old.ops.value }
+        requires can_land { CanLand (loads_in self.old) self.old.memory.ram self.old.memory.ops.value }
         ensures { Lands self.old self.new }
     {
         let workers = self.workers.max(1);
-        self.ram
-            .land_banks_on(rt, workers, self.ops.items(), self.tables.files(), gate);
+        self.memory.land(rt, workers, self.tables.files(), gate);
         self.number += 1;
     }
 
@@ -447,10 +445,10 @@ impl<'f> Bench<'f> {
 
     /// Writes the frame's upsets.
     fn upset(&mut self, upsets: &[Upset])
-        requires { AreMapped upsets.now self.old.ram }
+        requires { AreMapped upsets.now self.old.memory.ram }
         ensures { IsUpset upsets.now self.old self.new }
     {
-        upset_all(&mut self.ram, upsets);
+        self.memory.upset(upsets);
     }
 
     /// Each application but those that are held takes what its pipes hold.
@@ -471,7 +469,7 @@ impl<'f> Bench<'f> {
         self.mm.take(&mut self.wires.bus, PipeName::Mm, holds.mm);
         self.md.take(&mut self.wires.bus, PipeName::Md, holds.md);
         self.lc.take(&mut self.wires.bus);
-        self.ops.clear();
+        self.memory.ops.clear();
     }
 
     /// Sends the items, unless nothing is to be sent, and answers whether there is a line of what was sent or dropped.
@@ -540,7 +538,7 @@ impl<'f> Bench<'f> {
     #[inline(always)]
     fn arrive(&mut self, input: &FrameInput)
         requires time { self.old.epoch + self.old.number < 4294967296 }
-        requires upsets { AreMapped input.now.upsets self.old.ram }
+        requires upsets { AreMapped input.now.upsets self.old.memory.ram }
         requires ready { IsReady self.old }
         ensures arrives { Arrives input.now self.old self.new }
         ensures few { length input.now.sends + length input.now.activations ≤ 64 }
@@ -561,7 +559,7 @@ impl<'f> Bench<'f> {
     /// Writes a frame's upsets, and lets each application take what its pipes hold but those that are held.
     #[inline(always)]
     fn enter(&mut self, input: &FrameInput, holds: Holds)
-        requires upsets { AreMapped input.now.upsets self.old.ram }
+        requires upsets { AreMapped input.now.upsets self.old.memory.ram }
         requires ready { IsReady self.old }
         ensures enters { (held : List App) → AreHeld held holds
             → Enters input.now.upsets held self.old self.new }
@@ -582,14 +580,14 @@ impl<'f> Bench<'f> {
         counters: &[Counter],
     ) -> Yield
         requires time { self.old.epoch + self.old.number < 4294967296 }
-        requires upsets { AreMapped input.now.upsets self.old.ram }
+        requires upsets { AreMapped input.now.upsets self.old.memory.ram }
         requires ready { IsReady self.old }
         ensures runs { (setup : Setup) (s : State) → self.old.epoch ≡ setup.epoch
             → self.old.tables.files ≡ setup.files → Has self.old s
             → RunsIn setup (activated_at setup s (with_counters counters.now input.now))
             (with_counters counters.now input.now) self.new }
         ensures run { GoesOn self.old self.new }
-        ensures can_land { CanLand (loads_in self.new) self.new.ram self.new.ops.value }
+        ensures can_land { CanLand (loads_in self.new) self.new.memory.ram self.new.memory.ops.value }
         ensures ready { IsReady self.new }
         ensures silent { result ≡ yields.Nothing → lines_in self.new ≡ [] }
     {

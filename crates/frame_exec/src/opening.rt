@@ -4,13 +4,13 @@ ghost use Rattle.std.specs.Prelude.{IfOk};
 ghost use Rattle.frame_exec.specs.Opening.{IsEmpty};
 
 use crate::bench::{Bench, EVENTS_ROOM};
+use crate::memory::Memory;
 use crate::wires::Wires;
 use active_tables::{OpenFault, Tables, names_limit_checker, refused_place};
 use app_suite::{Left, Slots, jobs_of};
 use bus_pipes::{Batch, Outbox};
 use crew_board::Crew;
 use fsw_outside::NoMemory;
-use memory_window::{Ops, Ram};
 use packet_log::{Block, LineBuffer};
 use scenario::Header;
 use std::alloc::Global;
@@ -22,8 +22,7 @@ pub(crate) struct Room {
     pub(crate) activations: Outbox,
     pub(crate) crew: Crew<Left>,
     pub(crate) wires: Wires,
-    pub(crate) ops: Box<Ops>,
-    pub(crate) ram: Ram,
+    pub(crate) memory: Memory,
     pub(crate) block: Block,
 }
 
@@ -39,8 +38,7 @@ impl Room {
             activations: Outbox::open(alloc, EVENTS_ROOM)?,
             crew: Crew::open(alloc, workers, jobs_of(lc))?,
             wires: Wires::open(alloc, lc)?,
-            ops: Box::new(alloc, Ops::new())?,
-            ram: Ram::new(alloc, header.map)?,
+            memory: Memory::open(alloc, header.map)?,
             block: Block::open(alloc)?,
         })
     }
@@ -111,8 +109,7 @@ impl<'f> Bench<'f> {
             activations: room.activations,
             crew: room.crew,
             wires: room.wires,
-            ops: room.ops,
-            ram: room.ram,
+            memory: room.memory,
             line: LineBuffer::new(),
             block: room.block,
         })

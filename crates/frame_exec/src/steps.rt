@@ -78,7 +78,7 @@ impl<'f> Bench<'f> {
             tables: &self.tables,
             events: &self.events,
             telemetry: &self.lc.telemetry,
-            window: self.ram.window(),
+            window: self.memory.ram.window(),
             counters,
             time: self.epoch + self.number as u32,
         };
@@ -101,7 +101,7 @@ impl<'f> Bench<'f> {
         let hs = wake_in_place(&mut self.hs, hs_rests, &reads, &mut ());
         let cs = wake_in_place(&mut self.cs, cs_rests, &reads, &mut ());
         let sc = wake_in_place(&mut self.sc, sc_rests, &reads, &mut ());
-        let mm = wake_in_place(&mut self.mm, mm_rests, &reads, &mut *self.ops);
+        let mm = wake_in_place(&mut self.mm, mm_rests, &reads, &mut *self.memory.ops);
         let md = wake_in_place(&mut self.md, md_rests, &reads, &mut ());
         let lc = wake_in_place(&mut self.lc.slot, lc_rests, &reads, &mut ());
         Yield::unless(hs & cs & sc & mm & md & lc)
@@ -148,7 +148,7 @@ impl<'f> Bench<'f> {
         ensures { AreWoken counters.now self.old self.new }
     {
         let time = self.epoch + self.number as u32;
-        let window = self.ram.window();
+        let window = self.memory.ram.window();
         let lc = &self.lc;
         let reads = Reads {
             tables: &self.tables,
@@ -185,7 +185,7 @@ impl<'f> Bench<'f> {
         let cs = self.cs.take_over(&mut self.crew, 1);
         let sc = self.sc.take_over(&mut self.crew, 2);
         let left = self.crew.result_mut(3);
-        left.give_operations(&mut self.ops);
+        left.give_operations(&mut self.memory.ops);
         let mm = self.mm.take_over(&mut self.crew, 3);
         let md = self.md.take_over(&mut self.crew, 4);
         hs & cs & sc & mm & md

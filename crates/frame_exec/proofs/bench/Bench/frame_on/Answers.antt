@@ -1,5 +1,6 @@
 use Rattle.std.proofs.Common.{ℕ, ◌+◌, List, ◌++◌, ◌∙◌, ap, subst, arith}
 use Rattle.active_tables.specs.Tables.{Loaded}
+use Rattle.frame_exec.specs.declared.memory.Memory.{Memory as BenchMemory}
 use Rattle.frame_runs.specs.Runs.{run_of}
 use Rattle.frame_runs.specs.Crowds.{with_counters}
 use Rattle.fsw_outside.specs.Written.{AppendsPart}
@@ -71,7 +72,7 @@ returns-in-Ok-clause-stands g c = λ setup frames stands.
     }
 
 pub returns-in-Err-clause-interrupted : goal.returns-in-Err-clause-interrupted
-returns-in-Err-clause-interrupted g c = λ setup frames stands. record { memory = c.in-Err.ensures.same.memory ∙ (c.run-lines.ensures.runs setup (run_of setup frames) stands.epoch stands.files stands.has).memory ∙ activated_image setup (run_of setup frames) (with_counters c.args.counters.now c.args.input.now) }
+returns-in-Err-clause-interrupted g c = λ setup frames stands. record { memory = ap (λ (m : BenchMemory). m.ram) c.in-Err.ensures.same.memory ∙ (c.run-lines.ensures.runs setup (run_of setup frames) stands.epoch stands.files stands.has).memory ∙ activated_image setup (run_of setup frames) (with_counters c.args.counters.now c.args.input.now) }
 
 pub returns-in-Err-clause-lines : goal.returns-in-Err-clause-lines
 returns-in-Err-clause-lines g c = λ setup frames stands.

@@ -6,10 +6,10 @@ use Rattle.frame_exec.specs.Stages.{loads_in}
 use Rattle.frame_exec.proofs.bench.Bench.land.Goals as goal
 
 -- no operation changes no memory
-pub returns-then-is_empty : goal.returns-then-is_empty
-returns-then-is_empty g c =
+pub returns-then-stays : goal.returns-then-stays
+returns-then-stays g c =
     let old = c.args.self.now in
-    let none : length old.ops.value ≡ 0 = grind (arith, nat_tests) in
+    let none : length old.memory.ops.value ≡ 0 = grind (arith, nat_tests) in
     record {
       items = refl;
       epoch = refl;
@@ -20,5 +20,5 @@ returns-then-is_empty g c =
       wires = refl;
       waits = refl;
       resets = refl;
-      memory = sym (nothing-landed (loads_in old) old.ops.value old.ram (nil_from_length old.ops.value none));
+      memory = sym (nothing-landed (loads_in old) old.memory.ops.value old.memory.ram (nil_from_length old.memory.ops.value none));
     }

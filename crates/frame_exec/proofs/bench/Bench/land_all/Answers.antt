@@ -1,15 +1,7 @@
-use Rattle.std.proofs.Common.{ℕ, List, sym, subst, ◌∙◌}
-use Rattle.std.specs.List.{All}
-use Rattle.memory_window.specs.Access.{Admitted}
-use Rattle.memory_window.specs.Operations.{IsBacked}
-use Rattle.memory_window.specs.declared.operations.MemOp.{MemOp}
+use Rattle.std.proofs.Common.{ℕ, List, sym, subst}
 use Rattle.table_files.specs.Files.{loads_of}
-use Rattle.frame_exec.proofs.Waking.{of_both}
+use Rattle.app_suite.specs.Landable.{CanLand}
 use Rattle.frame_exec.proofs.bench.Bench.land_all.Goals as goal
 
-pub land_banks_on-requires-clause-admitted : goal.land_banks_on-requires-clause-admitted
-land_banks_on-requires-clause-admitted g c = λ _ _. subst (λ (ops : List MemOp). All (Admitted c.args.self.now.ram) ops) (sym (c.items.ensures.items ∙ c.deref.ensures)) c.requires.can_land.admitted
-
-pub land_banks_on-requires-clause-backed : goal.land_banks_on-requires-clause-backed
-land_banks_on-requires-clause-backed g c = λ _ _.
-    of_both (λ (files : List (List ℕ)) (ops : List MemOp). All (IsBacked (loads_of files)) ops) _ _ _ _ (sym c.files.ensures) (sym (c.items.ensures.items ∙ c.deref.ensures)) c.requires.can_land.backed
+pub land-requires-clause-can_land : goal.land-requires-clause-can_land
+land-requires-clause-can_land g c = λ _ _. subst (λ (files : List (List ℕ)). CanLand (loads_of files) c.args.self.now.memory.ram c.args.self.now.memory.ops.value) (sym c.files.ensures) c.requires.can_land

@@ -36,7 +36,7 @@ returns-clause-ready c =
     let tables = ap (λ (t : Loaded). t.set) c.activate.ensures ∙ with_kind old.tables.set files c.args.file kind is in
     ready_active old _ kind (payload_of_file (file_at files c.args.file)) known parts.0 (λ begin history stood. sym (c.runs.ensures begin history (subst (ScStands begin history) (sym c.deref.ensures) stood)) ∙ parts.1) tables c.hand_over.ensures.takes
     (record { sc = refl; mm = refl; lc = refl; wires = refl; memory = refl }) c.hand_over.ensures.given
-    (given_next (regions_of old.ram.areas) old.tables c.activate.new.self c.args.file c.activate.ensures c.requires.ready.given) c.requires.ready
+    (given_next (regions_of old.memory.ram.areas) old.tables c.activate.new.self c.args.file c.activate.ensures c.requires.ready.given) c.requires.ready
 
 pub returns-clause-naming : goal.returns-clause-naming
 returns-clause-naming c = λ setup s files has.

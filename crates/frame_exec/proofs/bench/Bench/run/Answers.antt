@@ -48,7 +48,7 @@ returns-clause-runs g c = λ setup s epoch files has.
     let has_now = activated_has begun setup s frame frame.activations refl (active.has setup s files has) in
     let upset = a.enters.writes in
     ran setup t frame a.enters.upset c.arrive.new.self c.step-items.new.self (upset.run.epoch ∙ active.goes.epoch ∙ epoch) (ap (λ (l : Loaded). l.files) upset.run.tables ∙ active.goes.files ∙ files) (upset.run.number ∙ has_now.number)
-    (ap (λ (l : Loaded). l.set) upset.run.tables ∙ has_now.tables) (ap (λ (w : Wires). w.bus) upset.wires ∙ has_now.pipes) (image_is t frame begun.ram a.enters.upset.ram frame.upsets has_now.memory refl upset.memory) (apps_kept begun a.enters.upset t upset.apps has_now.apps) a.enters.takes
+    (ap (λ (l : Loaded). l.set) upset.run.tables ∙ has_now.tables) (ap (λ (w : Wires). w.bus) upset.wires ∙ has_now.pipes) (image_is t frame begun.memory.ram a.enters.upset.memory.ram frame.upsets has_now.memory refl upset.memory) (apps_kept begun a.enters.upset t upset.apps has_now.apps) a.enters.takes
     c.step-items.ensures.steps c.send.new.self
     (ap (λ (held : Held Out). held.items) (told_still _ _ _ _ _ _ a.enters c.step-items.ensures.steps) ∙ events_at setup s frame begun.activations.items frame.activations refl (active.events setup s epoch files has))
     (subst (λ (w : Wires). LogStands t.made w.log) (sym upset.wires) has_now.made) c.send.ensures.sends

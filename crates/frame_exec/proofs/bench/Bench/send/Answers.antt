@@ -28,7 +28,6 @@ returns-then-is_empty-2-clause-sends c =
     record {
       run = record { waits = refl; epoch = refl; number = refl; failed = refl; tables = refl };
       apps = record { hs = refl; cs = refl; sc = refl; mm = refl; md = refl; lc = refl };
-      operations = refl;
       sent = λ made stands. none ∙ sym (ap (sent_of made) none ∙ sent_none made);
       made = λ made stands.
           subst (λ (items : List Out). LogStands (made ++ flat_map makes items) old.wires.log) (sym none) (subst (λ (packets : List (List ℕ)). LogStands packets old.wires.log) (sym (append-nil made)) stands);

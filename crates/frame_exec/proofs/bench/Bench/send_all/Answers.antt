@@ -26,7 +26,6 @@ returns-then-self c =
     record {
       run = record { waits = run.waits; epoch = run.epoch; number = run.number; failed = run.failed; tables = run.tables };
       apps = record { hs = apps.hs; cs = apps.cs; sc = apps.sc; mm = apps.mm; md = apps.md; lc = apps.lc };
-      operations = stamped.operations;
       sent = stamped.sent;
       made = stamped.made;
       resets = stamped.resets ∙ c.asks_for_reset-self.ensures;
@@ -48,7 +47,6 @@ returns c =
     record {
       run = record { waits = run.waits; epoch = run.epoch; number = run.number; failed = run.failed; tables = run.tables };
       apps = record { hs = apps.hs; cs = apps.cs; sc = apps.sc; mm = apps.mm; md = apps.md; lc = apps.lc };
-      operations = stamped.operations;
       sent = stamped.sent;
       made = λ made stands. subst (λ (log : List ℕ). LogStands (made ++ flat_map makes (joined (items_in old))) log) (sym (c.deliver_lists.ensures.log ∙ c.deliver.ensures.log)) (stamped.made made stands);
       resets = stamped.resets ∙ c.asks_for_reset-self.ensures;

@@ -24,7 +24,6 @@ returns c =
     record {
       run = record { waits = refl; epoch = refl; number = refl; failed = refl; tables = refl };
       apps = record { hs = refl; cs = refl; sc = refl; mm = refl; md = refl; lc = refl };
-      operations = refl;
       sent = λ made stands.
           let first = c.stamp.ensures.stands made stands in
           let one = c.stamp-2.ensures.stands _ first in

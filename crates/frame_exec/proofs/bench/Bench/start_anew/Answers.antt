@@ -54,7 +54,7 @@ returns-clause-anew c =
 
 pub returns-clause-ready : goal.returns-clause-ready
 returns-clause-ready c =
-    let regions = regions_of c.args.self.now.ram.areas in
+    let regions = regions_of c.args.self.now.memory.ram.areas in
     let tables = c.load_again.new.self.set in
     let given = given_again regions c.args.self.now.tables c.load_again.new.self c.load_again.ensures c.requires.ready.given in
     let dwells = c.start-5.ensures.given regions (subst (TablesGiven regions) (sym c.dwells.ensures.dwells) given.set.dwells) in

@@ -45,7 +45,7 @@ returns-clause-steps g c =
       md = λ tables. subst (λ (m : Memory). IsWoken (md_stands tables) (md_gives tables) b.md.held (md_reads time b.md.commands m) b.md.state.value md.state.value md.out.items) is
           (c.wake_in_place-md.ensures.woken tables tt);
       lc = c.wake_in_place-lc.ensures.woken (lc_setup b.tables.set) refl;
-      operations = left_unless b.mm.held c.wake_in_place-mm.new.beside (mm_operations (mm_reads (loads_in b) time b.mm.commands b.ram)) c.wake_in_place-mm.ensures.held
+      operations = left_unless b.mm.held c.wake_in_place-mm.new.beside (mm_operations (mm_reads (loads_in b) time b.mm.commands b.memory.ram)) c.wake_in_place-mm.ensures.held
           (λ here. (c.wake_in_place-mm.ensures.fills here).0 ∙ ap (λ (m : Memory). mm_operations (mm_reads (loads_in b) time b.mm.commands m)) is);
       wires = refl;
       memory = refl;
@@ -100,8 +100,8 @@ returns-then-all_rest-clause-steps g c =
       md = λ tables. rested _ _ _ _ _ _ clear.md (subst (λ (m : Memory). IsWoken (md_stands tables) (md_gives tables) b.md.held (md_reads time b.md.commands m) b.md.state.value b.md.state.value []) is
           (c.rests-md_rests.ensures.woken tables all.4 tt));
       lc = rested _ _ _ _ _ _ clear.lc (c.rests-lc_rests.ensures.woken (lc_setup b.tables.set) all.5 refl);
-      operations = left_unless b.mm.held b.ops.value (mm_operations (mm_reads (loads_in b) time b.mm.commands b.ram)) (λ held. clear.operations)
-          (λ here. (c.rests-mm_rests.ensures.fills b.ops.value all.3 here clear.operations).0 ∙ ap (λ (m : Memory). mm_operations (mm_reads (loads_in b) time b.mm.commands m)) is);
+      operations = left_unless b.mm.held b.memory.ops.value (mm_operations (mm_reads (loads_in b) time b.mm.commands b.memory.ram)) (λ held. clear.operations)
+          (λ here. (c.rests-mm_rests.ensures.fills b.memory.ops.value all.3 here clear.operations).0 ∙ ap (λ (m : Memory). mm_operations (mm_reads (loads_in b) time b.mm.commands m)) is);
       wires = refl;
       memory = refl;
     }
@@ -111,7 +111,7 @@ returns-then-all_rest-clause-can_send g c =
     let b = c.args.self.now in
     let clear = c.requires.clear in
     let all = six_parts c.rests-hs_rests.result c.rests-cs_rests.result c.rests-sc_rests.result c.rests-mm_rests.result c.rests-md_rests.result c.rests-lc_rests.result c.if-all_rest.true in
-    let left = operates (loads_in b) b.mm.held (b.epoch + b.number) b.mm.commands (seen c.window.result) b.ops.value (λ held. clear.operations) (λ here. c.rests-mm_rests.ensures.fills b.ops.value all.3 here clear.operations) in
+    let left = operates (loads_in b) b.mm.held (b.epoch + b.number) b.mm.commands (seen c.window.result) b.memory.ops.value (λ held. clear.operations) (λ here. c.rests-mm_rests.ensures.fills b.memory.ops.value all.3 here clear.operations) in
     record {
       hs = none_sendable _ _ clear.hs;
       cs = none_sendable _ _ clear.cs;
@@ -119,7 +119,7 @@ returns-then-all_rest-clause-can_send g c =
       mm = none_sendable _ _ clear.mm;
       md = none_sendable _ _ clear.md;
       lc = none_sendable _ _ clear.lc;
-      operations = subst (λ (m : Memory). CanLand (loads_in b) m b.ops.value) c.window.ensures.window left.can_land;
+      operations = subst (λ (m : Memory). CanLand (loads_in b) m b.memory.ops.value) c.window.ensures.window left.can_land;
     }
 
 pub returns-then-all_rest-clause-none : goal.returns-then-all_rest-clause-none

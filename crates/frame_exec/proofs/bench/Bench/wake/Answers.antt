@@ -35,7 +35,7 @@ returns g c =
     record {
       run = record { waits = refl; epoch = refl; number = refl; failed = refl; tables = refl };
       told = refl;
-      slots = record { hs = refl; cs = refl; sc = refl; mm = refl; md = refl; lc = refl; operations = refl; wires = refl; memory = refl };
+      slots = record { hs = refl; cs = refl; sc = refl; mm = refl; md = refl; lc = refl; wires = refl; memory = refl };
       manned = c.wake_all.ensures.count ∙ ap jobs_of old.there;
       hs = all.hs;
       cs = λ left at. subst (λ (m : Memory). Gives (λ t. cs_tables old.tables.set ≡ cs_tables t.now) cs_stands cs_gives cs_most old.cs.held (cs_reads time old.cs.commands m) old.cs.state.value left.stays left.cs.value left.out.items) is

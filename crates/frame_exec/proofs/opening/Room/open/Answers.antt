@@ -8,6 +8,6 @@ returns c = record {
   told = ap (λ (held : Held Out). held.room) c.in_ok-open.ensures;
   manned = c.in_ok-open-2.ensures.jobs ∙ c.jobs_of.ensures.jobs;
   wires = c.in_ok-open-3.ensures;
-  memory = c.in_ok-new-2.ensures.start;
-  lines = c.in_ok-open-4.ensures.empty;
+  memory = c.in_ok-open-4.ensures;
+  lines = c.in_ok-open-5.ensures.empty;
 }
