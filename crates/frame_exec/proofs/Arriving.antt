@@ -20,7 +20,7 @@ use Rattle.frame_exec.proofs.Naming.{activates_more}
 -- no byte is upset
 pub upset_none : (b : Bench) → IsUpset [] b b
 upset_none b = record {
-  run = record { waits = refl; epoch = refl; number = refl; failed = refl; tables = refl };
+  run = record { lines = refl; epoch = refl; number = refl; failed = refl; tables = refl };
   told = refl;
   apps = record { hs = refl; cs = refl; sc = refl; mm = refl; md = refl; lc = refl };
   wires = refl;

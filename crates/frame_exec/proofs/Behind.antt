@@ -21,7 +21,7 @@ nothing_noted : (setup : Setup) (earlier : List Frame) → Notes (ends_from 0 (l
 nothing_noted setup earlier = rw (behind_none setup earlier, ends_none 0) notes_begin
 
 -- the lines that wait are no part of what a run has come to
-pub has_beside : (b : Bench) (block : Waiting) (jobs : b.crew.jobs ≡ jobs_of b.wires.bus.watched) (there : b.lc.there ≡ b.wires.bus.watched) (told : b.activations.room ≡ EVENTS_ROOM) (s : State) → Has b s → Has (record b { block = block; manned = jobs; there = there; activations_room = told }) s
+pub has_beside : (b : Bench) (block : Waiting) (jobs : b.crew.jobs ≡ jobs_of b.wires.bus.watched) (there : b.lc.there ≡ b.wires.bus.watched) (told : b.activations.room ≡ EVENTS_ROOM) (s : State) → Has b s → Has (record b { lines = record b.lines { block = block }; manned = jobs; there = there; activations_room = told }) s
 has_beside b block jobs there told s has = record {
   number = has.number;
   tables = has.tables;
@@ -31,11 +31,11 @@ has_beside b block jobs there told s has = record {
   memory = has.memory;
 }
 
-pub ready_beside : (b : Bench) (block : Waiting) (jobs : b.crew.jobs ≡ jobs_of b.wires.bus.watched) (there : b.lc.there ≡ b.wires.bus.watched) (told : b.activations.room ≡ EVENTS_ROOM) → IsReady b → IsReady (record b { block = block; manned = jobs; there = there; activations_room = told })
+pub ready_beside : (b : Bench) (block : Waiting) (jobs : b.crew.jobs ≡ jobs_of b.wires.bus.watched) (there : b.lc.there ≡ b.wires.bus.watched) (told : b.activations.room ≡ EVENTS_ROOM) → IsReady b → IsReady (record b { lines = record b.lines { block = block }; manned = jobs; there = there; activations_room = told })
 ready_beside b block jobs there told ready = record { sc = ready.sc; md = ready.md; given = ready.given }
 
 -- a bench whose block is empty stands for all frames as earlier ones
-pub begins_behind : (b : Bench) (setup : Setup) (frames : List Frame) → b.epoch ≡ setup.epoch → b.tables.files ≡ setup.files → has_failed b ≡ false → Has b (run_of setup frames) → IsReady b → b.block ≡ empty_block → Follows b setup frames []
+pub begins_behind : (b : Bench) (setup : Setup) (frames : List Frame) → b.epoch ≡ setup.epoch → b.tables.files ≡ setup.files → has_failed b ≡ false → Has b (run_of setup frames) → IsReady b → b.lines.block ≡ empty_block → Follows b setup frames []
 begins_behind b setup frames epoch files well has ready empty = record {
   epoch = epoch;
   files = files;
@@ -95,7 +95,7 @@ adds_marked (Err error) text old middle new start between end puts told marked l
 
 -- one later frame more, whose lines were put behind those that wait
 pub follows_next : {E : Type 0} (b : Bench) (setup : Setup) (earlier later : List Frame) (frame : Frame) (text : List ℕ) (old new : Waiting) (before after : Option (List ℕ)) → b.epoch ≡ setup.epoch → b.tables.files ≡ setup.files → has_failed b ≡ false
-    → Has b (run_of setup ((earlier ++ later) ++ frame ∷ [])) → IsReady b → b.block ≡ new → text ≡ frame_lines setup (earlier ++ later) frame
+    → Has b (run_of setup ((earlier ++ later) ++ frame ∷ [])) → IsReady b → b.lines.block ≡ new → text ≡ frame_lines setup (earlier ++ later) frame
     → Notes (ends_from 0 (lines_behind setup earlier later)) (length (joined (lines_behind setup earlier later))) old → Adds {E = E} (Ok tt) text old new before after → Follows b setup earlier (later ++ frame ∷ [])
 follows_next b setup earlier later frame text old new before after epoch files well has ready same lines notes adds =
     let size : adds.count ≡ length (frame_lines setup (earlier ++ later) frame) = adds.size ∙ ap (length {A = ℕ}) lines in

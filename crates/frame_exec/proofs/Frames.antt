@@ -156,7 +156,7 @@ ready_begun b regions same sequences dwells given = record {
 }
 
 -- a bench that was opened stands for no frames
-pub stands_opened : (b : Bench) (setup : Setup) → b.epoch ≡ setup.epoch → b.tables.files ≡ setup.files → b.failed ≡ false → b.block ≡ empty_block → b.number ≡ 0 → b.tables.set ≡ tables_of setup.files
+pub stands_opened : (b : Bench) (setup : Setup) → b.epoch ≡ setup.epoch → b.tables.files ≡ setup.files → b.failed ≡ false → b.lines.block ≡ empty_block → b.number ≡ 0 → b.tables.set ≡ tables_of setup.files
     → HsStands (setup_of b.tables.set.hs 0 3) [] b.hs.state.value → CsStands (cs_tables b.tables.set) [] b.cs.state.value → ScStands (begun_at setup.epoch b.tables.set.sc) [] b.sc.state.value → MmStands [] b.mm.state.value
     → MdStands b.tables.set.dwells [] b.md.state.value → LcStands b.tables.set.wdt b.tables.set.adt [] b.lc.slot.state.value → AreGiven setup.regions b.tables → ScIsReady b.tables.set.sc b.sc.state.value → AllGiven setup.regions b.md.state.value → b.wires.bus ≡ empty_pipes (lc_named setup.files) → LogStands [] b.wires.log → b.memory.ram ≡ start_memory setup.regions → Stands b setup []
 unfolding run_of beginning

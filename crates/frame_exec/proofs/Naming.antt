@@ -119,7 +119,7 @@ given_next regions old new n is given =
 -- a line named no table
 pub named_none : (b : Bench) (n : ℕ) → kind_at b.tables.files n ≡ None → NamesFile n b b
 named_none b n is = record {
-  goes = record { waits = refl; epoch = refl; number = refl; failed = refl; files = refl };
+  goes = record { lines = refl; epoch = refl; number = refl; failed = refl; files = refl };
   memory = refl;
   told = refl;
   has = λ setup s files has.
@@ -131,7 +131,7 @@ named_none b n is = record {
 pub named_other : (b : Bench) (n : ℕ) (kind : TableKind) (naming : Naming) → kind_at b.tables.files n ≡ Some kind → naming ≢ Accepted
     → ((begin : Beginning) (history : List ScEntry) → ScStands begin history b.sc.state.value → naming ≡ naming_of (runs_in (sequences_of begin history).all (sequence_place kind)) kind) → NamesFile n b b
 named_other b n kind naming is other by = record {
-  goes = record { waits = refl; epoch = refl; number = refl; failed = refl; files = refl };
+  goes = record { lines = refl; epoch = refl; number = refl; failed = refl; files = refl };
   memory = refl;
   told = refl;
   has = λ setup s files has.
@@ -210,7 +210,7 @@ events_stay setup s numbers (n ∷ more) =
 pub forgets : (b : Bench) (events : Held Out) (jobs : b.crew.jobs ≡ jobs_of b.wires.bus.watched) (there : b.lc.there ≡ b.wires.bus.watched) (room : events.room ≡ EVENTS_ROOM) → events.items ≡ [] → Activates [] [] b (record b { activations = events; manned = jobs; there = there; activations_room = room })
 unfolding table_events
 forgets b events jobs there room none = record {
-  goes = record { waits = refl; epoch = refl; number = refl; failed = refl; files = refl };
+  goes = record { lines = refl; epoch = refl; number = refl; failed = refl; files = refl };
   memory = refl;
   many = ap (λ (items : List Out). length items) none;
   counted = λ counted. subst (AllPass is_item_counted) (sym none) counted;
@@ -222,7 +222,7 @@ forgets b events jobs there room none = record {
 pub activates_none : (b : Bench) → b.activations.items ≡ [] → Activates [] [] b b
 unfolding table_events
 activates_none b none = record {
-  goes = record { waits = refl; epoch = refl; number = refl; failed = refl; files = refl };
+  goes = record { lines = refl; epoch = refl; number = refl; failed = refl; files = refl };
   memory = refl;
   many = ap (λ (items : List Out). length items) none;
   counted = λ counted. subst (AllPass is_item_counted) (sym none) counted;
@@ -237,7 +237,7 @@ activates_more old middle new numbers more told between same first second =
     let goes = first.goes in
     record {
       goes = record {
-        waits = second.goes.waits ∙ goes.waits;
+        lines = second.goes.lines ∙ goes.lines;
         epoch = second.goes.epoch ∙ goes.epoch;
         number = second.goes.number ∙ goes.number;
         failed = second.goes.failed ∙ goes.failed;
@@ -265,7 +265,7 @@ unfolding table_events
 activates_one old middle n naming time events jobs there room is at names told =
     let told_here : events.items ≡ old.activations.items ++ table_event time naming ∷ [] = told ∙ ap (λ (held : Held Out). held.items ++ table_event time naming ∷ []) names.told in
     record {
-      goes = record { waits = names.goes.waits; epoch = names.goes.epoch; number = names.goes.number; failed = names.goes.failed; files = names.goes.files };
+      goes = record { lines = names.goes.lines; epoch = names.goes.epoch; number = names.goes.number; failed = names.goes.failed; files = names.goes.files };
       memory = names.memory;
       many = ap (λ (items : List Out). length items) told_here ∙ length-append old.activations.items (table_event time naming ∷ []);
       counted = λ counted. subst (AllPass is_item_counted) (sym told_here) (All-append (λ (item : Out). is_item_counted item ≡ true) old.activations.items (table_event time naming ∷ []) counted (All-cons (λ (item : Out). is_item_counted item ≡ true) (table_event time naming) [] (event_of_table time naming) (All-nil (λ (item : Out). is_item_counted item ≡ true))));

@@ -54,7 +54,7 @@ rested stands gives held input old items none woken = record { state = woken.sta
 pub over_beside : (old new : Bench) (lc : LcSlot) (crew : Crew Left) (manned : crew.jobs ≡ jobs_of new.wires.bus.watched) (there : lc.there ≡ new.wires.bus.watched) (told : new.activations.room ≡ EVENTS_ROOM)
     → TakesOver old new → TakesOver old (record new { lc = lc; crew = crew; manned = manned; there = there; activations_room = told })
 over_beside old new lc crew manned there told taken = record {
-  run = record { waits = taken.run.waits; epoch = taken.run.epoch; number = taken.run.number; failed = taken.run.failed; tables = taken.run.tables };
+  run = record { lines = taken.run.lines; epoch = taken.run.epoch; number = taken.run.number; failed = taken.run.failed; tables = taken.run.tables };
   told = taken.told;
   hs = taken.hs;
   cs = taken.cs;
@@ -70,7 +70,7 @@ pub steps_beside : (counters : List Counter) (old new : Bench) (manned : old.cre
     (away : old.lc.there ≡ false → (old.lc.slot.held ≡ true) × (old.lc.slot.out.items ≡ [])) (there : old.lc.there ≡ old.wires.bus.watched) (told : old.activations.room ≡ EVENTS_ROOM)
     → Steps counters (record old { lc = record old.lc { roomy = roomy; away = away }; manned = manned; there = there; activations_room = told }) new → Steps counters old new
 steps_beside counters old new manned roomy away there told steps = record {
-  run = record { waits = steps.run.waits; epoch = steps.run.epoch; number = steps.run.number; failed = steps.run.failed; tables = steps.run.tables };
+  run = record { lines = steps.run.lines; epoch = steps.run.epoch; number = steps.run.number; failed = steps.run.failed; tables = steps.run.tables };
   told = steps.told;
   hs = steps.hs;
   cs = steps.cs;
@@ -96,7 +96,7 @@ module _ (counters : List Counter) (old middle new : Bench) (woken : AreWoken co
       let run = woken.run in
       let more = taken.run in
       record {
-        run = record { waits = more.waits ∙ run.waits; epoch = more.epoch ∙ run.epoch; number = more.number ∙ run.number; failed = more.failed ∙ run.failed; tables = more.tables ∙ run.tables };
+        run = record { lines = more.lines ∙ run.lines; epoch = more.epoch ∙ run.epoch; number = more.number ∙ run.number; failed = more.failed ∙ run.failed; tables = more.tables ∙ run.tables };
         told = taken.told ∙ woken.told;
         hs = λ tables same. taken_woken _ _ _ _ _ _ _ _ _ _ _ _ _ (woken.hs taken.hs.0 taken.hs.1) (ap (λ slot. slot.state.value) slots.hs) taken.hs.2.0 taken.hs.2.1 tables (sym same);
         cs = λ tables same. taken_woken _ _ _ _ _ _ _ _ _ _ _ _ _ (woken.cs taken.cs.0 taken.cs.1) (ap (λ slot. slot.state.value) slots.cs) taken.cs.2.0 taken.cs.2.1 tables (sym same);

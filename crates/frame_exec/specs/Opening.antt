@@ -21,4 +21,4 @@ pub record IsEmpty (regions : List Region) (there : Bool) (room : Room) : Type 0
   pub manned : room.crew.jobs ≡ jobs_of there
   pub wires : AreUnused there room.wires
   pub memory : room.memory.ram ≡ start_memory regions
-  pub lines : room.block ≡ empty_block
+  pub lines : room.lines.block ≡ empty_block

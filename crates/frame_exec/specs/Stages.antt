@@ -42,7 +42,7 @@ time_of b = b.epoch + b.number
 
 -- number, epoch, the mark of failure, the tables and the lines that wait stay
 pub record IsSameRun (old new : Bench) : Type 0 where
-  pub waits : new.block ≡ old.block
+  pub lines : new.lines ≡ old.lines
   pub epoch : new.epoch ≡ old.epoch
   pub number : new.number ≡ old.number
   pub failed : new.failed ≡ old.failed
@@ -50,7 +50,7 @@ pub record IsSameRun (old new : Bench) : Type 0 where
 
 -- number, epoch, the mark of failure, the named files and the lines that wait stay
 pub record GoesOn (old new : Bench) : Type 0 where
-  pub waits : new.block ≡ old.block
+  pub lines : new.lines ≡ old.lines
   pub epoch : new.epoch ≡ old.epoch
   pub number : new.number ≡ old.number
   pub failed : new.failed ≡ old.failed
@@ -269,7 +269,7 @@ pub record Lands (old new : Bench) : Type 0 where
   pub tables : new.tables ≡ old.tables
   pub apps : KeepsApps old new
   pub wires : new.wires ≡ old.wires
-  pub waits : new.block ≡ old.block
+  pub lines : new.lines ≡ old.lines
   pub resets : new.resets ≡ old.resets
   pub memory : new.memory.ram ≡ land (loads_in old) old.memory.ops.value old.memory.ram
 

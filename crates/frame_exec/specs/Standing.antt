@@ -48,7 +48,7 @@ has_failed b = b.failed
 
 -- the lines that the bench put into its block and didn't hand on yet
 abbrev pub waiting_in : Bench → Waiting
-waiting_in b = b.block
+waiting_in b = b.lines.block
 
 -- the bench stands for these frames, of a scenario with this header
 pub record Stands (b : Bench) (setup : Setup) (frames : List Frame) : Type 0 where

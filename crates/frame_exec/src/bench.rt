@@ -6,6 +6,7 @@ ghost use Rattle.app_suite.specs.Jobs.{jobs_of};
 
 use crate::cut::Cut;
 use crate::kind::FrameKind;
+use crate::lines::Lines;
 use crate::memory::Memory;
 use crate::wires::Wires;
 use crate::yielded::Yield;
@@ -18,14 +19,13 @@ use bus_pipes::{Batch, Outbox, PipeName};
 use crew_board::Crew;
 use cs_slices::Cs;
 use frame_runs::obey_frame;
-use frame_wires::{has_reset, put_frame, take_unless};
+use frame_wires::{has_reset, take_unless};
 use fsw_outside::{Failed, Gate, Sink};
 use hs_monitors::Hs;
 use lc_watch::Lc;
 use md_dwell::Md;
 use mm_core::Mm;
 use packet_forms::Counter;
-use packet_log::{Block, LineBuffer};
 use sc_sequences::Sc;
 use scenario::{FrameInput, Upset};
 use std::thread::Threads;
@@ -60,10 +60,7 @@ pub struct Bench<'f> {
     pub(crate) crew: Crew<Left>,
     pub(crate) wires: Wires,
     pub(crate) memory: Memory,
-    // the line that was written last: a new one would be wiped in each frame
-    pub(crate) line: LineBuffer,
-    // lines, until they are handed on
-    pub(crate) block: Block,
+    pub(crate) lines: Lines,
     ghost manned: { crew.jobs ≡ jobs_of wires.bus.watched },
     ghost there: { lc.there ≡ wires.bus.watched },
     ghost activations_room: { activations.room ≡ EVENTS_ROOM },
@@ -305,7 +302,7 @@ impl<'f> Bench<'f> {
         ensures cause { HasCause (O.held sink.new) (O.faults sink.old) (O.faults sink.new) result }
         ensures failed { has_failed self.new ≡ has_failed self.old || is_err result }
     {
-        match self.block.flush(sink) {
+        match self.lines.block.flush(sink) {
             Ok(()) => Ok(()),
             Err(_) => Err(self.cut()),
         }
@@ -313,12 +310,12 @@ impl<'f> Bench<'f> {
 
     /// Marks the bench as failed, and says how many frames weren't handed on whole.
     fn cut(&mut self) -> Cut
-        ensures late { (ends : List ℕ) (given : ℕ) → Notes ends given self.old.block → result.late ≡ late_in ends (given - length self.old.block.bytes) }
+        ensures late { (ends : List ℕ) (given : ℕ) → Notes ends given self.old.lines.block → result.late ≡ late_in ends (given - length self.old.lines.block.bytes) }
         ensures cut { self.new ≡ record self.old { failed = true } }
     {
         self.failed = true;
         Cut {
-            late: self.block.late_frames(),
+            late: self.lines.block.late_frames(),
         }
     }
 
@@ -599,39 +596,39 @@ impl<'f> Bench<'f> {
     /// Writes the lines of the frame that was run, all at once.
     fn write<O: Sink>(&mut self, sink: &mut O, lines: Yield) -> Result<(), Failed>
         requires number { self.old.number < 4294967296 }
-        requires none { self.old.block ≡ empty_block }
+        requires none { self.old.lines.block ≡ empty_block }
         requires silent { lines ≡ yields.Nothing → lines_in self.old ≡ [] }
         ensures content { WhereTold (O.held sink.old) (O.held sink.new) (WritesAll result (lines_in self.old)) }
         ensures cause { HasCause (O.held sink.new) (O.faults sink.old) (O.faults sink.new) result }
         ensures same { IsSameFrame self.old self.new }
-        ensures handed { OnOk result (self.new.block ≡ empty_block) }
+        ensures handed { OnOk result (self.new.lines.block ≡ empty_block) }
     {
         let Ok(()) = self.put_lines(sink, lines) else {
             return Err(Failed);
         };
-        self.block.flush(sink)
+        self.lines.block.flush(sink)
     }
 
     /// Puts the lines of the frame that was run behind those that wait, and notes where they end.
     fn add_lines<O: Sink>(&mut self, sink: &mut O, lines: Yield) -> Result<(), Failed>
         requires number { self.old.number < 4294967296 }
         requires silent { lines ≡ yields.Nothing → lines_in self.old ≡ [] }
-        ensures adds { Adds result (lines_in self.old) self.old.block self.new.block (O.held sink.old) (O.held sink.new) }
+        ensures adds { Adds result (lines_in self.old) self.old.lines.block self.new.lines.block (O.held sink.old) (O.held sink.new) }
         ensures cause { HasCause (O.held sink.new) (O.faults sink.old) (O.faults sink.new) result }
         ensures same { IsSameFrame self.old self.new }
     {
         let Ok(()) = self.put_lines(sink, lines) else {
             return Err(Failed);
         };
-        self.block.mark_end(sink)
+        self.lines.block.mark_end(sink)
     }
 
     /// Puts the lines of the frame that was run behind those that wait.
     fn put_lines<O: Sink>(&mut self, sink: &mut O, lines: Yield) -> Result<(), Failed>
         requires number { self.old.number < 4294967296 }
         requires silent { lines ≡ yields.Nothing → lines_in self.old ≡ [] }
-        ensures puts { Puts result (lines_in self.old) self.old.block self.new.block (O.held sink.old) (O.held sink.new) }
-        ensures left { OnErr result (0 < length self.new.block.bytes) }
+        ensures puts { Puts result (lines_in self.old) self.old.lines.block self.new.lines.block (O.held sink.old) (O.held sink.new) }
+        ensures left { OnErr result (0 < length self.new.lines.block.bytes) }
         ensures cause { HasCause (O.held sink.new) (O.faults sink.old) (O.faults sink.new) result }
         ensures same { IsSameFrame self.old self.new }
     {
@@ -647,14 +644,8 @@ impl<'f> Bench<'f> {
             &self.md,
             &self.lc,
         );
-        put_frame(
-            &mut self.block,
-            sink,
-            &mut self.line,
-            self.number as u32,
-            &lists,
-            self.wires.dropped(),
-        )
+        self.lines
+            .put(sink, self.number as u32, &lists, self.wires.dropped())
     }
 
     /// Lets a crowd obey the items of the frame that was run, in their order, and restart where a processor reset was asked for.

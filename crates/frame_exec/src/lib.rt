@@ -5,6 +5,7 @@ mod bench;
 mod cut;
 mod in_place;
 mod kind;
+mod lines;
 mod memory;
 mod opening;
 mod steps;

@@ -4,6 +4,7 @@ ghost use Rattle.std.specs.Prelude.{IfOk};
 ghost use Rattle.frame_exec.specs.Opening.{IsEmpty};
 
 use crate::bench::{Bench, EVENTS_ROOM};
+use crate::lines::Lines;
 use crate::memory::Memory;
 use crate::wires::Wires;
 use active_tables::{OpenFault, Tables, names_limit_checker, refused_place};
@@ -11,7 +12,6 @@ use app_suite::{Left, Slots, jobs_of};
 use bus_pipes::{Batch, Outbox};
 use crew_board::Crew;
 use fsw_outside::NoMemory;
-use packet_log::{Block, LineBuffer};
 use scenario::Header;
 use std::alloc::Global;
 use table_files::Files;
@@ -23,7 +23,7 @@ pub(crate) struct Room {
     pub(crate) crew: Crew<Left>,
     pub(crate) wires: Wires,
     pub(crate) memory: Memory,
-    pub(crate) block: Block,
+    pub(crate) lines: Lines,
 }
 
 impl Room {
@@ -39,7 +39,7 @@ impl Room {
             crew: Crew::open(alloc, workers, jobs_of(lc))?,
             wires: Wires::open(alloc, lc)?,
             memory: Memory::open(alloc, header.map)?,
-            block: Block::open(alloc)?,
+            lines: Lines::open(alloc)?,
         })
     }
 }
@@ -110,8 +110,7 @@ impl<'f> Bench<'f> {
             crew: room.crew,
             wires: room.wires,
             memory: room.memory,
-            line: LineBuffer::new(),
-            block: room.block,
+            lines: room.lines,
         })
     }
 }

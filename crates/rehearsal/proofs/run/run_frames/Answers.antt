@@ -14,6 +14,7 @@ use Rattle.rehearsal.specs.Fed.{Fed}
 use Rattle.rehearsal.specs.Run.{IsCutShort}
 use Rattle.rehearsal.specs.Text.{IsRead, Holds}
 use Rattle.frame_exec.specs.Beside.{crowd_in}
+use Rattle.frame_exec.specs.Standing.{waiting_in}
 use Rattle.rehearsal.specs.Outcome.{frames_of, setup_of, frames_in, log_in}
 use Rattle.scenario.specs.TextLaws.{given_first}
 use Rattle.rehearsal.proofs.TextFacts.{no_later_head, can_run, few_frames}
@@ -31,7 +32,7 @@ frames-init g c = record {
     gave,
     has_begun files (crowd_in g.C.Subject.seen c.args.crowd.now) c.args.bench.now c.args.reader.now c.args.feed.now text gave h b,
     told_nothing _ _ (λ a start r. r),
-    subst (λ (held : Option (List ℕ)). WhereTold (g.O.Sink.held c.args.out.now) held (λ old new. new ≡ old ++ log_in files (crowd_in g.C.Subject.seen c.args.crowd.now) gave)) (sym (tells_alone (g.O.Sink.held c.args.out.now) c.args.bench.now.block b.waits))
+    subst (λ (held : Option (List ℕ)). WhereTold (g.O.Sink.held c.args.out.now) held (λ old new. new ≡ old ++ log_in files (crowd_in g.C.Subject.seen c.args.crowd.now) gave)) (sym (tells_alone (g.O.Sink.held c.args.out.now) (waiting_in c.args.bench.now) b.waits))
         (told_nothing _ _ (λ held. sym (ap (λ (log : List ℕ). held ++ log) (log_in_none files (crowd_in g.C.Subject.seen c.args.crowd.now) gave b.none) ∙ append-nil held))),
   );
   read_well = refl;
@@ -75,7 +76,7 @@ returns-in-Err-clause-outcome g c = λ files text gave h b.
     (refused_append files i.1 (Whole f ∷ []) i.2.some ∙ i.2.given) (omega (arith, i.2.some, length-append i.1 (Whole f ∷ []))) first.1 closed are
     (subst (IsNear n.0 c.next_item.new.feed.pending (length i.2.earlier)) count near)
     (told_map i.4 (λ old new written. written ∙ ap (λ (log : List ℕ). old ++ log) (log_by files (crowd_in g.C.Subject.seen c.args.crowd.now) i.1 _ _ (sym setup) i.2.are)))
-    (subst (λ (s : Setup). IsCutShort c.at.result s (i.2.earlier ++ i.2.later) frames (length i.2.earlier) (tells (g.O.Sink.held c.frames.out) c.frames.bench.block) (g.O.Sink.held c.add_frame.new.sink)) (sym setup) short) in (
+    (subst (λ (s : Setup). IsCutShort c.at.result s (i.2.earlier ++ i.2.later) frames (length i.2.earlier) (tells (g.O.Sink.held c.frames.out) (waiting_in c.frames.bench)) (g.O.Sink.held c.add_frame.new.sink)) (sym setup) short) in (
       whole_of n.0 c.next_item.new.feed.pending end,
       text_of n.0 c.next_item.new.feed.pending start after (g.S.Source.faults c.args.source.now) (g.S.Source.faults c.frames.source) there,
       ends.0,

@@ -4,6 +4,7 @@ use Rattle.fsw_outside.specs.Files.{Content}
 use Rattle.packet_log.specs.Blocks.{tells}
 use Rattle.scenario.specs.Texts.{Text, Given}
 use Rattle.frame_exec.specs.Beside.{crowd_in}
+use Rattle.frame_exec.specs.Standing.{waiting_in}
 use Rattle.rehearsal.specs.Text.{IsRead, Holds, work_left}
 use Rattle.rehearsal.specs.Outcome.{log_in}
 use Rattle.rehearsal.specs.Run.{Begins}
@@ -20,7 +21,7 @@ invariant-frames g l =
       ran : (files : List (List ℕ)) (text : Text) (gave : List Given) → Holds l.initial.reader l.initial.feed text gave → Begins l.initial.bench files gave
           → (now : Text) × (got : List Given) × HasRun files (crowd_in g.C.Subject.seen l.initial.crowd) l.bench (crowd_in g.C.Subject.seen l.crowd) l.reader l.feed l.frames now got
           × WhereTold (source.told l.initial.source) (source.told l.source) (λ before after. (start : Content) → IsRead text l.initial.feed.pending start before → IsRead now l.feed.pending start after)
-          × WhereTold (sink.held l.initial.out) (tells (sink.held l.out) l.bench.block) (λ old new. new ≡ old ++ log_in files (crowd_in g.C.Subject.seen l.initial.crowd) got);
+          × WhereTold (sink.held l.initial.out) (tells (sink.held l.out) (waiting_in l.bench)) (λ old new. new ≡ old ++ log_in files (crowd_in g.C.Subject.seen l.initial.crowd) got);
       read_well : source.faults l.source ≡ source.faults l.initial.source;
       wrote_well : sink.faults l.out ≡ sink.faults l.initial.out;
       mark : source.mark l.source ≡ source.mark l.initial.source;

@@ -16,7 +16,7 @@ returns-in-Ok-clause-follows g c = λ setup earlier later follows.
 
 pub returns-in-Ok-clause-told : goal.returns-in-Ok-clause-told
 returns-in-Ok-clause-told g c = λ setup earlier later follows.
-    subst (λ (counters : List Counter). WhereTold (tells (g.O.Sink.held c.args.sink.now) c.args.self.now.block) (tells (g.O.Sink.held c.add_on.new.sink) c.add_on.new.self.block) (λ before after. after ≡ before ++ frame_lines setup (earlier ++ later) (with_counters counters c.args.input.now))) (c.readings.ensures.readings ∙ c.cycle_on.ensures.readings)
+    subst (λ (counters : List Counter). WhereTold (tells (g.O.Sink.held c.args.sink.now) c.args.self.now.lines.block) (tells (g.O.Sink.held c.add_on.new.sink) c.add_on.new.self.lines.block) (λ before after. after ≡ before ++ frame_lines setup (earlier ++ later) (with_counters counters c.args.input.now))) (c.readings.ensures.readings ∙ c.cycle_on.ensures.readings)
     (c.in-Ok.ensures.told setup earlier later follows)
 
 pub returns-in-Ok-clause-crowd : goal.returns-in-Ok-clause-crowd
@@ -27,6 +27,6 @@ returns-in-Ok-clause-crowd g c = λ setup earlier later follows.
 
 pub returns-in-Err-clause-cut : goal.returns-in-Err-clause-cut
 returns-in-Err-clause-cut g c = λ setup earlier later follows.
-    subst (λ (counters : List Counter). (c.in-Err.cut.late ≤ length later) × WhereTold (tells (g.O.Sink.held c.args.sink.now) c.args.self.now.block) (g.O.Sink.held c.add_on.new.sink) (λ before after. (start : List ℕ) → before ≡ start ++ log_of setup (earlier ++ later)
+    subst (λ (counters : List Counter). (c.in-Err.cut.late ≤ length later) × WhereTold (tells (g.O.Sink.held c.args.sink.now) c.args.self.now.lines.block) (g.O.Sink.held c.add_on.new.sink) (λ before after. (start : List ℕ) → before ≡ start ++ log_of setup (earlier ++ later)
     → IsCutAt setup ((earlier ++ later) ++ with_counters counters c.args.input.now ∷ []) (length (earlier ++ later) - c.in-Err.cut.late) start after)) (c.readings.ensures.readings ∙ c.cycle_on.ensures.readings)
     (c.in-Err.ensures.cut setup earlier later follows)

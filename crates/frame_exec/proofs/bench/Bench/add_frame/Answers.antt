@@ -16,12 +16,12 @@ returns-in-None-clause-follows g c = rw c.in-None.is (λ setup earlier later fol
 
 pub returns-in-None-clause-told : goal.returns-in-None-clause-told
 returns-in-None-clause-told g c = rw c.in-None.is (λ setup earlier later follows.
-    subst (λ (counters : List Counter). OnOk c.add_on.result (WhereTold (tells (g.O.Sink.held c.args.sink.now) c.args.self.now.block) (tells (g.O.Sink.held c.add_on.new.sink) c.add_on.new.self.block) (λ before after. after ≡ before ++ frame_lines setup (earlier ++ later) (with_counters counters c.args.input.now)))) c.counters.ensures.value
+    subst (λ (counters : List Counter). OnOk c.add_on.result (WhereTold (tells (g.O.Sink.held c.args.sink.now) c.args.self.now.lines.block) (tells (g.O.Sink.held c.add_on.new.sink) c.add_on.new.self.lines.block) (λ before after. after ≡ before ++ frame_lines setup (earlier ++ later) (with_counters counters c.args.input.now)))) c.counters.ensures.value
     (c.add_on.ensures.told setup earlier later follows))
 
 pub returns-in-None-clause-cut : goal.returns-in-None-clause-cut
 returns-in-None-clause-cut g c = rw c.in-None.is (λ setup earlier later follows.
-    subst (λ (counters : List Counter). IfErr c.add_on.result (λ cut. (cut.late ≤ length later) × WhereTold (tells (g.O.Sink.held c.args.sink.now) c.args.self.now.block) (g.O.Sink.held c.add_on.new.sink) (λ before after. (start : List ℕ) → before ≡ start ++ log_of setup (earlier ++ later)
+    subst (λ (counters : List Counter). IfErr c.add_on.result (λ cut. (cut.late ≤ length later) × WhereTold (tells (g.O.Sink.held c.args.sink.now) c.args.self.now.lines.block) (g.O.Sink.held c.add_on.new.sink) (λ before after. (start : List ℕ) → before ≡ start ++ log_of setup (earlier ++ later)
     → IsCutAt setup ((earlier ++ later) ++ with_counters counters c.args.input.now ∷ []) (length (earlier ++ later) - cut.late) start after))) c.counters.ensures.value
     (c.add_on.ensures.cut setup earlier later follows))
 

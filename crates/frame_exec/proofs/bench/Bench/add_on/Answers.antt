@@ -2,6 +2,7 @@ use Rattle.std.proofs.Common.{ℕ, ◌+◌, ◌++◌, length, sym, ap, ◌∙◌
 use Rattle.std.specs.Prelude.{Err}
 use Rattle.fsw_outside.specs.declared.traits.Failed.{Failed}
 use Rattle.frame_exec.specs.Stages.{lines_in}
+use Rattle.frame_exec.specs.declared.lines.Lines.{Lines}
 use Rattle.active_tables.specs.Tables.{Loaded}
 use Rattle.frame_runs.specs.Runs.{run_of}
 use Rattle.frame_runs.specs.Crowds.{with_counters}
@@ -60,28 +61,28 @@ returns-in-Ok-clause-follows g c = λ setup earlier later follows.
     let frame = with_counters c.args.counters.now c.args.input.now in
     let lines = lines_are setup (earlier ++ later) frame c.run-lines.new.self.number _ c.run-lines.new.self.wires.drops.items (run.number ∙ follows.has.number) r.sent r.drops in
     let goes = c.go_on.ensures.anew.goes in
-    follows_next c.go_on.new.self setup earlier later frame _ c.run-lines.new.self.block c.add_lines.new.self.block _ _
+    follows_next c.go_on.new.self setup earlier later frame _ c.run-lines.new.self.lines.block c.add_lines.new.self.lines.block _ _
     (goes.epoch ∙ c.land.ensures.epoch ∙ same.epoch ∙ run.epoch ∙ follows.epoch) (goes.files ∙ ap (λ (t : Loaded). t.files) (c.land.ensures.tables ∙ same.tables) ∙ run.files ∙ follows.files) (goes.failed ∙ c.land.ensures.failed ∙ same.failed ∙ run.failed ∙ follows.well)
     (has_next c.run-lines.new.self c.add_lines.new.self c.land.new.self setup (earlier ++ later) frame same c.land.ensures c.go_on.new.self c.go_on.ensures.anew (run.epoch ∙ follows.epoch) (run.files ∙ follows.files) (run.number ∙ follows.has.number) r)
     c.go_on.ensures.ready
-    (goes.waits ∙ c.land.ensures.waits) lines
-    (subst (Notes (ends_from 0 (lines_behind setup earlier later)) (length (joined (lines_behind setup earlier later)))) (sym run.waits) follows.notes) c.in-Ok.ensures.adds
+    (ap (λ (l : Lines). l.block) (goes.lines ∙ c.land.ensures.lines)) lines
+    (subst (Notes (ends_from 0 (lines_behind setup earlier later)) (length (joined (lines_behind setup earlier later)))) (sym (ap (λ (l : Lines). l.block) run.lines)) follows.notes) c.in-Ok.ensures.adds
 
 pub returns-in-Ok-clause-told : goal.returns-in-Ok-clause-told
 returns-in-Ok-clause-told g c = λ setup earlier later follows.
     let r = c.run-lines.ensures.runs setup (run_of setup (earlier ++ later)) follows.epoch follows.files follows.has in
     let frame = with_counters c.args.counters.now c.args.input.now in
     let lines = lines_are setup (earlier ++ later) frame c.run-lines.new.self.number _ c.run-lines.new.self.wires.drops.items (c.run-lines.ensures.run.number ∙ follows.has.number) r.sent r.drops in
-    told_added _ _ c.args.self.now.block c.run-lines.new.self.block c.add_lines.new.self.block c.go_on.new.self.block _ _ lines c.run-lines.ensures.run.waits (c.go_on.ensures.anew.goes.waits ∙ c.land.ensures.waits) c.in-Ok.ensures.adds
+    told_added _ _ c.args.self.now.lines.block c.run-lines.new.self.lines.block c.add_lines.new.self.lines.block c.go_on.new.self.lines.block _ _ lines (ap (λ (l : Lines). l.block) c.run-lines.ensures.run.lines) (ap (λ (l : Lines). l.block) (c.go_on.ensures.anew.goes.lines ∙ c.land.ensures.lines)) c.in-Ok.ensures.adds
 
 pub returns-in-Err-clause-cut : goal.returns-in-Err-clause-cut
 returns-in-Err-clause-cut g c = λ setup earlier later follows.
     let r = c.run-lines.ensures.runs setup (run_of setup (earlier ++ later)) follows.epoch follows.files follows.has in
     let frame = with_counters c.args.counters.now c.args.input.now in
     let lines = lines_are setup (earlier ++ later) frame c.run-lines.new.self.number _ c.run-lines.new.self.wires.drops.items (c.run-lines.ensures.run.number ∙ follows.has.number) r.sent r.drops in
-    cut_added {E = Failed} c.in-Err.field-0 setup earlier later frame (lines_in c.run-lines.new.self) c.args.self.now.block c.add_lines.new.self.block (g.O.Sink.held c.args.sink.now) (g.O.Sink.held c.add_lines.new.sink) c.cut.result.late
+    cut_added {E = Failed} c.in-Err.field-0 setup earlier later frame (lines_in c.run-lines.new.self) c.args.self.now.lines.block c.add_lines.new.self.lines.block (g.O.Sink.held c.args.sink.now) (g.O.Sink.held c.add_lines.new.sink) c.cut.result.late
     lines follows.notes
-    (subst (λ (block : Waiting). Adds {E = Failed} (Err c.in-Err.field-0) (lines_in c.run-lines.new.self) block c.add_lines.new.self.block (g.O.Sink.held c.args.sink.now) (g.O.Sink.held c.add_lines.new.sink)) c.run-lines.ensures.run.waits c.in-Err.ensures.adds)
+    (subst (λ (block : Waiting). Adds {E = Failed} (Err c.in-Err.field-0) (lines_in c.run-lines.new.self) block c.add_lines.new.self.lines.block (g.O.Sink.held c.args.sink.now) (g.O.Sink.held c.add_lines.new.sink)) (ap (λ (l : Lines). l.block) c.run-lines.ensures.run.lines) c.in-Err.ensures.adds)
     c.cut.ensures.late
 
 pub returns-in-Ok-clause-given : goal.returns-in-Ok-clause-given

@@ -9,4 +9,4 @@ returns-in-Ok-clause-follows g c = λ setup earlier later follows.
 
 pub returns-in-Err-clause-cut : goal.returns-in-Err-clause-cut
 returns-in-Err-clause-cut g c = λ setup earlier later follows.
-    cut_flushed setup earlier later c.args.self.now.block c.flush.new.self _ _ _ (c.flush.ensures.notes _ _ follows.notes) c.in-Err.ensures.left c.flush.ensures.told c.cut.ensures.late
+    cut_flushed setup earlier later c.args.self.now.lines.block c.flush.new.self _ _ _ (c.flush.ensures.notes _ _ follows.notes) c.in-Err.ensures.left c.flush.ensures.told c.cut.ensures.late

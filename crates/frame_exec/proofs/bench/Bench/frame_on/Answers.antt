@@ -1,4 +1,5 @@
 use Rattle.std.proofs.Common.{ℕ, ◌+◌, List, ◌++◌, ◌∙◌, ap, subst, arith}
+use Rattle.frame_exec.specs.declared.lines.Lines.{Lines}
 use Rattle.active_tables.specs.Tables.{Loaded}
 use Rattle.frame_exec.specs.declared.memory.Memory.{Memory as BenchMemory}
 use Rattle.frame_runs.specs.Runs.{run_of}
@@ -23,7 +24,7 @@ write-requires g c =
     let s = c.requires.started in
     let fits = time_fits c.args.self.now s.0 s.1 c.args.input.now s.2.epoch s.2.has s.3 in
     let same = c.run-lines.ensures.run.number in
-    record { number = omega (arith, fits, same); none = c.run-lines.ensures.run.waits ∙ s.2.waits; silent = c.run-lines.ensures.silent }
+    record { number = omega (arith, fits, same); none = ap (λ (l : Lines). l.block) c.run-lines.ensures.run.lines ∙ s.2.waits; silent = c.run-lines.ensures.silent }
 
 pub land-requires-clause-number : goal.land-requires-clause-number
 land-requires-clause-number g c =
@@ -65,7 +66,7 @@ returns-in-Ok-clause-stands g c = λ setup frames stands.
       epoch = goes.epoch ∙ c.land.ensures.epoch ∙ same.epoch ∙ run.epoch ∙ stands.epoch;
       files = goes.files ∙ ap (λ (t : Loaded). t.files) (c.land.ensures.tables ∙ same.tables) ∙ run.files ∙ stands.files;
       well = goes.failed ∙ c.land.ensures.failed ∙ same.failed ∙ run.failed ∙ stands.well;
-      waits = goes.waits ∙ c.land.ensures.waits ∙ c.in-Ok.ensures.handed;
+      waits = ap (λ (l : Lines). l.block) (goes.lines ∙ c.land.ensures.lines) ∙ c.in-Ok.ensures.handed;
       has = has_next c.run-lines.new.self c.write.new.self c.land.new.self setup frames (with_counters c.args.counters.now c.args.input.now) same c.land.ensures c.go_on.new.self c.go_on.ensures.anew (run.epoch ∙ stands.epoch) (run.files ∙ stands.files) (run.number ∙ stands.has.number)
           (c.run-lines.ensures.runs setup (run_of setup frames) stands.epoch stands.files stands.has);
       ready = c.go_on.ensures.ready;

@@ -18,7 +18,7 @@ returns-then-stays g c =
       tables = refl;
       apps = record { hs = refl; cs = refl; sc = refl; mm = refl; md = refl; lc = refl };
       wires = refl;
-      waits = refl;
+      lines = refl;
       resets = refl;
       memory = sym (nothing-landed (loads_in old) old.memory.ops.value old.memory.ram (nil_from_length old.memory.ops.value none));
     }

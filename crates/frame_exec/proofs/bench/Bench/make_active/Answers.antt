@@ -23,7 +23,7 @@ returns-clause-names c =
     let known = kind_known (file_at files c.args.file) c.in-Some.kind (((numbers_of_tables files c.args.file c.in-Some.kind).0 is).2) in
     let parts = accepted_parts (can_activate c.in-Some.kind) c.runs.result (sym c.naming_of-naming.ensures ∙ c.in-Accepted.is) in
     named_active c.args.self.now _ c.args.file c.in-Some.kind is known parts.0 (λ begin history stood. sym (c.runs.ensures begin history (subst (ScStands begin history) (sym c.deref.ensures) stood)) ∙ parts.1) c.activate.ensures c.hand_over.ensures.takes
-    (record { sc = refl; mm = refl; lc = refl; wires = refl; memory = refl }) (record { waits = refl; epoch = refl; number = refl; failed = refl; files = ap (λ (t : Loaded). t.files) c.activate.ensures }) refl
+    (record { sc = refl; mm = refl; lc = refl; wires = refl; memory = refl }) (record { lines = refl; epoch = refl; number = refl; failed = refl; files = ap (λ (t : Loaded). t.files) c.activate.ensures }) refl
 
 pub returns-clause-ready : goal.returns-clause-ready
 returns-clause-ready c =

@@ -26,7 +26,7 @@ returns-then-is_empty-2-clause-sends c =
     let offered : c.args.input.now.sends ++ flat_map packet_in (joined (items_in old)) ≡ [] =
     offers_nothing c.args.input.now.sends (joined (items_in old)) (c.if-is_empty-2.ensures ∙ ap (λ (packets : List (List ℕ)). length packets == 0) c.sends.ensures.value) none in
     record {
-      run = record { waits = refl; epoch = refl; number = refl; failed = refl; tables = refl };
+      run = record { lines = refl; epoch = refl; number = refl; failed = refl; tables = refl };
       apps = record { hs = refl; cs = refl; sc = refl; mm = refl; md = refl; lc = refl };
       sent = λ made stands. none ∙ sym (ap (sent_of made) none ∙ sent_none made);
       made = λ made stands.

@@ -24,7 +24,7 @@ returns-then-self c =
     let apps = stamped.apps in
     let none : offered c.stamp.new.self.resets c.args.input.now.sends (joined (items_in c.stamp.new.self)) ≡ [] = ap (λ (b : Bool). offered b c.args.input.now.sends (joined (items_in c.stamp.new.self))) c.if-self.true in
     record {
-      run = record { waits = run.waits; epoch = run.epoch; number = run.number; failed = run.failed; tables = run.tables };
+      run = record { lines = run.lines; epoch = run.epoch; number = run.number; failed = run.failed; tables = run.tables };
       apps = record { hs = apps.hs; cs = apps.cs; sc = apps.sc; mm = apps.mm; md = apps.md; lc = apps.lc };
       sent = stamped.sent;
       made = stamped.made;
@@ -45,7 +45,7 @@ returns c =
     let none : offered c.stamp.new.self.resets c.args.input.now.sends (joined (items_in c.stamp.new.self)) ≡ c.args.input.now.sends ++ packets = ap (λ (b : Bool). offered b c.args.input.now.sends (joined (items_in c.stamp.new.self))) c.if-self.false in
     let offered_first = c.deliver.ensures.pipes ∙ ap (λ (p : Pipes). after_offers p c.sends.result.now) stamped.pipes ∙ ap (after_offers old.wires.bus) sends in
     record {
-      run = record { waits = run.waits; epoch = run.epoch; number = run.number; failed = run.failed; tables = run.tables };
+      run = record { lines = run.lines; epoch = run.epoch; number = run.number; failed = run.failed; tables = run.tables };
       apps = record { hs = apps.hs; cs = apps.cs; sc = apps.sc; mm = apps.mm; md = apps.md; lc = apps.lc };
       sent = stamped.sent;
       made = λ made stands. subst (λ (log : List ℕ). LogStands (made ++ flat_map makes (joined (items_in old))) log) (sym (c.deliver_lists.ensures.log ∙ c.deliver.ensures.log)) (stamped.made made stands);

@@ -22,7 +22,7 @@ returns c =
     let md = old.md.out.items in
     let lc = old.lc.slot.out.items in
     record {
-      run = record { waits = refl; epoch = refl; number = refl; failed = refl; tables = refl };
+      run = record { lines = refl; epoch = refl; number = refl; failed = refl; tables = refl };
       apps = record { hs = refl; cs = refl; sc = refl; mm = refl; md = refl; lc = refl };
       sent = λ made stands.
           let first = c.stamp.ensures.stands made stands in

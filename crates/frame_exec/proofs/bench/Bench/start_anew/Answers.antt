@@ -32,7 +32,7 @@ returns-clause-anew c =
     let max = c.resets-made.result.1 in
     let time = old.epoch + old.number in
     record {
-      goes = record { waits = refl; epoch = refl; number = refl; failed = refl; files = ap (λ (t : Loaded). t.files) c.load_again.ensures };
+      goes = record { lines = refl; epoch = refl; number = refl; failed = refl; files = ap (λ (t : Loaded). t.files) c.load_again.ensures };
       items = rw (c.begin.ensures.out, c.begin-2.ensures.out, c.begin-3.ensures.out, c.begin-4.ensures.out, c.begin-5.ensures.out, c.begin-6.ensures.out) refl;
       resets = refl;
       memory = refl;

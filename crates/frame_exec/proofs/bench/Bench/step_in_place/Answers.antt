@@ -34,7 +34,7 @@ returns-clause-steps g c =
     let mm = c.wake_in_place-mm.new.slot in
     let md = c.wake_in_place-md.new.slot in
     record {
-      run = record { waits = refl; epoch = refl; number = refl; failed = refl; tables = refl };
+      run = record { lines = refl; epoch = refl; number = refl; failed = refl; tables = refl };
       told = refl;
       hs = λ tables same. c.wake_in_place-hs.ensures.woken tables (sym same);
       cs = λ tables same. subst (λ (m : Memory). IsWoken (cs_stands tables) (cs_gives tables) b.cs.held (cs_reads time b.cs.commands m) b.cs.state.value cs.state.value cs.out.items) is
@@ -89,7 +89,7 @@ returns-then-all_rest-clause-steps g c =
     let clear = c.requires.clear in
     let all = six_parts c.rests-hs_rests.result c.rests-cs_rests.result c.rests-sc_rests.result c.rests-mm_rests.result c.rests-md_rests.result c.rests-lc_rests.result c.if-all_rest.true in
     record {
-      run = record { waits = refl; epoch = refl; number = refl; failed = refl; tables = refl };
+      run = record { lines = refl; epoch = refl; number = refl; failed = refl; tables = refl };
       told = refl;
       hs = λ tables same. rested _ _ _ _ _ _ clear.hs (c.rests-hs_rests.ensures.woken tables all.0 (sym same));
       cs = λ tables same. rested _ _ _ _ _ _ clear.cs (subst (λ (m : Memory). IsWoken (cs_stands tables) (cs_gives tables) b.cs.held (cs_reads time b.cs.commands m) b.cs.state.value b.cs.state.value []) is

@@ -24,7 +24,7 @@ returns-clause-takes c = λ held are.
     let watched = ap (λ (p : Pipes). p.watched) c.take-5.ensures.pipes ∙ ap (λ (p : Pipes). p.watched) c.take-4.ensures.pipes ∙ ap (λ (p : Pipes). p.watched) c.take-3.ensures.pipes ∙ ap (λ (p : Pipes). p.watched) c.take-2.ensures.pipes
     ∙ ap (λ (p : Pipes). p.watched) c.take_unless.ensures.pipes ∙ ap (λ (p : Pipes). p.watched) c.take.ensures.pipes in
     record {
-      run = record { waits = refl; epoch = refl; number = refl; failed = refl; tables = refl };
+      run = record { lines = refl; epoch = refl; number = refl; failed = refl; tables = refl };
       told = refl;
       apps = record { hs = c.take.ensures.state; cs = c.take-2.ensures.state; sc = c.take-3.ensures.state; mm = c.take-4.ensures.state; md = c.take-5.ensures.state; lc = c.take-6.ensures.state };
       hs = taken_by _ _ _ _ _ _ _ are.hs refl c.take.ensures.takes;

@@ -21,7 +21,7 @@ returns-clause-over c =
     let count : length behind ≡ length c.args.self.now.crew.results = sc.count ∙ cs.count ∙ hs.count in
     let same = sym mm.from.1 ∙ get_or-set_same behind 3 gave mm.from.0 (omega (arith, count, c.requires.manned)) in
     record {
-      run = record { waits = refl; epoch = refl; number = refl; failed = refl; tables = refl };
+      run = record { lines = refl; epoch = refl; number = refl; failed = refl; tables = refl };
       told = refl;
       hs = (hs.from.0, hs.from.1, (hs.from.2, hs.from.3));
       cs = (cs.from.0, sym (hs.others 1 cs.from.0 (omega arith)) ∙ cs.from.1, (cs.from.2, cs.from.3));

@@ -33,7 +33,7 @@ returns g c =
     let is = c.window-window.ensures.window in
     let all = c.wake_all.ensures.left in
     record {
-      run = record { waits = refl; epoch = refl; number = refl; failed = refl; tables = refl };
+      run = record { lines = refl; epoch = refl; number = refl; failed = refl; tables = refl };
       told = refl;
       slots = record { hs = refl; cs = refl; sc = refl; mm = refl; md = refl; lc = refl; wires = refl; memory = refl };
       manned = c.wake_all.ensures.count ∙ ap jobs_of old.there;

@@ -9,5 +9,5 @@ returns c = record {
   manned = c.in_ok-open-2.ensures.jobs ∙ c.jobs_of.ensures.jobs;
   wires = c.in_ok-open-3.ensures;
   memory = c.in_ok-open-4.ensures;
-  lines = c.in_ok-open-5.ensures.empty;
+  lines = c.in_ok-open-5.ensures;
 }
