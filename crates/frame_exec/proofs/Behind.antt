@@ -6,7 +6,7 @@ use Rattle.fsw_outside.specs.Told.{WhereTold}
 use Rattle.packet_log.specs.Blocks.{Waiting, Notes, Puts, empty_block, late_in, ends_from, joined, tells}
 use Rattle.packet_log.proofs.Cuts.{ends_none, ends_more}
 use Rattle.scenario.specs.FrameLists.{Frame}
-use Rattle.frame_exec.specs.declared.bench.TheConstants.{EVENTS_ROOM}
+use Rattle.frame_exec.specs.declared.applications.TheConstants.{EVENTS_ROOM}
 use Rattle.frame_exec.specs.declared.bench.Bench.{Bench}
 use Rattle.fsw_outside.specs.TellingLaws.{told_then}
 use Rattle.frame_runs.specs.Runs.{Setup, State, run_of, frame_lines, log_of}
@@ -21,7 +21,7 @@ nothing_noted : (setup : Setup) (earlier : List Frame) → Notes (ends_from 0 (l
 nothing_noted setup earlier = rw (behind_none setup earlier, ends_none 0) notes_begin
 
 -- the lines that wait are no part of what a run has come to
-pub has_beside : (b : Bench) (block : Waiting) (jobs : b.crew.jobs ≡ jobs_of b.wires.bus.watched) (there : b.lc.there ≡ b.wires.bus.watched) (told : b.activations.room ≡ EVENTS_ROOM) (s : State) → Has b s → Has (record b { lines = record b.lines { block = block }; manned = jobs; there = there; activations_room = told }) s
+pub has_beside : (b : Bench) (block : Waiting) (jobs : b.apps.crew.jobs ≡ jobs_of b.wires.bus.watched) (there : b.apps.lc.there ≡ b.wires.bus.watched) (told : b.apps.activations.room ≡ EVENTS_ROOM) (s : State) → Has b s → Has (record b { lines = record b.lines { block = block }; manned = jobs; there = there; activations_room = told }) s
 has_beside b block jobs there told s has = record {
   number = has.number;
   tables = has.tables;
@@ -31,7 +31,7 @@ has_beside b block jobs there told s has = record {
   memory = has.memory;
 }
 
-pub ready_beside : (b : Bench) (block : Waiting) (jobs : b.crew.jobs ≡ jobs_of b.wires.bus.watched) (there : b.lc.there ≡ b.wires.bus.watched) (told : b.activations.room ≡ EVENTS_ROOM) → IsReady b → IsReady (record b { lines = record b.lines { block = block }; manned = jobs; there = there; activations_room = told })
+pub ready_beside : (b : Bench) (block : Waiting) (jobs : b.apps.crew.jobs ≡ jobs_of b.wires.bus.watched) (there : b.apps.lc.there ≡ b.wires.bus.watched) (told : b.apps.activations.room ≡ EVENTS_ROOM) → IsReady b → IsReady (record b { lines = record b.lines { block = block }; manned = jobs; there = there; activations_room = told })
 ready_beside b block jobs there told ready = record { sc = ready.sc; md = ready.md; given = ready.given }
 
 -- a bench whose block is empty stands for all frames as earlier ones

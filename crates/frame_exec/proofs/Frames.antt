@@ -14,6 +14,7 @@ use Rattle.packet_log.specs.Standing.{Stands as LogStands}
 use Rattle.scenario.specs.declared.frame.Upset.{Upset}
 use Rattle.scenario.specs.FrameLists.{Frame}
 use Rattle.frame_exec.specs.declared.bench.Bench.{Bench}
+use Rattle.frame_exec.specs.declared.applications.Applications.{Applications}
 use Rattle.frame_exec.specs.declared.wires.Wires.{Wires}
 use Rattle.frame_exec.specs.declared.memory.Memory.{Memory as BenchMemory}
 use Rattle.hs_monitors.specs.Histories.{setup_of}
@@ -40,12 +41,13 @@ use Rattle.frame_runs.specs.Runs.{Setup, State, time_at, active_in, beginning, a
 use Rattle.frame_exec.specs.Standing.{AppsStand, Has, IsReady, Stands, CanRun}
 use Rattle.app_suite.specs.Landable.{CanLand}
 use Rattle.app_suite.specs.Wakes.{joined}
-use Rattle.frame_exec.specs.Stages.{KeepsApps, RunsIn, IsSameFrame, Lands, StartsAnew, HasGiven, loads_in}
+use Rattle.frame_exec.specs.Parts.{KeepsApps, items_in}
+use Rattle.frame_exec.specs.Stages.{RunsIn, IsSameFrame, Lands, StartsAnew, HasGiven, loads_in}
 use Rattle.frame_runs.proofs.Frames.{run_more, activated_number, run_number, run_regions}
 
 -- the states of the applications stand for their histories, where they were kept
-pub apps_kept : (before b : Bench) (s : State) → KeepsApps before b → AppsStand before s → AppsStand b s
-apps_kept before b s kept stand = record {
+pub apps_kept : (before after : Applications) (s : State) → KeepsApps before after → AppsStand before s → AppsStand after s
+apps_kept before after s kept stand = record {
   hs = subst (λ (state : Box Hs Global). hs_stands (active_in s) s.hs state.value) (sym kept.hs) stand.hs;
   cs = subst (λ (state : Box Cs Global). cs_stands (active_in s) s.cs state.value) (sym kept.cs) stand.cs;
   sc = subst (λ (state : Box Sc Global). sc_stands (active_in s) s.sc state.value) (sym kept.sc) stand.sc;
@@ -54,35 +56,42 @@ apps_kept before b s kept stand = record {
   lc = subst (λ (state : Box Lc Global). lc_stands (lc_setup s.tables) s.lc state.value) (sym kept.lc) stand.lc;
 }
 
+-- they were, where all of the applications was
+pub keeps_all : (old new : Applications) → new ≡ old → KeepsApps old new
+keeps_all old new same = record {
+  hs = ap (λ (a : Applications). a.hs.state) same;
+  cs = ap (λ (a : Applications). a.cs.state) same;
+  sc = ap (λ (a : Applications). a.sc.state) same;
+  mm = ap (λ (a : Applications). a.mm.state) same;
+  md = ap (λ (a : Applications). a.md.state) same;
+  lc = ap (λ (a : Applications). a.lc.slot.state) same;
+}
+
 -- the applications can be woken, where their states, the tables and the regions were kept
-pub ready_by : (before b : Bench) → regions_of b.memory.ram.areas ≡ regions_of before.memory.ram.areas → b.tables ≡ before.tables → KeepsApps before b → IsReady before → IsReady b
+pub ready_by : (before b : Bench) → regions_of b.memory.ram.areas ≡ regions_of before.memory.ram.areas → b.tables ≡ before.tables → KeepsApps before.apps b.apps → IsReady before → IsReady b
 ready_by before b same tables kept ready = record {
-  sc = subst (λ (t : Loaded). ScIsReady t.set.sc b.sc.state.value) (sym tables) (subst (λ (state : Box Sc Global). ScIsReady before.tables.set.sc state.value) (sym kept.sc) ready.sc);
-  md = subst (λ (regions : List Region). AllGiven regions b.md.state.value) (sym same) (subst (λ (state : Box Md Global). AllGiven (regions_of before.memory.ram.areas) state.value) (sym kept.md) ready.md);
+  sc = subst (λ (t : Loaded). ScIsReady t.set.sc b.apps.sc.state.value) (sym tables) (subst (λ (state : Box Sc Global). ScIsReady before.tables.set.sc state.value) (sym kept.sc) ready.sc);
+  md = subst (λ (regions : List Region). AllGiven regions b.apps.md.state.value) (sym same) (subst (λ (state : Box Md Global). AllGiven (regions_of before.memory.ram.areas) state.value) (sym kept.md) ready.md);
   given = subst (λ (regions : List Region). AreGiven regions b.tables) (sym same) (subst (AreGiven (regions_of before.memory.ram.areas)) (sym tables) ready.given);
 }
 
 -- the bench has what the run has come to after the wakeups of a frame
-pub has_after : (before b : Bench) (setup : Setup) (s : State) (frame : Frame) → KeepsApps before b → b.wires ≡ before.wires → b.memory.ram ≡ land (loads_of setup.files) before.memory.ops.value before.memory.ram
+pub has_after : (before b : Bench) (setup : Setup) (s : State) (frame : Frame) → KeepsApps before.apps b.apps → b.wires ≡ before.wires → b.memory.ram ≡ land (loads_of setup.files) before.memory.ops.value before.memory.ram
     → b.number ≡ s.number + 1 → b.tables.set ≡ s.tables → RunsIn setup s frame before → Has b (after_wakeups setup s frame)
 unfolding after_wakeups
 has_after before b setup s frame kept wires memory number tables ran = record {
   number = number;
   tables = tables;
-  apps = apps_kept before b (after_wakeups setup s frame) kept ran.apps;
+  apps = apps_kept before.apps b.apps (after_wakeups setup s frame) kept ran.apps;
   pipes = ap (λ (w : Wires). w.bus) wires ∙ ran.pipes;
   made = subst (LogStands _) (sym (ap (λ (w : Wires). w.log) wires)) ran.made;
   memory = memory ∙ ap (λ (xs : List MemOp). land (loads_of setup.files) xs before.memory.ram) ran.operations ∙ ap (λ (m : Memory). land (loads_of setup.files) (operations_at setup s frame) m) ran.memory;
 }
 
--- the states of the applications were kept twice
-kept_twice : (a b c : Bench) → KeepsApps a b → KeepsApps b c → KeepsApps a c
-kept_twice a b c first second = record { hs = second.hs ∙ first.hs; cs = second.cs ∙ first.cs; sc = second.sc ∙ first.sc; mm = second.mm ∙ first.mm; md = second.md ∙ first.md; lc = second.lc ∙ first.lc }
-
 -- A frame was run after these frames, its lines were given away, and then its operations landed.
 module _ (before middle b : Bench) (setup : Setup) (frames : List Frame) (frame : Frame) (same : IsSameFrame before middle) (lands : Lands middle b) where
-  kept : KeepsApps before b
-  kept = kept_twice before middle b same.apps lands.apps
+  kept : KeepsApps before.apps b.apps
+  kept = keeps_all before.apps b.apps (lands.apps ∙ same.apps)
 
   landed : b.memory.ram ≡ land (loads_in before) before.memory.ops.value before.memory.ram
   landed =
@@ -113,7 +122,7 @@ module _ (before middle b : Bench) (setup : Setup) (frames : List Frame) (frame 
 pub has_given : (before middle b end : Bench) (setup : Setup) (frames : List Frame) (frame : Frame) → IsSameFrame before middle → Lands middle b → StartsAnew b end
     → RunsIn setup (activated_at setup (run_of setup frames) frame) frame before → HasGiven end setup frames frame
 has_given before middle b end setup frames frame same lands anew ran = record {
-  items = ap (λ (lists : List (List Out)). joined lists) (anew.items ∙ lands.items ∙ same.items) ∙ ran.sent;
+  items = ap (λ (lists : List (List Out)). joined lists) (anew.items ∙ ap (λ (a : Applications). items_in a) (lands.apps ∙ same.apps)) ∙ ran.sent;
   resets = anew.resets ∙ lands.resets ∙ same.resets ∙ ran.resets;
 }
 
@@ -125,8 +134,8 @@ can_land_still before middle same can =
 
 -- a bench whose histories begin: with this number of frames, at this time of SC, and with these resets of HS
 pub has_begun : (b : Bench) (setup : Setup) (number began resets limit : ℕ) (pipes : Pipes) (made : List (List ℕ)) (memory : Memory) → b.number ≡ number → b.tables.set ≡ tables_of setup.files
-    → HsStands (setup_of b.tables.set.hs resets limit) [] b.hs.state.value → CsStands (cs_tables b.tables.set) [] b.cs.state.value → ScStands (begun_at began b.tables.set.sc) [] b.sc.state.value
-    → MmStands [] b.mm.state.value → MdStands b.tables.set.dwells [] b.md.state.value → LcStands b.tables.set.wdt b.tables.set.adt [] b.lc.slot.state.value → b.wires.bus ≡ pipes → LogStands made b.wires.log → b.memory.ram ≡ memory
+    → HsStands (setup_of b.tables.set.hs resets limit) [] b.apps.hs.state.value → CsStands (cs_tables b.tables.set) [] b.apps.cs.state.value → ScStands (begun_at began b.tables.set.sc) [] b.apps.sc.state.value
+    → MmStands [] b.apps.mm.state.value → MdStands b.tables.set.dwells [] b.apps.md.state.value → LcStands b.tables.set.wdt b.tables.set.adt [] b.apps.lc.slot.state.value → b.wires.bus ≡ pipes → LogStands made b.wires.log → b.memory.ram ≡ memory
     → Has b (record (beginning setup) { number = number; began = began; resets = resets; limit = limit; pipes = pipes; made = made; memory = memory })
 unfolding beginning
 has_begun b setup number began resets limit pipes made memory numbered tables hs cs sc mm md lc held log image =
@@ -135,12 +144,12 @@ has_begun b setup number began resets limit pipes made memory numbered tables hs
       number = numbered;
       tables = tables;
       apps = record {
-        hs = (sym (hs_begun (setup_of set.hs resets limit)), subst (λ (t : TableSet). HsStands (setup_of t.hs resets limit) [] b.hs.state.value) tables hs);
-        cs = (sym (cs_begun (cs_tables set)), subst (λ (t : TableSet). CsStands (cs_tables t) [] b.cs.state.value) tables cs);
-        sc = (sym (sc_begun (begun_at began set.sc)), subst (λ (t : TableSet). ScStands (begun_at began t.sc) [] b.sc.state.value) tables sc);
+        hs = (sym (hs_begun (setup_of set.hs resets limit)), subst (λ (t : TableSet). HsStands (setup_of t.hs resets limit) [] b.apps.hs.state.value) tables hs);
+        cs = (sym (cs_begun (cs_tables set)), subst (λ (t : TableSet). CsStands (cs_tables t) [] b.apps.cs.state.value) tables cs);
+        sc = (sym (sc_begun (begun_at began set.sc)), subst (λ (t : TableSet). ScStands (begun_at began t.sc) [] b.apps.sc.state.value) tables sc);
         mm = mm;
-        md = subst (λ (t : TableSet). MdStands t.dwells [] b.md.state.value) tables md;
-        lc = subst (λ (t : TableSet). LcStands t.wdt t.adt [] b.lc.slot.state.value) tables lc;
+        md = subst (λ (t : TableSet). MdStands t.dwells [] b.apps.md.state.value) tables md;
+        lc = subst (λ (t : TableSet). LcStands t.wdt t.adt [] b.apps.lc.slot.state.value) tables lc;
       };
       pipes = held;
       made = log;
@@ -148,17 +157,17 @@ has_begun b setup number began resets limit pipes made memory numbered tables hs
     }
 
 -- and can be woken
-pub ready_begun : (b : Bench) (regions : List Region) → regions_of b.memory.ram.areas ≡ regions → ScIsReady b.tables.set.sc b.sc.state.value → AllGiven regions b.md.state.value → AreGiven regions b.tables → IsReady b
+pub ready_begun : (b : Bench) (regions : List Region) → regions_of b.memory.ram.areas ≡ regions → ScIsReady b.tables.set.sc b.apps.sc.state.value → AllGiven regions b.apps.md.state.value → AreGiven regions b.tables → IsReady b
 ready_begun b regions same sequences dwells given = record {
   sc = sequences;
-  md = subst (λ (rs : List Region). AllGiven rs b.md.state.value) (sym same) dwells;
+  md = subst (λ (rs : List Region). AllGiven rs b.apps.md.state.value) (sym same) dwells;
   given = subst (λ (rs : List Region). AreGiven rs b.tables) (sym same) given;
 }
 
 -- a bench that was opened stands for no frames
 pub stands_opened : (b : Bench) (setup : Setup) → b.epoch ≡ setup.epoch → b.tables.files ≡ setup.files → b.failed ≡ false → b.lines.block ≡ empty_block → b.number ≡ 0 → b.tables.set ≡ tables_of setup.files
-    → HsStands (setup_of b.tables.set.hs 0 3) [] b.hs.state.value → CsStands (cs_tables b.tables.set) [] b.cs.state.value → ScStands (begun_at setup.epoch b.tables.set.sc) [] b.sc.state.value → MmStands [] b.mm.state.value
-    → MdStands b.tables.set.dwells [] b.md.state.value → LcStands b.tables.set.wdt b.tables.set.adt [] b.lc.slot.state.value → AreGiven setup.regions b.tables → ScIsReady b.tables.set.sc b.sc.state.value → AllGiven setup.regions b.md.state.value → b.wires.bus ≡ empty_pipes (lc_named setup.files) → LogStands [] b.wires.log → b.memory.ram ≡ start_memory setup.regions → Stands b setup []
+    → HsStands (setup_of b.tables.set.hs 0 3) [] b.apps.hs.state.value → CsStands (cs_tables b.tables.set) [] b.apps.cs.state.value → ScStands (begun_at setup.epoch b.tables.set.sc) [] b.apps.sc.state.value → MmStands [] b.apps.mm.state.value
+    → MdStands b.tables.set.dwells [] b.apps.md.state.value → LcStands b.tables.set.wdt b.tables.set.adt [] b.apps.lc.slot.state.value → AreGiven setup.regions b.tables → ScIsReady b.tables.set.sc b.apps.sc.state.value → AllGiven setup.regions b.apps.md.state.value → b.wires.bus ≡ empty_pipes (lc_named setup.files) → LogStands [] b.wires.log → b.memory.ram ≡ start_memory setup.regions → Stands b setup []
 unfolding run_of beginning
 stands_opened b setup epoch files well waits number tables hs cs sc mm md lc given sequences dwells pipes made memory = record {
   epoch = epoch;

@@ -26,8 +26,9 @@ use Rattle.md_dwell.specs.Given.{TablesGiven}
 use Rattle.hs_monitors.specs.State.{Stands as HsStands}
 use Rattle.lc_watch.specs.Histories.{Setup as LcSetup}
 use Rattle.lc_watch.specs.declared.state.Lc.{Lc}
-use Rattle.frame_exec.specs.declared.bench.TheConstants.{EVENTS_ROOM}
+use Rattle.frame_exec.specs.declared.applications.TheConstants.{EVENTS_ROOM}
 use Rattle.frame_exec.specs.declared.bench.Bench.{Bench}
+use Rattle.frame_exec.specs.declared.applications.Applications.{Applications}
 use Rattle.frame_exec.specs.declared.wires.Wires.{Wires}
 use Rattle.frame_exec.specs.declared.memory.Memory.{Memory as BenchMemory}
 use Rattle.app_suite.specs.declared.activations.Naming.{Naming}
@@ -38,17 +39,19 @@ use Rattle.app_suite.specs.Applications.{cs_tables, sc_begun, hs_setup, lc_setup
 use Rattle.frame_runs.specs.Runs.{Setup, State, time_at, active_in, runs_at, naming_at, with_active, after_line, after_naming, after_activation, activated_at, table_events}
 use Rattle.app_suite.specs.Jobs.{jobs_of}
 use Rattle.frame_exec.specs.Standing.{Has, IsReady}
+use Rattle.frame_exec.specs.Parts.{KeepsApps}
 use Rattle.frame_exec.specs.Stages.{GoesOn, NamesFile, Activates, time_of}
 use Rattle.scenario.specs.FrameLists.{Frame}
 use Rattle.frame_runs.proofs.Frames.{activations_keep, folded_number}
+use Rattle.frame_exec.proofs.Frames.{apps_kept}
 use Rattle.active_tables.proofs.GivenTables.{file_given}
 use Rattle.app_suite.proofs.Activating.{hs_follow, hs_goes, cs_follow, sc_follow, sc_goes, limits_stay, runs_kept, event_of_table, with_kind, given_file}
 
 -- what a bench keeps where a table becomes active
 pub record KeepsRest (old new : Bench) : Type 0 where
-  pub sc : new.sc.state ≡ old.sc.state
-  pub mm : new.mm.state ≡ old.mm.state
-  pub lc : new.lc.slot.state ≡ old.lc.slot.state
+  pub sc : new.apps.sc.state ≡ old.apps.sc.state
+  pub mm : new.apps.mm.state ≡ old.apps.mm.state
+  pub lc : new.apps.lc.slot.state ≡ old.apps.lc.slot.state
   pub wires : new.wires ≡ old.wires
   pub memory : new.memory ≡ old.memory
 
@@ -57,8 +60,8 @@ abbrev Rests : TableKind → Sc → Type 0
 Rests kind sc = (begin : Beginning) (history : List ScEntry) → ScStands begin history sc → runs_in (sequences_of begin history).all (sequence_place kind) ≡ false
 
 -- A table of this kind became active.
-module _ (old new : Bench) (kind : TableKind) (payload : List ℕ) (known : IsKnown kind) (can : can_activate kind ≡ true) (rests : Rests kind old.sc.state.value) (tables : new.tables.set ≡ with_table old.tables.set kind payload)
-    (takes : TakesTable kind new.tables.set old.hs.state.value new.hs.state.value old.cs.state.value new.cs.state.value old.md.state.value new.md.state.value) (keeps : KeepsRest old new) where
+module _ (old new : Bench) (kind : TableKind) (payload : List ℕ) (known : IsKnown kind) (can : can_activate kind ≡ true) (rests : Rests kind old.apps.sc.state.value) (tables : new.tables.set ≡ with_table old.tables.set kind payload)
+    (takes : TakesTable kind new.tables.set old.apps.hs.state.value new.apps.hs.state.value old.apps.cs.state.value new.apps.cs.state.value old.apps.md.state.value new.apps.md.state.value) (keeps : KeepsRest old new) where
   pub has_active : (s : State) → new.number ≡ old.number → Has old s → Has new (with_active s kind (with_table s.tables kind payload))
   has_active s number has =
       let same : new.tables.set ≡ with_table s.tables kind payload = tables ∙ ap (λ (t : TableSet). with_table t kind payload) has.tables in
@@ -71,21 +74,21 @@ module _ (old new : Bench) (kind : TableKind) (payload : List ℕ) (known : IsKn
         apps = record {
           hs = (
             hs_follow setup s.hs s.tables kind payload can has.apps.hs.0,
-            subst (λ (t : TableSet). HsStands setup (s.hs ++ hs_activated kind t.hs) new.hs.state.value) same
-                (hs_goes setup s.hs kind new.tables.set.hs old.hs.state.value new.hs.state.value takes.given takes.other has.apps.hs.1),
+            subst (λ (t : TableSet). HsStands setup (s.hs ++ hs_activated kind t.hs) new.apps.hs.state.value) same
+                (hs_goes setup s.hs kind new.tables.set.hs old.apps.hs.state.value new.apps.hs.state.value takes.given takes.other has.apps.hs.1),
           );
           cs = (
             cs_follow first s.cs s.tables kind payload has.apps.cs.0,
-            subst (λ (t : TableSet). CsStands first (s.cs ++ cs_activated kind t) new.cs.state.value) same (takes.segments first s.cs has.apps.cs.1),
+            subst (λ (t : TableSet). CsStands first (s.cs ++ cs_activated kind t) new.apps.cs.state.value) same (takes.segments first s.cs has.apps.cs.1),
           );
           sc = (
             sc_follow begin s.sc s.tables kind payload known has.apps.sc.0,
             subst (λ (state : Box Sc Global). ScStands begin (s.sc ++ sc_activated kind (with_table s.tables kind payload).sc) state.value) (sym keeps.sc)
-                (sc_goes begin s.sc kind (with_table s.tables kind payload).sc old.sc.state.value (rests begin s.sc has.apps.sc.1) has.apps.sc.1),
+                (sc_goes begin s.sc kind (with_table s.tables kind payload).sc old.apps.sc.state.value (rests begin s.sc has.apps.sc.1) has.apps.sc.1),
           );
           mm = subst (λ (state : Box Mm Global). mm_stands s.tables s.mm state.value) (sym keeps.mm) has.apps.mm;
-          md = subst (λ (t : TableSet). MdStands s.first.dwells (s.md ++ md_activated kind t.dwells) new.md.state.value) same (takes.dwells s.first.dwells s.md has.apps.md);
-          lc = subst (λ (limits : LcSetup). lc_stands limits s.lc new.lc.slot.state.value) (sym (limits_stay s.tables kind payload can))
+          md = subst (λ (t : TableSet). MdStands s.first.dwells (s.md ++ md_activated kind t.dwells) new.apps.md.state.value) same (takes.dwells s.first.dwells s.md has.apps.md);
+          lc = subst (λ (limits : LcSetup). lc_stands limits s.lc new.apps.lc.slot.state.value) (sym (limits_stay s.tables kind payload can))
               (subst (λ (state : Box Lc Global). lc_stands (lc_setup s.tables) s.lc state.value) (sym keeps.lc) has.apps.lc);
         };
         pipes = ap (λ (w : Wires). w.bus) keeps.wires ∙ has.pipes;
@@ -93,21 +96,21 @@ module _ (old new : Bench) (kind : TableKind) (payload : List ℕ) (known : IsKn
         memory = ap (λ (m : BenchMemory). m.ram) keeps.memory ∙ has.memory;
       }
 
-  pub ready_active : ((regions : List Region) → TablesGiven regions new.tables.set.dwells → AllGiven regions old.md.state.value → AllGiven regions new.md.state.value) → AreGiven (regions_of old.memory.ram.areas) new.tables
+  pub ready_active : ((regions : List Region) → TablesGiven regions new.tables.set.dwells → AllGiven regions old.apps.md.state.value → AllGiven regions new.apps.md.state.value) → AreGiven (regions_of old.memory.ram.areas) new.tables
       → IsReady old → IsReady new
   ready_active dwells given ready =
       let regions : regions_of new.memory.ram.areas ≡ regions_of old.memory.ram.areas = ap (λ (m : BenchMemory). regions_of m.ram.areas) keeps.memory in
       let sequences = (with_table old.tables.set kind payload).sc in
       let stood = ready.sc in
-      let sc : ScIsReady sequences old.sc.state.value = record {
+      let sc : ScIsReady sequences old.apps.sc.state.value = record {
         begin = stood.begin;
         history = stood.history ++ sc_activated kind sequences;
         in_force = sc_follow stood.begin stood.history old.tables.set kind payload known stood.in_force;
-        stands = sc_goes stood.begin stood.history kind sequences old.sc.state.value (rests stood.begin stood.history stood.stands) stood.stands;
+        stands = sc_goes stood.begin stood.history kind sequences old.apps.sc.state.value (rests stood.begin stood.history stood.stands) stood.stands;
       } in
       record {
-        sc = subst (λ (t : TableSet). ScIsReady t.sc new.sc.state.value) (sym tables) (subst (λ (state : Box Sc Global). ScIsReady sequences state.value) (sym keeps.sc) sc);
-        md = subst (λ (rs : List Region). AllGiven rs new.md.state.value) (sym regions) (dwells (regions_of old.memory.ram.areas) given.set.dwells ready.md);
+        sc = subst (λ (t : TableSet). ScIsReady t.sc new.apps.sc.state.value) (sym tables) (subst (λ (state : Box Sc Global). ScIsReady sequences state.value) (sym keeps.sc) sc);
+        md = subst (λ (rs : List Region). AllGiven rs new.apps.md.state.value) (sym regions) (dwells (regions_of old.memory.ram.areas) given.set.dwells ready.md);
         given = subst (λ (rs : List Region). AreGiven rs new.tables) (sym regions) given;
       }
 
@@ -129,7 +132,7 @@ named_none b n is = record {
 
 -- a line named a file whose table doesn't become active
 pub named_other : (b : Bench) (n : ℕ) (kind : TableKind) (naming : Naming) → kind_at b.tables.files n ≡ Some kind → naming ≢ Accepted
-    → ((begin : Beginning) (history : List ScEntry) → ScStands begin history b.sc.state.value → naming ≡ naming_of (runs_in (sequences_of begin history).all (sequence_place kind)) kind) → NamesFile n b b
+    → ((begin : Beginning) (history : List ScEntry) → ScStands begin history b.apps.sc.state.value → naming ≡ naming_of (runs_in (sequences_of begin history).all (sequence_place kind)) kind) → NamesFile n b b
 named_other b n kind naming is other by = record {
   goes = record { lines = refl; epoch = refl; number = refl; failed = refl; files = refl };
   memory = refl;
@@ -158,9 +161,9 @@ naming_is setup s b n kind naming files is by runs =
     by ∙ ap (λ (r : Bool). naming_of r kind) runs ∙ sym (ap (λ (k : Option TableKind). naming_at s k) (sym (ap (λ (fs : List (List ℕ)). kind_at fs n) files) ∙ is))
 
 -- a line named a file whose table is active now
-pub named_active : (old new : Bench) (n : ℕ) (kind : TableKind) → kind_at old.tables.files n ≡ Some kind → IsKnown kind → can_activate kind ≡ true → Rests kind old.sc.state.value
+pub named_active : (old new : Bench) (n : ℕ) (kind : TableKind) → kind_at old.tables.files n ≡ Some kind → IsKnown kind → can_activate kind ≡ true → Rests kind old.apps.sc.state.value
     → new.tables ≡ record old.tables { set = with_file old.tables.set (file_at old.tables.files n) }
-    → TakesTable kind new.tables.set old.hs.state.value new.hs.state.value old.cs.state.value new.cs.state.value old.md.state.value new.md.state.value → KeepsRest old new → GoesOn old new → new.activations ≡ old.activations → NamesFile n old new
+    → TakesTable kind new.tables.set old.apps.hs.state.value new.apps.hs.state.value old.apps.cs.state.value new.apps.cs.state.value old.apps.md.state.value new.apps.md.state.value → KeepsRest old new → GoesOn old new → new.apps.activations ≡ old.apps.activations → NamesFile n old new
 named_active old new n kind is known can rests tables takes keeps goes told = record {
   goes = goes;
   memory = keeps.memory;
@@ -176,18 +179,15 @@ named_active old new n kind is known can rests tables takes keeps goes told = re
 }
 
 -- what was told of activations is no part of what a run has come to
-pub has_told : (b : Bench) (events : Held Out) (jobs : b.crew.jobs ≡ jobs_of b.wires.bus.watched) (there : b.lc.there ≡ b.wires.bus.watched) (room : events.room ≡ EVENTS_ROOM) (s : State) → Has b s → Has (record b { activations = events; manned = jobs; there = there; activations_room = room }) s
-has_told b events jobs there room s has = record {
+has_told : (b : Bench) (apps : Applications) (jobs : apps.crew.jobs ≡ jobs_of b.wires.bus.watched) (there : apps.lc.there ≡ b.wires.bus.watched) (room : apps.activations.room ≡ EVENTS_ROOM) → KeepsApps b.apps apps → (s : State) → Has b s → Has (record b { apps = apps; manned = jobs; there = there; activations_room = room }) s
+has_told b apps jobs there room kept s has = record {
   number = has.number;
   tables = has.tables;
-  apps = record { hs = has.apps.hs; cs = has.apps.cs; sc = has.apps.sc; mm = has.apps.mm; md = has.apps.md; lc = has.apps.lc };
+  apps = apps_kept b.apps apps s kept has.apps;
   pipes = has.pipes;
   made = has.made;
   memory = has.memory;
 }
-
-pub ready_told : (b : Bench) (events : Held Out) (jobs : b.crew.jobs ≡ jobs_of b.wires.bus.watched) (there : b.lc.there ≡ b.wires.bus.watched) (room : events.room ≡ EVENTS_ROOM) → IsReady b → IsReady (record b { activations = events; manned = jobs; there = there; activations_room = room })
-ready_told b events jobs there room ready = record { sc = ready.sc; md = ready.md; given = ready.given }
 
 -- which sequences run is the same behind lines that name files, and so is what becomes of further ones
 runs_stay : (setup : Setup) (s : State) (numbers : List ℕ) (kind : TableKind) → runs_at (fold (after_activation setup) s numbers) kind ≡ runs_at s kind
@@ -207,19 +207,19 @@ events_stay setup s numbers (n ∷ more) =
     ∙ ap (λ (items : List Out). table_event (time_at setup s) (naming_at s (kind_at setup.files n)) ∷ items) (events_stay setup s numbers more)
 
 -- no file is named, and what was told before is forgotten
-pub forgets : (b : Bench) (events : Held Out) (jobs : b.crew.jobs ≡ jobs_of b.wires.bus.watched) (there : b.lc.there ≡ b.wires.bus.watched) (room : events.room ≡ EVENTS_ROOM) → events.items ≡ [] → Activates [] [] b (record b { activations = events; manned = jobs; there = there; activations_room = room })
+pub forgets : (b : Bench) (apps : Applications) (jobs : apps.crew.jobs ≡ jobs_of b.wires.bus.watched) (there : apps.lc.there ≡ b.wires.bus.watched) (room : apps.activations.room ≡ EVENTS_ROOM) → apps.activations.items ≡ [] → KeepsApps b.apps apps → Activates [] [] b (record b { apps = apps; manned = jobs; there = there; activations_room = room })
 unfolding table_events
-forgets b events jobs there room none = record {
+forgets b apps jobs there room none kept = record {
   goes = record { lines = refl; epoch = refl; number = refl; failed = refl; files = refl };
   memory = refl;
   many = ap (λ (items : List Out). length items) none;
   counted = λ counted. subst (AllPass is_item_counted) (sym none) counted;
   events = λ setup s epoch files has. none;
-  has = λ setup s files has. has_told b events jobs there room s has;
+  has = λ setup s files has. has_told b apps jobs there room kept s has;
 }
 
 -- no file is named yet
-pub activates_none : (b : Bench) → b.activations.items ≡ [] → Activates [] [] b b
+pub activates_none : (b : Bench) → b.apps.activations.items ≡ [] → Activates [] [] b b
 unfolding table_events
 activates_none b none = record {
   goes = record { lines = refl; epoch = refl; number = refl; failed = refl; files = refl };
@@ -231,7 +231,7 @@ activates_none b none = record {
 }
 
 -- one file more is named
-pub activates_more : (old middle new : Bench) (numbers more : List ℕ) (told between : List Out) → between ≡ middle.activations.items → Activates numbers told old middle → Activates more between middle new → Activates (numbers ++ more) told old new
+pub activates_more : (old middle new : Bench) (numbers more : List ℕ) (told between : List Out) → between ≡ middle.apps.activations.items → Activates numbers told old middle → Activates more between middle new → Activates (numbers ++ more) told old new
 unfolding table_events
 activates_more old middle new numbers more told between same first second =
     let goes = first.goes in
@@ -258,21 +258,21 @@ activates_more old middle new numbers more told between same first second =
     }
 
 -- what was told of one file
-pub activates_one : (old middle : Bench) (n : ℕ) (naming : Naming) (time : ℕ) (events : Held Out) (jobs : middle.crew.jobs ≡ jobs_of middle.wires.bus.watched) (there : middle.lc.there ≡ middle.wires.bus.watched) (room : events.room ≡ EVENTS_ROOM)
+pub activates_one : (old middle : Bench) (n : ℕ) (naming : Naming) (time : ℕ) (apps : Applications) (jobs : apps.crew.jobs ≡ jobs_of middle.wires.bus.watched) (there : apps.lc.there ≡ middle.wires.bus.watched) (room : apps.activations.room ≡ EVENTS_ROOM)
     → ((setup : Setup) (s : State) → old.tables.files ≡ setup.files → Has old s → naming ≡ naming_at s (kind_at setup.files n)) → time ≡ time_of old → NamesFile n old middle
-    → events.items ≡ middle.activations.items ++ table_event time naming ∷ [] → Activates (n ∷ []) old.activations.items old (record middle { activations = events; manned = jobs; there = there; activations_room = room })
+    → apps.activations.items ≡ middle.apps.activations.items ++ table_event time naming ∷ [] → KeepsApps middle.apps apps → Activates (n ∷ []) old.apps.activations.items old (record middle { apps = apps; manned = jobs; there = there; activations_room = room })
 unfolding table_events
-activates_one old middle n naming time events jobs there room is at names told =
-    let told_here : events.items ≡ old.activations.items ++ table_event time naming ∷ [] = told ∙ ap (λ (held : Held Out). held.items ++ table_event time naming ∷ []) names.told in
+activates_one old middle n naming time apps jobs there room is at names told kept =
+    let told_here : apps.activations.items ≡ old.apps.activations.items ++ table_event time naming ∷ [] = told ∙ ap (λ (held : Held Out). held.items ++ table_event time naming ∷ []) names.told in
     record {
       goes = record { lines = names.goes.lines; epoch = names.goes.epoch; number = names.goes.number; failed = names.goes.failed; files = names.goes.files };
       memory = names.memory;
-      many = ap (λ (items : List Out). length items) told_here ∙ length-append old.activations.items (table_event time naming ∷ []);
-      counted = λ counted. subst (AllPass is_item_counted) (sym told_here) (All-append (λ (item : Out). is_item_counted item ≡ true) old.activations.items (table_event time naming ∷ []) counted (All-cons (λ (item : Out). is_item_counted item ≡ true) (table_event time naming) [] (event_of_table time naming) (All-nil (λ (item : Out). is_item_counted item ≡ true))));
+      many = ap (λ (items : List Out). length items) told_here ∙ length-append old.apps.activations.items (table_event time naming ∷ []);
+      counted = λ counted. subst (AllPass is_item_counted) (sym told_here) (All-append (λ (item : Out). is_item_counted item ≡ true) old.apps.activations.items (table_event time naming ∷ []) counted (All-cons (λ (item : Out). is_item_counted item ≡ true) (table_event time naming) [] (event_of_table time naming) (All-nil (λ (item : Out). is_item_counted item ≡ true))));
       events = λ setup s epoch files has.
-          told_here ∙ ap (λ (m : Naming). old.activations.items ++ table_event time m ∷ []) (is setup s files has)
-          ∙ ap (λ (t : ℕ). old.activations.items ++ table_event t (naming_at s (kind_at setup.files n)) ∷ []) (at ∙ ap (λ (e : ℕ). e + old.number) epoch ∙ ap (λ (k : ℕ). setup.epoch + k) has.number);
-      has = λ setup s files has. has_told middle events jobs there room (after_activation setup s n) (names.has setup s files has);
+          told_here ∙ ap (λ (m : Naming). old.apps.activations.items ++ table_event time m ∷ []) (is setup s files has)
+          ∙ ap (λ (t : ℕ). old.apps.activations.items ++ table_event t (naming_at s (kind_at setup.files n)) ∷ []) (at ∙ ap (λ (e : ℕ). e + old.number) epoch ∙ ap (λ (k : ℕ). setup.epoch + k) has.number);
+      has = λ setup s files has. has_told middle apps jobs there room kept (after_activation setup s n) (names.has setup s files has);
     }
 
 -- a bench that has the state behind the files that a frame names

@@ -16,6 +16,7 @@ use Rattle.scenario.specs.declared.frame.App.TheVariants as names
 use Rattle.scenario.specs.declared.frame.Upset.{Upset}
 use Rattle.scenario.specs.FrameLists.{Frame}
 use Rattle.frame_exec.specs.declared.bench.Bench.{Bench}
+use Rattle.frame_exec.specs.declared.applications.Applications.{Applications}
 use Rattle.frame_exec.specs.declared.wires.Wires.{Wires}
 use Rattle.frame_exec.specs.declared.memory.Memory.{Memory as BenchMemory}
 use Rattle.active_tables.specs.Tables.{TableSet, Loaded}
@@ -23,14 +24,15 @@ use Rattle.app_suite.specs.Applications.{cs_tables, lc_setup, hs_stands, cs_stan
 use Rattle.app_suite.specs.Wakes.{HasTaken, IsWoken, unless, joined}
 use Rattle.frame_runs.specs.Runs.{Setup, State, table_events, is_held, is_away, active_in, time_at, image_at, hs_input_at, cs_input_at, sc_input_at, mm_input_at, md_input_at, lc_input_at, items_at, operations_at, left_by, sent_at, resets_at, offers_at, after_wakeups}
 use Rattle.frame_exec.specs.Standing.{AppsStand}
-use Rattle.frame_exec.specs.Stages.{Takes, Enters, Steps, Sends, RunsIn, loads_in, time_of, items_in, given_in}
+use Rattle.frame_exec.specs.Parts.{items_in, given_in}
+use Rattle.frame_exec.specs.Stages.{Takes, Enters, Steps, Sends, RunsIn, loads_in, time_of}
 use Rattle.frame_exec.proofs.Frames.{apps_kept}
 use Rattle.frame_exec.proofs.Waking.{woken_state, woken_items, woken_beside, seen_by, moved, of_both}
 
 -- A bench that has what a run has come to but for the frame's upsets, which are written; then what the applications took, and then that
 -- they were woken.
 module _ (setup : Setup) (s : State) (frame : Frame) (start took stepped : Bench) (epoch : start.epoch ≡ setup.epoch) (files : start.tables.files ≡ setup.files) (number : start.number ≡ s.number) (tables : start.tables.set ≡ s.tables) (pipes : start.wires.bus ≡ s.pipes)
-    (image : start.memory.ram ≡ image_at s frame) (apps : AppsStand start s) (takes : Takes frame.held start took) (steps : Steps frame.counters took stepped) where
+    (image : start.memory.ram ≡ image_at s frame) (apps : AppsStand start.apps s) (takes : Takes frame.held start took) (steps : Steps frame.counters took stepped) where
   same_tables : took.tables.set ≡ s.tables
   same_tables = ap (λ (t : Loaded). t.set) takes.run.tables ∙ tables
 
@@ -43,101 +45,101 @@ module _ (setup : Setup) (s : State) (frame : Frame) (start took stepped : Bench
   same_image : took.memory.ram ≡ image_at s frame
   same_image = takes.memory ∙ image
 
-  stand : AppsStand took s
-  stand = apps_kept start took s takes.apps apps
+  stand : AppsStand took.apps s
+  stand = apps_kept start.apps took.apps s takes.apps apps
 
-  hs_took : HasTaken (is_held names.Hs frame) s.pipes.hs took.hs.held took.hs.commands took.hs.out.items
-  hs_took = subst (λ (p : Pipes). HasTaken (is_held names.Hs frame) p.hs took.hs.held took.hs.commands took.hs.out.items) pipes takes.hs
+  hs_took : HasTaken (is_held names.Hs frame) s.pipes.hs took.apps.hs.held took.apps.hs.commands took.apps.hs.out.items
+  hs_took = subst (λ (p : Pipes). HasTaken (is_held names.Hs frame) p.hs took.apps.hs.held took.apps.hs.commands took.apps.hs.out.items) pipes takes.takes.hs
 
-  cs_took : HasTaken (is_held names.Cs frame) s.pipes.cs took.cs.held took.cs.commands took.cs.out.items
-  cs_took = subst (λ (p : Pipes). HasTaken (is_held names.Cs frame) p.cs took.cs.held took.cs.commands took.cs.out.items) pipes takes.cs
+  cs_took : HasTaken (is_held names.Cs frame) s.pipes.cs took.apps.cs.held took.apps.cs.commands took.apps.cs.out.items
+  cs_took = subst (λ (p : Pipes). HasTaken (is_held names.Cs frame) p.cs took.apps.cs.held took.apps.cs.commands took.apps.cs.out.items) pipes takes.takes.cs
 
-  sc_took : HasTaken (is_held names.Sc frame) s.pipes.sc took.sc.held took.sc.commands took.sc.out.items
-  sc_took = subst (λ (p : Pipes). HasTaken (is_held names.Sc frame) p.sc took.sc.held took.sc.commands took.sc.out.items) pipes takes.sc
+  sc_took : HasTaken (is_held names.Sc frame) s.pipes.sc took.apps.sc.held took.apps.sc.commands took.apps.sc.out.items
+  sc_took = subst (λ (p : Pipes). HasTaken (is_held names.Sc frame) p.sc took.apps.sc.held took.apps.sc.commands took.apps.sc.out.items) pipes takes.takes.sc
 
-  mm_took : HasTaken (is_held names.Mm frame) s.pipes.mm took.mm.held took.mm.commands took.mm.out.items
-  mm_took = subst (λ (p : Pipes). HasTaken (is_held names.Mm frame) p.mm took.mm.held took.mm.commands took.mm.out.items) pipes takes.mm
+  mm_took : HasTaken (is_held names.Mm frame) s.pipes.mm took.apps.mm.held took.apps.mm.commands took.apps.mm.out.items
+  mm_took = subst (λ (p : Pipes). HasTaken (is_held names.Mm frame) p.mm took.apps.mm.held took.apps.mm.commands took.apps.mm.out.items) pipes takes.takes.mm
 
-  md_took : HasTaken (is_held names.Md frame) s.pipes.md took.md.held took.md.commands took.md.out.items
-  md_took = subst (λ (p : Pipes). HasTaken (is_held names.Md frame) p.md took.md.held took.md.commands took.md.out.items) pipes takes.md
+  md_took : HasTaken (is_held names.Md frame) s.pipes.md took.apps.md.held took.apps.md.commands took.apps.md.out.items
+  md_took = subst (λ (p : Pipes). HasTaken (is_held names.Md frame) p.md took.apps.md.held took.apps.md.commands took.apps.md.out.items) pipes takes.takes.md
 
-  lc_took : HasTaken (is_away s) s.pipes.lc took.lc.slot.held took.lc.slot.commands took.lc.slot.out.items
-  lc_took = subst (λ (p : Pipes). HasTaken (not p.watched) p.lc took.lc.slot.held took.lc.slot.commands took.lc.slot.out.items) pipes takes.lc
+  lc_took : HasTaken (is_away s) s.pipes.lc took.apps.lc.slot.held took.apps.lc.slot.commands took.apps.lc.slot.out.items
+  lc_took = subst (λ (p : Pipes). HasTaken (not p.watched) p.lc took.apps.lc.slot.held took.apps.lc.slot.commands took.apps.lc.slot.out.items) pipes takes.takes.lc
 
-  hs_woken : IsWoken (hs_stands (active_in s)) (hs_gives (active_in s)) took.hs.held (hs_reads (time_at setup s) took.hs.commands s.pipes.hs_ev frame.counters) took.hs.state.value stepped.hs.state.value stepped.hs.out.items
+  hs_woken : IsWoken (hs_stands (active_in s)) (hs_gives (active_in s)) took.apps.hs.held (hs_reads (time_at setup s) took.apps.hs.commands s.pipes.hs_ev frame.counters) took.apps.hs.state.value stepped.apps.hs.state.value stepped.apps.hs.out.items
   hs_woken =
-      seen_by (hs_stands (active_in s)) (hs_gives (active_in s)) (λ events. hs_reads (time_at setup s) took.hs.commands events frame.counters) (is_held names.Hs frame) took.hs.held took.events s.pipes.hs_ev took.hs.state.value
-      stepped.hs.state.value stepped.hs.out.items hs_took.same (λ free. takes.events free ∙ ap (λ (p : Pipes). p.hs_ev) pipes)
-      (subst (λ (n : ℕ). IsWoken (hs_stands (active_in s)) (hs_gives (active_in s)) took.hs.held (hs_reads n took.hs.commands took.events frame.counters) took.hs.state.value stepped.hs.state.value stepped.hs.out.items) same_time
+      seen_by (hs_stands (active_in s)) (hs_gives (active_in s)) (λ events. hs_reads (time_at setup s) took.apps.hs.commands events frame.counters) (is_held names.Hs frame) took.apps.hs.held took.apps.events s.pipes.hs_ev took.apps.hs.state.value
+      stepped.apps.hs.state.value stepped.apps.hs.out.items hs_took.same (λ free. takes.takes.events free ∙ ap (λ (p : Pipes). p.hs_ev) pipes)
+      (subst (λ (n : ℕ). IsWoken (hs_stands (active_in s)) (hs_gives (active_in s)) took.apps.hs.held (hs_reads n took.apps.hs.commands took.apps.events frame.counters) took.apps.hs.state.value stepped.apps.hs.state.value stepped.apps.hs.out.items) same_time
       (steps.hs (active_in s) (ap (λ (t : TableSet). t.hs) (sym same_tables))))
 
-  cs_woken : IsWoken (cs_stands (active_in s)) (cs_gives (active_in s)) took.cs.held (cs_reads (time_at setup s) took.cs.commands (image_at s frame)) took.cs.state.value stepped.cs.state.value stepped.cs.out.items
+  cs_woken : IsWoken (cs_stands (active_in s)) (cs_gives (active_in s)) took.apps.cs.held (cs_reads (time_at setup s) took.apps.cs.commands (image_at s frame)) took.apps.cs.state.value stepped.apps.cs.state.value stepped.apps.cs.out.items
   cs_woken =
-      of_both (λ (n : ℕ) (m : Memory). IsWoken (cs_stands (active_in s)) (cs_gives (active_in s)) took.cs.held (cs_reads n took.cs.commands m) took.cs.state.value stepped.cs.state.value stepped.cs.out.items) _ _ _ _ same_time same_image
+      of_both (λ (n : ℕ) (m : Memory). IsWoken (cs_stands (active_in s)) (cs_gives (active_in s)) took.apps.cs.held (cs_reads n took.apps.cs.commands m) took.apps.cs.state.value stepped.apps.cs.state.value stepped.apps.cs.out.items) _ _ _ _ same_time same_image
       (steps.cs (active_in s) (ap cs_tables (sym same_tables)))
 
-  sc_woken : IsWoken (sc_stands (active_in s)) (sc_gives (active_in s)) took.sc.held (sc_reads (time_at setup s) took.sc.commands) took.sc.state.value stepped.sc.state.value stepped.sc.out.items
+  sc_woken : IsWoken (sc_stands (active_in s)) (sc_gives (active_in s)) took.apps.sc.held (sc_reads (time_at setup s) took.apps.sc.commands) took.apps.sc.state.value stepped.apps.sc.state.value stepped.apps.sc.out.items
   sc_woken =
-      subst (λ (n : ℕ). IsWoken (sc_stands (active_in s)) (sc_gives (active_in s)) took.sc.held (sc_reads n took.sc.commands) took.sc.state.value stepped.sc.state.value stepped.sc.out.items) same_time
+      subst (λ (n : ℕ). IsWoken (sc_stands (active_in s)) (sc_gives (active_in s)) took.apps.sc.held (sc_reads n took.apps.sc.commands) took.apps.sc.state.value stepped.apps.sc.state.value stepped.apps.sc.out.items) same_time
       (steps.sc (active_in s) (ap (λ (t : TableSet). t.sc) (sym same_tables)))
 
-  mm_woken : IsWoken (mm_stands s.tables) (mm_gives s.tables) took.mm.held (mm_reads (loads_of setup.files) (time_at setup s) took.mm.commands (image_at s frame)) took.mm.state.value stepped.mm.state.value stepped.mm.out.items
+  mm_woken : IsWoken (mm_stands s.tables) (mm_gives s.tables) took.apps.mm.held (mm_reads (loads_of setup.files) (time_at setup s) took.apps.mm.commands (image_at s frame)) took.apps.mm.state.value stepped.apps.mm.state.value stepped.apps.mm.out.items
   mm_woken =
-      subst (λ (loads : List (ℕ × List ℕ)). IsWoken (mm_stands s.tables) (mm_gives s.tables) took.mm.held (mm_reads loads (time_at setup s) took.mm.commands (image_at s frame)) took.mm.state.value stepped.mm.state.value stepped.mm.out.items) same_loads
-      (moved (λ (t : TableSet) (n : ℕ) (m : Memory). IsWoken (mm_stands t) (mm_gives t) took.mm.held (mm_reads (loads_in took) n took.mm.commands m) took.mm.state.value stepped.mm.state.value stepped.mm.out.items)
+      subst (λ (loads : List (ℕ × List ℕ)). IsWoken (mm_stands s.tables) (mm_gives s.tables) took.apps.mm.held (mm_reads loads (time_at setup s) took.apps.mm.commands (image_at s frame)) took.apps.mm.state.value stepped.apps.mm.state.value stepped.apps.mm.out.items) same_loads
+      (moved (λ (t : TableSet) (n : ℕ) (m : Memory). IsWoken (mm_stands t) (mm_gives t) took.apps.mm.held (mm_reads (loads_in took) n took.apps.mm.commands m) took.apps.mm.state.value stepped.apps.mm.state.value stepped.apps.mm.out.items)
       took.tables.set s.tables (time_of took) (time_at setup s) took.memory.ram (image_at s frame) same_tables same_time same_image (steps.mm took.tables.set))
 
-  md_woken : IsWoken (md_stands (active_in s)) (md_gives (active_in s)) took.md.held (md_reads (time_at setup s) took.md.commands (image_at s frame)) took.md.state.value stepped.md.state.value stepped.md.out.items
-  md_woken = moved (λ (t : TableSet) (n : ℕ) (m : Memory). IsWoken (md_stands (active_in s)) (md_gives (active_in s)) took.md.held (md_reads n took.md.commands m) took.md.state.value stepped.md.state.value stepped.md.out.items)
+  md_woken : IsWoken (md_stands (active_in s)) (md_gives (active_in s)) took.apps.md.held (md_reads (time_at setup s) took.apps.md.commands (image_at s frame)) took.apps.md.state.value stepped.apps.md.state.value stepped.apps.md.out.items
+  md_woken = moved (λ (t : TableSet) (n : ℕ) (m : Memory). IsWoken (md_stands (active_in s)) (md_gives (active_in s)) took.apps.md.held (md_reads n took.apps.md.commands m) took.apps.md.state.value stepped.apps.md.state.value stepped.apps.md.out.items)
       took.tables.set s.tables (time_of took) (time_at setup s) took.memory.ram (image_at s frame) same_tables same_time same_image (steps.md (active_in s))
 
-  lc_woken : IsWoken (lc_stands (lc_setup s.tables)) (lc_gives (lc_setup s.tables)) took.lc.slot.held (lc_reads (time_at setup s) took.lc.slot.commands s.pipes.lc_tlm) took.lc.slot.state.value stepped.lc.slot.state.value stepped.lc.slot.out.items
+  lc_woken : IsWoken (lc_stands (lc_setup s.tables)) (lc_gives (lc_setup s.tables)) took.apps.lc.slot.held (lc_reads (time_at setup s) took.apps.lc.slot.commands s.pipes.lc_tlm) took.apps.lc.slot.state.value stepped.apps.lc.slot.state.value stepped.apps.lc.slot.out.items
   lc_woken =
-      seen_by (lc_stands (lc_setup s.tables)) (lc_gives (lc_setup s.tables)) (λ telemetry. lc_reads (time_at setup s) took.lc.slot.commands telemetry) (is_away s) took.lc.slot.held took.lc.telemetry.items s.pipes.lc_tlm took.lc.slot.state.value
-      stepped.lc.slot.state.value stepped.lc.slot.out.items lc_took.same (λ free. takes.telemetry (ap (λ (p : Pipes). not p.watched) pipes ∙ free) ∙ ap (λ (p : Pipes). p.lc_tlm) pipes)
-      (of_both (λ (t : TableSet) (n : ℕ). IsWoken (lc_stands (lc_setup t)) (lc_gives (lc_setup t)) took.lc.slot.held (lc_reads n took.lc.slot.commands took.lc.telemetry.items) took.lc.slot.state.value stepped.lc.slot.state.value stepped.lc.slot.out.items) _ _ _ _ same_tables same_time
+      seen_by (lc_stands (lc_setup s.tables)) (lc_gives (lc_setup s.tables)) (λ telemetry. lc_reads (time_at setup s) took.apps.lc.slot.commands telemetry) (is_away s) took.apps.lc.slot.held took.apps.lc.telemetry.items s.pipes.lc_tlm took.apps.lc.slot.state.value
+      stepped.apps.lc.slot.state.value stepped.apps.lc.slot.out.items lc_took.same (λ free. takes.takes.telemetry (ap (λ (p : Pipes). not p.watched) pipes ∙ free) ∙ ap (λ (p : Pipes). p.lc_tlm) pipes)
+      (of_both (λ (t : TableSet) (n : ℕ). IsWoken (lc_stands (lc_setup t)) (lc_gives (lc_setup t)) took.apps.lc.slot.held (lc_reads n took.apps.lc.slot.commands took.apps.lc.telemetry.items) took.apps.lc.slot.state.value stepped.apps.lc.slot.state.value stepped.apps.lc.slot.out.items) _ _ _ _ same_tables same_time
       steps.lc)
 
-  pub apps_after : AppsStand stepped (after_wakeups setup s frame)
+  pub apps_after : AppsStand stepped.apps (after_wakeups setup s frame)
   unfolding after_wakeups hs_input_at cs_input_at sc_input_at mm_input_at md_input_at lc_input_at
   apps_after = record {
-    hs = woken_state (hs_stands (active_in s)) (hs_gives (active_in s)) (λ commands. hs_reads (time_at setup s) commands s.pipes.hs_ev frame.counters) _ took.hs.held s.pipes.hs took.hs.commands took.hs.out.items stepped.hs.out.items took.hs.state.value
-        stepped.hs.state.value s.hs hs_took hs_woken stand.hs;
-    cs = woken_state (cs_stands (active_in s)) (cs_gives (active_in s)) (λ commands. cs_reads (time_at setup s) commands (image_at s frame)) _ took.cs.held s.pipes.cs took.cs.commands took.cs.out.items stepped.cs.out.items took.cs.state.value
-        stepped.cs.state.value s.cs cs_took cs_woken stand.cs;
-    sc = woken_state (sc_stands (active_in s)) (sc_gives (active_in s)) (λ commands. sc_reads (time_at setup s) commands) _ took.sc.held s.pipes.sc took.sc.commands took.sc.out.items stepped.sc.out.items took.sc.state.value
-        stepped.sc.state.value s.sc sc_took sc_woken stand.sc;
-    mm = woken_state (mm_stands s.tables) (mm_gives s.tables) (λ commands. mm_reads (loads_of setup.files) (time_at setup s) commands (image_at s frame)) _ took.mm.held s.pipes.mm took.mm.commands took.mm.out.items stepped.mm.out.items took.mm.state.value
-        stepped.mm.state.value s.mm mm_took mm_woken stand.mm;
-    md = woken_state (md_stands (active_in s)) (md_gives (active_in s)) (λ commands. md_reads (time_at setup s) commands (image_at s frame)) _ took.md.held s.pipes.md took.md.commands took.md.out.items stepped.md.out.items took.md.state.value
-        stepped.md.state.value s.md md_took md_woken stand.md;
-    lc = woken_state (lc_stands (lc_setup s.tables)) (lc_gives (lc_setup s.tables)) (λ commands. lc_reads (time_at setup s) commands s.pipes.lc_tlm) _ took.lc.slot.held s.pipes.lc took.lc.slot.commands took.lc.slot.out.items stepped.lc.slot.out.items
-        took.lc.slot.state.value stepped.lc.slot.state.value s.lc lc_took lc_woken stand.lc;
+    hs = woken_state (hs_stands (active_in s)) (hs_gives (active_in s)) (λ commands. hs_reads (time_at setup s) commands s.pipes.hs_ev frame.counters) _ took.apps.hs.held s.pipes.hs took.apps.hs.commands took.apps.hs.out.items stepped.apps.hs.out.items took.apps.hs.state.value
+        stepped.apps.hs.state.value s.hs hs_took hs_woken stand.hs;
+    cs = woken_state (cs_stands (active_in s)) (cs_gives (active_in s)) (λ commands. cs_reads (time_at setup s) commands (image_at s frame)) _ took.apps.cs.held s.pipes.cs took.apps.cs.commands took.apps.cs.out.items stepped.apps.cs.out.items took.apps.cs.state.value
+        stepped.apps.cs.state.value s.cs cs_took cs_woken stand.cs;
+    sc = woken_state (sc_stands (active_in s)) (sc_gives (active_in s)) (λ commands. sc_reads (time_at setup s) commands) _ took.apps.sc.held s.pipes.sc took.apps.sc.commands took.apps.sc.out.items stepped.apps.sc.out.items took.apps.sc.state.value
+        stepped.apps.sc.state.value s.sc sc_took sc_woken stand.sc;
+    mm = woken_state (mm_stands s.tables) (mm_gives s.tables) (λ commands. mm_reads (loads_of setup.files) (time_at setup s) commands (image_at s frame)) _ took.apps.mm.held s.pipes.mm took.apps.mm.commands took.apps.mm.out.items stepped.apps.mm.out.items took.apps.mm.state.value
+        stepped.apps.mm.state.value s.mm mm_took mm_woken stand.mm;
+    md = woken_state (md_stands (active_in s)) (md_gives (active_in s)) (λ commands. md_reads (time_at setup s) commands (image_at s frame)) _ took.apps.md.held s.pipes.md took.apps.md.commands took.apps.md.out.items stepped.apps.md.out.items took.apps.md.state.value
+        stepped.apps.md.state.value s.md md_took md_woken stand.md;
+    lc = woken_state (lc_stands (lc_setup s.tables)) (lc_gives (lc_setup s.tables)) (λ commands. lc_reads (time_at setup s) commands s.pipes.lc_tlm) _ took.apps.lc.slot.held s.pipes.lc took.apps.lc.slot.commands took.apps.lc.slot.out.items stepped.apps.lc.slot.out.items
+        took.apps.lc.slot.state.value stepped.apps.lc.slot.state.value s.lc lc_took lc_woken stand.lc;
   }
 
-  pub items_after : table_events setup s frame.activations ∷ given_in stepped ≡ items_at setup s frame
+  pub items_after : table_events setup s frame.activations ∷ given_in stepped.apps ≡ items_at setup s frame
   unfolding items_at hs_input_at cs_input_at sc_input_at mm_input_at md_input_at lc_input_at
   items_after =
-      let hs = woken_items (hs_stands (active_in s)) (hs_gives (active_in s)) (λ commands. hs_reads (time_at setup s) commands s.pipes.hs_ev frame.counters) _ took.hs.held s.pipes.hs took.hs.commands took.hs.out.items stepped.hs.out.items
-      took.hs.state.value stepped.hs.state.value s.hs hs_took hs_woken stand.hs in
-      let cs = woken_items (cs_stands (active_in s)) (cs_gives (active_in s)) (λ commands. cs_reads (time_at setup s) commands (image_at s frame)) _ took.cs.held s.pipes.cs took.cs.commands took.cs.out.items stepped.cs.out.items
-      took.cs.state.value stepped.cs.state.value s.cs cs_took cs_woken stand.cs in
-      let sc = woken_items (sc_stands (active_in s)) (sc_gives (active_in s)) (λ commands. sc_reads (time_at setup s) commands) _ took.sc.held s.pipes.sc took.sc.commands took.sc.out.items stepped.sc.out.items
-      took.sc.state.value stepped.sc.state.value s.sc sc_took sc_woken stand.sc in
-      let mm = woken_items (mm_stands s.tables) (mm_gives s.tables) (λ commands. mm_reads (loads_of setup.files) (time_at setup s) commands (image_at s frame)) _ took.mm.held s.pipes.mm took.mm.commands took.mm.out.items stepped.mm.out.items
-      took.mm.state.value stepped.mm.state.value s.mm mm_took mm_woken stand.mm in
-      let md = woken_items (md_stands (active_in s)) (md_gives (active_in s)) (λ commands. md_reads (time_at setup s) commands (image_at s frame)) _ took.md.held s.pipes.md took.md.commands took.md.out.items stepped.md.out.items
-      took.md.state.value stepped.md.state.value s.md md_took md_woken stand.md in
-      let lc = woken_items (lc_stands (lc_setup s.tables)) (lc_gives (lc_setup s.tables)) (λ commands. lc_reads (time_at setup s) commands s.pipes.lc_tlm) _ took.lc.slot.held s.pipes.lc took.lc.slot.commands took.lc.slot.out.items stepped.lc.slot.out.items
-      took.lc.slot.state.value stepped.lc.slot.state.value s.lc lc_took lc_woken stand.lc in
+      let hs = woken_items (hs_stands (active_in s)) (hs_gives (active_in s)) (λ commands. hs_reads (time_at setup s) commands s.pipes.hs_ev frame.counters) _ took.apps.hs.held s.pipes.hs took.apps.hs.commands took.apps.hs.out.items stepped.apps.hs.out.items
+      took.apps.hs.state.value stepped.apps.hs.state.value s.hs hs_took hs_woken stand.hs in
+      let cs = woken_items (cs_stands (active_in s)) (cs_gives (active_in s)) (λ commands. cs_reads (time_at setup s) commands (image_at s frame)) _ took.apps.cs.held s.pipes.cs took.apps.cs.commands took.apps.cs.out.items stepped.apps.cs.out.items
+      took.apps.cs.state.value stepped.apps.cs.state.value s.cs cs_took cs_woken stand.cs in
+      let sc = woken_items (sc_stands (active_in s)) (sc_gives (active_in s)) (λ commands. sc_reads (time_at setup s) commands) _ took.apps.sc.held s.pipes.sc took.apps.sc.commands took.apps.sc.out.items stepped.apps.sc.out.items
+      took.apps.sc.state.value stepped.apps.sc.state.value s.sc sc_took sc_woken stand.sc in
+      let mm = woken_items (mm_stands s.tables) (mm_gives s.tables) (λ commands. mm_reads (loads_of setup.files) (time_at setup s) commands (image_at s frame)) _ took.apps.mm.held s.pipes.mm took.apps.mm.commands took.apps.mm.out.items stepped.apps.mm.out.items
+      took.apps.mm.state.value stepped.apps.mm.state.value s.mm mm_took mm_woken stand.mm in
+      let md = woken_items (md_stands (active_in s)) (md_gives (active_in s)) (λ commands. md_reads (time_at setup s) commands (image_at s frame)) _ took.apps.md.held s.pipes.md took.apps.md.commands took.apps.md.out.items stepped.apps.md.out.items
+      took.apps.md.state.value stepped.apps.md.state.value s.md md_took md_woken stand.md in
+      let lc = woken_items (lc_stands (lc_setup s.tables)) (lc_gives (lc_setup s.tables)) (λ commands. lc_reads (time_at setup s) commands s.pipes.lc_tlm) _ took.apps.lc.slot.held s.pipes.lc took.apps.lc.slot.commands took.apps.lc.slot.out.items stepped.apps.lc.slot.out.items
+      took.apps.lc.slot.state.value stepped.apps.lc.slot.state.value s.lc lc_took lc_woken stand.lc in
       rw (hs, cs, sc, mm, md, lc) refl
 
   pub operations_after : stepped.memory.ops.value ≡ operations_at setup s frame
   unfolding operations_at mm_input_at
   operations_after =
-      woken_beside (λ commands. mm_operations (mm_reads (loads_of setup.files) (time_at setup s) commands (image_at s frame))) _ took.mm.held s.pipes.mm took.mm.commands took.mm.out.items stepped.memory.ops.value mm_took
-      (subst (λ (loads : List (ℕ × List ℕ)). stepped.memory.ops.value ≡ unless took.mm.held (mm_operations (mm_reads loads (time_at setup s) took.mm.commands (image_at s frame)))) same_loads
-      (moved (λ (t : TableSet) (n : ℕ) (m : Memory). stepped.memory.ops.value ≡ unless took.mm.held (mm_operations (mm_reads (loads_in took) n took.mm.commands m))) took.tables.set s.tables (time_of took) (time_at setup s) took.memory.ram (image_at s frame) same_tables
+      woken_beside (λ commands. mm_operations (mm_reads (loads_of setup.files) (time_at setup s) commands (image_at s frame))) _ took.apps.mm.held s.pipes.mm took.apps.mm.commands took.apps.mm.out.items stepped.memory.ops.value mm_took
+      (subst (λ (loads : List (ℕ × List ℕ)). stepped.memory.ops.value ≡ unless took.apps.mm.held (mm_operations (mm_reads loads (time_at setup s) took.apps.mm.commands (image_at s frame)))) same_loads
+      (moved (λ (t : TableSet) (n : ℕ) (m : Memory). stepped.memory.ops.value ≡ unless took.apps.mm.held (mm_operations (mm_reads (loads_in took) n took.apps.mm.commands m))) took.tables.set s.tables (time_of took) (time_at setup s) took.memory.ram (image_at s frame) same_tables
       same_time same_image steps.operations))
 
   -- what the pipes hold then
@@ -145,28 +147,28 @@ module _ (setup : Setup) (s : State) (frame : Frame) (start took stepped : Bench
   left = ap (λ (w : Wires). w.bus) steps.wires ∙ takes.pipes ∙ ap (left_by frame.held) pipes
 
   -- and once the items were sent, behind what was told of the frame's activations, what of the frame remains to be written and to land
-  pub ran : (end : Bench) → stepped.activations.items ≡ table_events setup s frame.activations → LogStands s.made start.wires.log → Sends frame.sends stepped end → RunsIn setup s frame end
+  pub ran : (end : Bench) → stepped.apps.activations.items ≡ table_events setup s frame.activations → LogStands s.made start.wires.log → Sends frame.sends stepped end → RunsIn setup s frame end
   unfolding sent_at resets_at offers_at
   ran end events stood sends =
-      let items : joined (items_in stepped) ≡ joined (items_at setup s frame) =
-      ap (λ (told : List Out). joined (told ∷ given_in stepped)) events ∙ ap (λ (lists : List (List Out)). joined lists) items_after in
+      let items : joined (items_in stepped.apps) ≡ joined (items_at setup s frame) =
+      ap (λ (told : List Out). joined (told ∷ given_in stepped.apps)) events ∙ ap (λ (lists : List (List Out)). joined lists) items_after in
       let log : LogStands s.made stepped.wires.log = subst (LogStands s.made) (sym (ap (λ (w : Wires). w.log) steps.wires ∙ takes.log)) stood in
-      let sent : joined (items_in end) ≡ sent_of s.made (joined (items_at setup s frame)) = sends.sent s.made log ∙ ap (sent_of s.made) items in
+      let sent : joined (items_in end.apps) ≡ sent_of s.made (joined (items_at setup s frame)) = sends.sent s.made log ∙ ap (sent_of s.made) items in
       let resets : end.resets ≡ resets_at setup s frame = sends.resets ∙ ap (list_any is_reset) items in
-      let offers : offered end.resets frame.sends (joined (items_in end)) ≡ offers_at setup s frame =
-      ap (λ (b : Bool). offered b frame.sends (joined (items_in end))) resets ∙ ap (offered (resets_at setup s frame) frame.sends) sent in
+      let offers : offered end.resets frame.sends (joined (items_in end.apps)) ≡ offers_at setup s frame =
+      ap (λ (b : Bool). offered b frame.sends (joined (items_in end.apps))) resets ∙ ap (offered (resets_at setup s frame) frame.sends) sent in
       record {
         tables = ap (λ (t : Loaded). t.set) (sends.run.tables ∙ steps.run.tables) ∙ same_tables;
-        apps = apps_kept stepped end (after_wakeups setup s frame) sends.apps apps_after;
+        apps = apps_kept stepped.apps end.apps (after_wakeups setup s frame) sends.apps apps_after;
         sent = sent;
         resets = resets;
-        drops = sends.drops ∙ ap (λ (p : Pipes). drops_from p (offered end.resets frame.sends (joined (items_in end)))) left ∙ ap (drops_from (left_by frame.held s.pipes)) offers;
-        pipes = sends.pipes ∙ ap (λ (p : Pipes). after_offers p (offered end.resets frame.sends (joined (items_in end)))) left ∙ ap (after_offers (left_by frame.held s.pipes)) offers;
+        drops = sends.drops ∙ ap (λ (p : Pipes). drops_from p (offered end.resets frame.sends (joined (items_in end.apps)))) left ∙ ap (drops_from (left_by frame.held s.pipes)) offers;
+        pipes = sends.pipes ∙ ap (λ (p : Pipes). after_offers p (offered end.resets frame.sends (joined (items_in end.apps)))) left ∙ ap (after_offers (left_by frame.held s.pipes)) offers;
         made = subst (λ (items : List Out). LogStands (s.made ++ flat_map makes items) end.wires.log) items (sends.made s.made log);
         operations = ap (λ (m : BenchMemory). m.ops.value) sends.memory ∙ operations_after;
         memory = ap (λ (m : BenchMemory). m.ram) sends.memory ∙ steps.memory ∙ same_image;
       }
 
 -- what was told of activations stays until the applications were woken
-pub told_still : (upsets : List Upset) (held : List App) (counters : List Counter) (named took stepped : Bench) → Enters upsets held named took → Steps counters took stepped → stepped.activations ≡ named.activations
-told_still upsets held counters named took stepped enters steps = steps.told ∙ enters.takes.told ∙ enters.writes.told
+pub told_still : (upsets : List Upset) (held : List App) (counters : List Counter) (named took stepped : Bench) → Enters upsets held named took → Steps counters took stepped → stepped.apps.activations ≡ named.apps.activations
+told_still upsets held counters named took stepped enters steps = steps.told ∙ enters.takes.takes.told ∙ ap (λ (a : Applications). a.activations) enters.writes.apps

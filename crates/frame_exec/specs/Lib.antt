@@ -6,6 +6,7 @@ pub use Rattle.app_suite.specs.Activations
 pub use Rattle.frame_runs.specs.Runs
 pub use Rattle.frame_runs.specs.Crowds
 pub use Rattle.frame_runs.specs.RunLaws
+pub mod Parts
 pub mod Standing
 pub mod Following
 pub mod Beside

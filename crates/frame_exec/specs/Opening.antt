@@ -5,7 +5,7 @@ use Rattle.memory_window.specs.Memory.{start_memory}
 use Rattle.memory_window.specs.declared.regions.Region.{Region}
 use Rattle.packet_log.specs.Blocks.{empty_block}
 use Rattle.packet_log.specs.Standing.{Stands as LogStands}
-use Rattle.frame_exec.specs.declared.bench.TheConstants.{EVENTS_ROOM}
+use Rattle.frame_exec.specs.declared.applications.TheConstants.{EVENTS_ROOM}
 use Rattle.frame_exec.specs.declared.wires.Wires.{Wires}
 use Rattle.frame_exec.specs.declared.opening.Room.{Room}
 use Rattle.app_suite.specs.Jobs.{jobs_of}

@@ -10,32 +10,33 @@ use Rattle.scenario.specs.declared.progress.Header.{Header}
 use Rattle.scenario.specs.declared.frame.Upset.{Upset}
 use Rattle.scenario.specs.FrameLists.{Frame}
 use Rattle.frame_exec.specs.declared.bench.Bench.{Bench}
+use Rattle.frame_exec.specs.declared.applications.Applications.{Applications}
 use Rattle.app_suite.specs.Applications.{lc_setup, hs_stands, cs_stands, sc_stands, mm_stands, md_stands, lc_stands}
 use Rattle.active_tables.specs.Tables.{AreGiven}
 use Rattle.frame_runs.specs.Runs.{Setup, State, active_in, image_at, run_of}
 
 -- the state of each application stands for its history
-pub record AppsStand (b : Bench) (s : State) : Type 0 where
-  pub hs : hs_stands (active_in s) s.hs b.hs.state.value
-  pub cs : cs_stands (active_in s) s.cs b.cs.state.value
-  pub sc : sc_stands (active_in s) s.sc b.sc.state.value
-  pub mm : mm_stands s.tables s.mm b.mm.state.value
-  pub md : md_stands (active_in s) s.md b.md.state.value
-  pub lc : lc_stands (lc_setup s.tables) s.lc b.lc.slot.state.value
+pub record AppsStand (a : Applications) (s : State) : Type 0 where
+  pub hs : hs_stands (active_in s) s.hs a.hs.state.value
+  pub cs : cs_stands (active_in s) s.cs a.cs.state.value
+  pub sc : sc_stands (active_in s) s.sc a.sc.state.value
+  pub mm : mm_stands s.tables s.mm a.mm.state.value
+  pub md : md_stands (active_in s) s.md a.md.state.value
+  pub lc : lc_stands (lc_setup s.tables) s.lc a.lc.slot.state.value
 
 -- the bench has what a run has come to
 pub record Has (b : Bench) (s : State) : Type 0 where
   pub number : b.number ≡ s.number
   pub tables : b.tables.set ≡ s.tables
-  pub apps : AppsStand b s
+  pub apps : AppsStand b.apps s
   pub pipes : b.wires.bus ≡ s.pipes
   pub made : LogStands s.made b.wires.log
   pub memory : b.memory.ram ≡ s.memory
 
 -- each application can be woken
 pub record IsReady (b : Bench) : Type 0 where
-  pub sc : ScIsReady b.tables.set.sc b.sc.state.value
-  pub md : AllGiven (regions_of b.memory.ram.areas) b.md.state.value
+  pub sc : ScIsReady b.tables.set.sc b.apps.sc.state.value
+  pub md : AllGiven (regions_of b.memory.ram.areas) b.apps.md.state.value
   pub given : AreGiven (regions_of b.memory.ram.areas) b.tables
 
 -- these upsets lie in memory

@@ -1,9 +1,10 @@
 //! The bench: one frame after another.
 
 ghost use Rattle.std.specs.Prelude.{◌≡◌};
-ghost use Rattle.frame_exec.specs.declared.bench.TheConstants.{EVENTS_ROOM};
+ghost use Rattle.frame_exec.specs.declared.applications.TheConstants.{EVENTS_ROOM};
 ghost use Rattle.app_suite.specs.Jobs.{jobs_of};
 
+use crate::applications::Applications;
 use crate::cut::Cut;
 use crate::kind::FrameKind;
 use crate::lines::Lines;
@@ -11,15 +12,9 @@ use crate::memory::Memory;
 use crate::wires::Wires;
 use crate::yielded::Yield;
 use active_tables::Tables;
-use app_suite::{
-    CsSlot, Holds, HsSlot, LcSlot, Left, MdSlot, MmSlot, Naming, ScSlot, hand_over, in_order,
-    naming_of, tell,
-};
-use bus_pipes::{Batch, Outbox, PipeName};
-use crew_board::Crew;
+use app_suite::{Holds, Naming, hand_over, naming_of};
 use cs_slices::Cs;
 use frame_runs::obey_frame;
-use frame_wires::{has_reset, take_unless};
 use fsw_outside::{Failed, Gate, Sink};
 use hs_monitors::Hs;
 use lc_watch::Lc;
@@ -30,9 +25,6 @@ use sc_sequences::Sc;
 use scenario::{FrameInput, Upset};
 use std::thread::Threads;
 use subjects::{Crowd, Subject};
-
-/// How many events of activations a frame has at most: one for each of its items.
-pub(crate) const EVENTS_ROOM: u32 = 64;
 
 /// The bench, after some frames. It takes all its memory as it is opened, and borrows the files, from which MM loads.
 #[derive(Drop)]
@@ -46,24 +38,13 @@ pub struct Bench<'f> {
     // how many threads may land operations, or cycle a crowd, at once
     pub(crate) workers: u32,
     pub(crate) tables: Tables<'f>,
-    // the events of the frame's activations, which are the first of its items
-    pub(crate) activations: Outbox,
-    pub(crate) hs: HsSlot,
-    // the packets that HS took from its pipe of events
-    pub(crate) events: Batch,
-    pub(crate) cs: CsSlot,
-    pub(crate) sc: ScSlot,
-    pub(crate) mm: MmSlot,
-    pub(crate) md: MdSlot,
-    pub(crate) lc: LcSlot,
-    // who wakes the applications, with what each left
-    pub(crate) crew: Crew<Left>,
+    pub(crate) apps: Applications,
     pub(crate) wires: Wires,
     pub(crate) memory: Memory,
     pub(crate) lines: Lines,
-    ghost manned: { crew.jobs ≡ jobs_of wires.bus.watched },
-    ghost there: { lc.there ≡ wires.bus.watched },
-    ghost activations_room: { activations.room ≡ EVENTS_ROOM },
+    ghost manned: { apps.crew.jobs ≡ jobs_of wires.bus.watched },
+    ghost there: { apps.lc.there ≡ wires.bus.watched },
+    ghost activations_room: { apps.activations.room ≡ EVENTS_ROOM },
 }
 
 impl<'f> Bench<'f> {
@@ -81,11 +62,11 @@ impl<'f> Bench<'f> {
     ghost use Rattle.frame_exec.specs.Beside.{crowd_in, crowd_then};
     ghost use Rattle.frame_exec.specs.Following.{Follows, IsCutAt, Adds};
     ghost use Rattle.app_suite.specs.Landable.{CanLand};
-    ghost use Rattle.std.specs.List.{AllPass, list_any};
+    ghost use Rattle.std.specs.List.{AllPass};
     ghost use Rattle.bus_pipes.specs.Counted.{is_item_counted};
     ghost use Rattle.table_files.specs.Files.{kind_at};
-    ghost use Rattle.frame_exec.specs.Stages.{GoesOn, NamesFile, Activates, IsUpset, Takes, Enters, Arrives, CanSend, Sends, RunsIn, IsSameFrame, Lands, StartsAnew, IsStamped, HasGiven, items_in, given_in, loads_in, lines_in};
-    ghost use Rattle.frame_wires.specs.Sending.{is_reset};
+    ghost use Rattle.frame_exec.specs.Stages.{GoesOn, NamesFile, Activates, IsUpset, Takes, Enters, Arrives, CanSend, Sends, RunsIn, IsSameFrame, Lands, StartsAnew, IsStamped, HasGiven, loads_in, lines_in};
+    ghost use Rattle.frame_exec.specs.Parts.{items_in, given_in};
     ghost use Rattle.app_suite.specs.Holding.{AreHeld};
     ghost use Rattle.app_suite.specs.Wakes.{joined};
     ghost use Rattle.frame_exec.specs.declared.yielded.Yield.TheVariants as yields;
@@ -368,16 +349,17 @@ impl<'f> Bench<'f> {
         ensures anew { StartsAnew self.old self.new }
         ensures ready { IsReady self.new }
     {
-        let (made, max) = self.hs.state.resets();
+        let (made, max) = self.apps.hs.state.resets();
         let time = self.epoch + self.number as u32;
         self.tables.load_again();
-        self.hs.begin(Hs::start(self.tables.hs(), made, max));
-        self.cs
+        self.apps.hs.begin(Hs::start(self.tables.hs(), made, max));
+        self.apps
+            .cs
             .begin(Cs::start(self.tables.eeprom(), self.tables.memory()));
-        self.sc.begin(Sc::start(self.tables.sc(), time));
-        self.mm.begin(Mm::start());
-        self.md.begin(Md::start(self.tables.dwells()));
-        self.lc.begin(Lc::start(self.tables.adt()));
+        self.apps.sc.begin(Sc::start(self.tables.sc(), time));
+        self.apps.mm.begin(Mm::start());
+        self.apps.md.begin(Md::start(self.tables.dwells()));
+        self.apps.lc.begin(Lc::start(self.tables.adt()));
         self.wires.empty();
     }
 
@@ -385,10 +367,10 @@ impl<'f> Bench<'f> {
     #[inline(always)]
     fn forget_told(&mut self)
         ensures forgets { Activates [] [] self.old self.new }
-        ensures none { self.new.activations.items ≡ [] }
+        ensures none { self.new.apps.activations.items ≡ [] }
         ensures ready { IsReady self.old → IsReady self.new }
     {
-        self.activations.clear();
+        self.apps.forget_told();
     }
 
     /// Makes the tables of these files active, in order, and tells of each whether it is. Nothing was told before.
@@ -396,7 +378,7 @@ impl<'f> Bench<'f> {
     fn activate_all(&mut self, files: &[u32])
         requires time { self.old.epoch + self.old.number < 4294967296 }
         requires few { length files.now ≤ 64 }
-        requires none { self.old.activations.items ≡ [] }
+        requires none { self.old.apps.activations.items ≡ [] }
         requires ready { IsReady self.old }
         ensures activates { Activates files.now [] self.old self.new }
         ensures ready { IsReady self.new }
@@ -409,14 +391,14 @@ impl<'f> Bench<'f> {
     /// Makes the table of this file active, if it can be, and tells whether it is.
     fn name_file(&mut self, file: u32)
         requires time { self.old.epoch + self.old.number < 4294967296 }
-        requires room { length self.old.activations.items < 64 }
+        requires room { length self.old.apps.activations.items < 64 }
         requires ready { IsReady self.old }
-        ensures activates { Activates (file ∷ []) self.old.activations.items self.old self.new }
+        ensures activates { Activates (file ∷ []) self.old.apps.activations.items self.old self.new }
         ensures ready { IsReady self.new }
     {
         let time = self.epoch + self.number as u32;
         let naming = self.make_active(file);
-        tell(&mut self.activations, naming, time);
+        self.apps.tell(naming, time);
     }
 
     /// Makes the table of this file active, if it can be, and answers what became of it.
@@ -429,14 +411,20 @@ impl<'f> Bench<'f> {
         let Some(kind) = self.tables.kind(file) else {
             return Naming::Refused;
         };
-        let naming = naming_of(kind, self.sc.state.runs(kind));
+        let naming = naming_of(kind, self.apps.sc.state.runs(kind));
         match naming {
             Naming::Refused => return Naming::Refused,
             Naming::Running => return Naming::Running,
             Naming::Accepted => {}
         }
         self.tables.activate(file);
-        hand_over(&self.tables, kind, &mut self.hs, &mut self.cs, &mut self.md);
+        hand_over(
+            &self.tables,
+            kind,
+            &mut self.apps.hs,
+            &mut self.apps.cs,
+            &mut self.apps.md,
+        );
         Naming::Accepted
     }
 
@@ -454,18 +442,7 @@ impl<'f> Bench<'f> {
         ensures takes { (held : List App) → AreHeld held holds → Takes held self.old self.new }
         ensures ready { IsReady self.old → IsReady self.new }
     {
-        self.hs.take(&mut self.wires.bus, PipeName::Hs, holds.hs);
-        take_unless(
-            &mut self.wires.bus,
-            PipeName::HsEv,
-            holds.hs,
-            &mut self.events,
-        );
-        self.cs.take(&mut self.wires.bus, PipeName::Cs, holds.cs);
-        self.sc.take(&mut self.wires.bus, PipeName::Sc, holds.sc);
-        self.mm.take(&mut self.wires.bus, PipeName::Mm, holds.mm);
-        self.md.take(&mut self.wires.bus, PipeName::Md, holds.md);
-        self.lc.take(&mut self.wires.bus);
+        self.apps.take_all_but(&mut self.wires, holds);
         self.memory.ops.clear();
     }
 
@@ -473,15 +450,15 @@ impl<'f> Bench<'f> {
     #[inline(always)]
     fn send(&mut self, input: &FrameInput, items: Yield) -> Yield
         requires can { CanSend self.old }
-        requires told { AllPass is_item_counted self.old.activations.items }
-        requires few { length input.now.sends + length self.old.activations.items ≤ 64 }
-        requires none { items ≡ yields.Nothing → joined (given_in self.old) ≡ [] }
+        requires told { AllPass is_item_counted self.old.apps.activations.items }
+        requires few { length input.now.sends + length self.old.apps.activations.items ≤ 64 }
+        requires none { items ≡ yields.Nothing → joined (given_in self.old.apps) ≡ [] }
         ensures sends { Sends input.now.sends self.old self.new }
         ensures silent { result ≡ yields.Nothing → lines_in self.new ≡ [] }
     {
         self.wires.drops.clear();
         self.resets = false;
-        if items.is_nothing() && self.activations.is_empty() && input.sends().is_empty() {
+        if items.is_nothing() && self.apps.activations.is_empty() && input.sends().is_empty() {
             return Yield::Nothing;
         }
         self.send_all(input);
@@ -492,42 +469,34 @@ impl<'f> Bench<'f> {
     #[inline(never)]
     fn send_all(&mut self, input: &FrameInput)
         requires can { CanSend self.old }
-        requires told { AllPass is_item_counted self.old.activations.items }
-        requires few { length input.now.sends + length self.old.activations.items ≤ 64 }
+        requires told { AllPass is_item_counted self.old.apps.activations.items }
+        requires few { length input.now.sends + length self.old.apps.activations.items ≤ 64 }
         requires none { self.old.wires.drops.items ≡ [] }
         ensures { Sends input.now.sends self.old self.new }
     {
-        self.resets = self.asks_for_reset();
+        self.resets = self.apps.asks_for_reset();
         self.stamp();
         if self.resets {
             return;
         }
         self.wires.deliver(input.sends());
-        let lists = in_order(
-            &self.activations,
-            &self.hs,
-            &self.cs,
-            &self.sc,
-            &self.mm,
-            &self.md,
-            &self.lc,
-        );
+        let lists = self.apps.in_order();
         self.wires.deliver_lists(&lists);
     }
 
     /// Gives the items their sequence counts.
     fn stamp(&mut self)
         requires can { CanSend self.old }
-        requires told { AllPass is_item_counted self.old.activations.items }
+        requires told { AllPass is_item_counted self.old.apps.activations.items }
         ensures { IsStamped self.old self.new }
     {
-        self.wires.stamp(&mut self.activations);
-        self.wires.stamp(&mut self.hs.out);
-        self.wires.stamp(&mut self.cs.out);
-        self.wires.stamp(&mut self.sc.out);
-        self.wires.stamp(&mut self.mm.out);
-        self.wires.stamp(&mut self.md.out);
-        self.wires.stamp(&mut self.lc.slot.out);
+        self.wires.stamp(&mut self.apps.activations);
+        self.wires.stamp(&mut self.apps.hs.out);
+        self.wires.stamp(&mut self.apps.cs.out);
+        self.wires.stamp(&mut self.apps.sc.out);
+        self.wires.stamp(&mut self.apps.mm.out);
+        self.wires.stamp(&mut self.apps.md.out);
+        self.wires.stamp(&mut self.apps.lc.slot.out);
     }
 
     /// Does what comes before the wakeups of a frame: makes the tables active that it names, writes its upsets, and lets each application
@@ -635,15 +604,7 @@ impl<'f> Bench<'f> {
         if lines.is_nothing() {
             return Ok(());
         }
-        let lists = in_order(
-            &self.activations,
-            &self.hs,
-            &self.cs,
-            &self.sc,
-            &self.mm,
-            &self.md,
-            &self.lc,
-        );
+        let lists = self.apps.in_order();
         self.lines
             .put(sink, self.number as u32, &lists, self.wires.dropped())
     }
@@ -651,36 +612,14 @@ impl<'f> Bench<'f> {
     /// Lets a crowd obey the items of the frame that was run, in their order, and restart where a processor reset was asked for.
     #[inline(always)]
     fn tell<S: Subject + Send>(&self, crowd: &mut Crowd<S>)
-        ensures subjects { map S.seen crowd.new.subjects ≡ behind_items self.now.resets (joined (items_in self.now)) (map S.seen crowd.old.subjects) }
+        ensures subjects { map S.seen crowd.new.subjects ≡ behind_items self.now.resets (joined (items_in self.now.apps)) (map S.seen crowd.old.subjects) }
         ensures readings { crowd.new.readings ≡ crowd.old.readings }
     {
-        if !self.resets && self.gave_nothing() {
+        if !self.resets && self.apps.gave_nothing() {
             return;
         }
-        let lists = in_order(
-            &self.activations,
-            &self.hs,
-            &self.cs,
-            &self.sc,
-            &self.mm,
-            &self.md,
-            &self.lc,
-        );
+        let lists = self.apps.in_order();
         obey_frame(crowd, self.resets, &lists);
-    }
-
-    /// Whether an item asks for a processor reset.
-    fn asks_for_reset(&self) -> bool
-        ensures { result ≡ list_any is_reset (joined (items_in self.now)) }
-    {
-        let told = has_reset(self.activations.items());
-        let given = has_reset(self.hs.out.items())
-            | has_reset(self.cs.out.items())
-            | has_reset(self.sc.out.items())
-            | has_reset(self.mm.out.items())
-            | has_reset(self.md.out.items())
-            | has_reset(self.lc.slot.out.items());
-        told | given
     }
 
     /// Whether nothing was sent nor dropped in the frame that was run.
@@ -688,20 +627,6 @@ impl<'f> Bench<'f> {
     fn is_silent(&self) -> bool
         ensures { result ≡ true → lines_in self.now ≡ [] }
     {
-        self.gave_nothing() && self.wires.dropped_nothing()
-    }
-
-    /// Whether nothing was told of activations nor given in the frame that was run.
-    #[inline(always)]
-    fn gave_nothing(&self) -> bool
-        ensures { result ≡ true → joined (items_in self.now) ≡ [] }
-    {
-        self.activations.is_empty()
-            && self.hs.out.is_empty()
-            && self.cs.out.is_empty()
-            && self.sc.out.is_empty()
-            && self.mm.out.is_empty()
-            && self.md.out.is_empty()
-            && self.lc.slot.out.is_empty()
+        self.apps.gave_nothing() && self.wires.dropped_nothing()
     }
 }

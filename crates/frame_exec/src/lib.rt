@@ -1,6 +1,7 @@
 //! A frame of the bench: upsets, wakeups, items in order, pipes, landing, lines.
 #![tactic(auto)]
 
+mod applications;
 mod bench;
 mod cut;
 mod in_place;

@@ -3,7 +3,8 @@
 ghost use Rattle.std.specs.Prelude.{IfOk};
 ghost use Rattle.frame_exec.specs.Opening.{IsEmpty};
 
-use crate::bench::{Bench, EVENTS_ROOM};
+use crate::applications::{Applications, EVENTS_ROOM};
+use crate::bench::Bench;
 use crate::lines::Lines;
 use crate::memory::Memory;
 use crate::wires::Wires;
@@ -98,16 +99,18 @@ impl<'f> Bench<'f> {
             failed: false,
             resets: false,
             workers,
-            hs: slots.hs,
-            events: Batch::new(),
-            cs: slots.cs,
-            sc: slots.sc,
-            mm: slots.mm,
-            md: slots.md,
-            lc: slots.lc,
+            apps: Applications {
+                activations: room.activations,
+                hs: slots.hs,
+                events: Batch::new(),
+                cs: slots.cs,
+                sc: slots.sc,
+                mm: slots.mm,
+                md: slots.md,
+                lc: slots.lc,
+                crew: room.crew,
+            },
             tables,
-            activations: room.activations,
-            crew: room.crew,
             wires: room.wires,
             memory: room.memory,
             lines: room.lines,

@@ -26,11 +26,11 @@ fn are_shared(workers: u32, rests: [bool; 6]) -> bool {
 }
 
 impl<'f> Bench<'f> {
-    ghost use Rattle.std.specs.Prelude.{◌+◌, ◌<◌, ◌≤◌, [], length, slice_index_or, true};
+    ghost use Rattle.std.specs.Prelude.{◌+◌, ◌<◌, []};
     ghost use Rattle.frame_exec.specs.Standing.{IsReady};
-    ghost use Rattle.frame_exec.specs.Stages.{IsClear, Steps, CanSend, AreWoken, TakesOver, given_in};
+    ghost use Rattle.frame_exec.specs.Stages.{IsClear, Steps, CanSend, AreWoken};
+    ghost use Rattle.frame_exec.specs.Parts.{given_in};
     ghost use Rattle.app_suite.specs.Wakes.{joined};
-    ghost use Rattle.app_suite.specs.declared.left.Left.{Left};
     ghost use Rattle.frame_exec.specs.declared.yielded.Yield.TheVariants as yields;
 
     /// Wakes the applications that are there on what they took, on execution counters and on the frame's image, and answers whether an item
@@ -48,7 +48,7 @@ impl<'f> Bench<'f> {
         ensures steps { Steps counters.now self.old self.new }
         ensures can_send { CanSend self.new }
         ensures ready { IsReady self.new }
-        ensures none { result ≡ yields.Nothing → joined (given_in self.new) ≡ [] }
+        ensures none { result ≡ yields.Nothing → joined (given_in self.new.apps) ≡ [] }
     {
         if self.number == 0 {
             return self.step_on_crew(rt, gate, counters);
@@ -72,22 +72,22 @@ impl<'f> Bench<'f> {
         ensures steps { Steps counters.now self.old self.new }
         ensures can_send { CanSend self.new }
         ensures ready { IsReady self.new }
-        ensures none { result ≡ yields.Nothing → joined (given_in self.new) ≡ [] }
+        ensures none { result ≡ yields.Nothing → joined (given_in self.new.apps) ≡ [] }
     {
         let reads = Reads {
             tables: &self.tables,
-            events: &self.events,
-            telemetry: &self.lc.telemetry,
+            events: &self.apps.events,
+            telemetry: &self.apps.lc.telemetry,
             window: self.memory.ram.window(),
             counters,
             time: self.epoch + self.number as u32,
         };
-        let hs_rests = self.hs.rests(&reads);
-        let cs_rests = self.cs.rests(&reads);
-        let sc_rests = self.sc.rests(&reads);
-        let mm_rests = self.mm.rests(&reads);
-        let md_rests = self.md.rests(&reads);
-        let lc_rests = self.lc.slot.rests(&reads);
+        let hs_rests = self.apps.hs.rests(&reads);
+        let cs_rests = self.apps.cs.rests(&reads);
+        let sc_rests = self.apps.sc.rests(&reads);
+        let mm_rests = self.apps.mm.rests(&reads);
+        let md_rests = self.apps.md.rests(&reads);
+        let lc_rests = self.apps.lc.slot.rests(&reads);
         let all_rest = hs_rests & cs_rests & sc_rests & mm_rests & md_rests & lc_rests;
         if all_rest {
             return Yield::Nothing;
@@ -98,12 +98,12 @@ impl<'f> Bench<'f> {
         ) {
             return self.step_on_crew(rt, gate, counters);
         }
-        let hs = wake_in_place(&mut self.hs, hs_rests, &reads, &mut ());
-        let cs = wake_in_place(&mut self.cs, cs_rests, &reads, &mut ());
-        let sc = wake_in_place(&mut self.sc, sc_rests, &reads, &mut ());
-        let mm = wake_in_place(&mut self.mm, mm_rests, &reads, &mut *self.memory.ops);
-        let md = wake_in_place(&mut self.md, md_rests, &reads, &mut ());
-        let lc = wake_in_place(&mut self.lc.slot, lc_rests, &reads, &mut ());
+        let hs = wake_in_place(&mut self.apps.hs, hs_rests, &reads, &mut ());
+        let cs = wake_in_place(&mut self.apps.cs, cs_rests, &reads, &mut ());
+        let sc = wake_in_place(&mut self.apps.sc, sc_rests, &reads, &mut ());
+        let mm = wake_in_place(&mut self.apps.mm, mm_rests, &reads, &mut *self.memory.ops);
+        let md = wake_in_place(&mut self.apps.md, md_rests, &reads, &mut ());
+        let lc = wake_in_place(&mut self.apps.lc.slot, lc_rests, &reads, &mut ());
         Yield::unless(hs & cs & sc & mm & md & lc)
     }
 
@@ -122,15 +122,11 @@ impl<'f> Bench<'f> {
         ensures steps { Steps counters.now self.old self.new }
         ensures can_send { CanSend self.new }
         ensures ready { IsReady self.new }
-        ensures none { result ≡ yields.Nothing → joined (given_in self.new) ≡ [] }
+        ensures none { result ≡ yields.Nothing → joined (given_in self.new.apps) ≡ [] }
     {
         let workers = self.workers.max(1);
         self.wake(rt, gate, counters, workers);
-        let none = self.take_over();
-        if !self.lc.there {
-            return Yield::unless(none);
-        }
-        Yield::unless(none & self.lc.take_over(&mut self.crew))
+        Yield::unless(self.apps.take_over(&mut self.memory.ops))
     }
 
     /// Wakes the applications, each as a job of the crew, on at most so many workers: LC as the last, where it is there.
@@ -149,45 +145,24 @@ impl<'f> Bench<'f> {
     {
         let time = self.epoch + self.number as u32;
         let window = self.memory.ram.window();
-        let lc = &self.lc;
+        let lc = &self.apps.lc;
         let reads = Reads {
             tables: &self.tables,
-            events: &self.events,
+            events: &self.apps.events,
             telemetry: &lc.telemetry,
             window,
             counters,
             time,
         };
         let scene = Scene {
-            hs: &self.hs,
-            cs: &self.cs,
-            sc: &self.sc,
-            mm: &self.mm,
-            md: &self.md,
+            hs: &self.apps.hs,
+            cs: &self.apps.cs,
+            sc: &self.apps.sc,
+            mm: &self.apps.mm,
+            md: &self.apps.md,
             lc,
             reads,
         };
-        wake_all(&mut self.crew, rt, workers, gate, &scene, lc.there);
-    }
-
-    /// Takes over what the jobs left but LC's, in the order of the applications, and tells whether no item was given.
-    #[inline(always)]
-    fn take_over(&mut self) -> bool
-        requires manned { 5 ≤ length self.old.crew.results }
-        requires clear { IsClear self.old }
-        ensures over { TakesOver self.old self.new }
-        ensures lc { self.new.lc ≡ self.old.lc }
-        ensures last { (left : Left) → slice_index_or self.new.crew.results 5 left ≡ slice_index_or self.old.crew.results 5 left }
-        ensures count { length self.new.crew.results ≡ length self.old.crew.results }
-        ensures none { result ≡ true → joined (given_in self.new) ≡ [] }
-    {
-        let hs = self.hs.take_over(&mut self.crew, 0);
-        let cs = self.cs.take_over(&mut self.crew, 1);
-        let sc = self.sc.take_over(&mut self.crew, 2);
-        let left = self.crew.result_mut(3);
-        left.give_operations(&mut self.memory.ops);
-        let mm = self.mm.take_over(&mut self.crew, 3);
-        let md = self.md.take_over(&mut self.crew, 4);
-        hs & cs & sc & mm & md
+        wake_all(&mut self.apps.crew, rt, workers, gate, &scene, lc.there);
     }
 }

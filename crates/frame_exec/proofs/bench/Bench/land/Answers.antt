@@ -11,12 +11,11 @@ returns-then-stays g c =
     let old = c.args.self.now in
     let none : length old.memory.ops.value ≡ 0 = grind (arith, nat_tests) in
     record {
-      items = refl;
       epoch = refl;
       number = refl;
       failed = refl;
       tables = refl;
-      apps = record { hs = refl; cs = refl; sc = refl; mm = refl; md = refl; lc = refl };
+      apps = refl;
       wires = refl;
       lines = refl;
       resets = refl;

@@ -8,7 +8,7 @@ use Rattle.active_tables.specs.Tables.{Loaded}
 use Rattle.frame_exec.specs.declared.wires.Wires.{Wires}
 use Rattle.frame_runs.specs.Runs.{activated_at}
 use Rattle.frame_runs.specs.Crowds.{with_counters}
-use Rattle.frame_exec.proofs.Frames.{apps_kept}
+use Rattle.frame_exec.proofs.Frames.{apps_kept, keeps_all}
 use Rattle.frame_exec.proofs.Naming.{activated_has, events_at}
 use Rattle.frame_exec.proofs.Arriving.{told_many, told_counted}
 use Rattle.frame_exec.proofs.Waking.{image_is}
@@ -18,13 +18,9 @@ use Rattle.frame_exec.proofs.bench.Bench.run.Goals as goal
 pub step-items-requires-clause-clear : goal.step-items-requires-clause-clear
 step-items-requires-clause-clear g c = λ _ _.
     let takes = c.arrive.ensures.arrives.enters.takes in
+    let all = takes.takes in
     record {
-      hs = takes.hs.none;
-      cs = takes.cs.none;
-      sc = takes.sc.none;
-      mm = takes.mm.none;
-      md = takes.md.none;
-      lc = takes.lc.none;
+      apps = record { hs = all.hs.none; cs = all.cs.none; sc = all.sc.none; mm = all.mm.none; md = all.md.none; lc = all.lc.none };
       operations = takes.operations;
     }
 
@@ -48,7 +44,7 @@ returns-clause-runs g c = λ setup s epoch files has.
     let has_now = activated_has begun setup s frame frame.activations refl (active.has setup s files has) in
     let upset = a.enters.writes in
     ran setup t frame a.enters.upset c.arrive.new.self c.step-items.new.self (upset.run.epoch ∙ active.goes.epoch ∙ epoch) (ap (λ (l : Loaded). l.files) upset.run.tables ∙ active.goes.files ∙ files) (upset.run.number ∙ has_now.number)
-    (ap (λ (l : Loaded). l.set) upset.run.tables ∙ has_now.tables) (ap (λ (w : Wires). w.bus) upset.wires ∙ has_now.pipes) (image_is t frame begun.memory.ram a.enters.upset.memory.ram frame.upsets has_now.memory refl upset.memory) (apps_kept begun a.enters.upset t upset.apps has_now.apps) a.enters.takes
+    (ap (λ (l : Loaded). l.set) upset.run.tables ∙ has_now.tables) (ap (λ (w : Wires). w.bus) upset.wires ∙ has_now.pipes) (image_is t frame begun.memory.ram a.enters.upset.memory.ram frame.upsets has_now.memory refl upset.memory) (apps_kept begun.apps a.enters.upset.apps t (keeps_all _ _ upset.apps) has_now.apps) a.enters.takes
     c.step-items.ensures.steps c.send.new.self
-    (ap (λ (held : Held Out). held.items) (told_still _ _ _ _ _ _ a.enters c.step-items.ensures.steps) ∙ events_at setup s frame begun.activations.items frame.activations refl (active.events setup s epoch files has))
+    (ap (λ (held : Held Out). held.items) (told_still _ _ _ _ _ _ a.enters c.step-items.ensures.steps) ∙ events_at setup s frame begun.apps.activations.items frame.activations refl (active.events setup s epoch files has))
     (subst (λ (w : Wires). LogStands t.made w.log) (sym upset.wires) has_now.made) c.send.ensures.sends

@@ -7,7 +7,7 @@ use Rattle.bus_pipes.proofs.Deliveries.{after_offers_none, drops_none}
 use Rattle.packet_log.specs.Sent.{makes}
 use Rattle.packet_log.specs.Standing.{Stands as LogStands}
 use Rattle.frame_wires.specs.Sending.{packet_in, is_reset, sent_of}
-use Rattle.frame_exec.specs.Stages.{items_in, given_in}
+use Rattle.frame_exec.specs.Parts.{items_in, given_in}
 use Rattle.app_suite.specs.Wakes.{joined}
 use Rattle.frame_wires.proofs.Offers.{offers_nothing}
 use Rattle.frame_wires.proofs.Stamping.{sent_none}
@@ -22,9 +22,9 @@ nothing_in (item ∷ told) given none gave = absurd (grind (arith, nat_tests))
 pub returns-then-is_empty-2-clause-sends : goal.returns-then-is_empty-2-clause-sends
 returns-then-is_empty-2-clause-sends c =
     let old = c.args.self.now in
-    let none : joined (items_in old) ≡ [] = nothing_in old.activations.items (given_in old) (sym c.if-is_empty.true ∙ c.is_empty.ensures) (c.requires.none (c.is_nothing.ensures c.if-is_nothing.true)) in
-    let offered : c.args.input.now.sends ++ flat_map packet_in (joined (items_in old)) ≡ [] =
-    offers_nothing c.args.input.now.sends (joined (items_in old)) (c.if-is_empty-2.ensures ∙ ap (λ (packets : List (List ℕ)). length packets == 0) c.sends.ensures.value) none in
+    let none : joined (items_in old.apps) ≡ [] = nothing_in old.apps.activations.items (given_in old.apps) (sym c.if-is_empty.true ∙ c.is_empty.ensures) (c.requires.none (c.is_nothing.ensures c.if-is_nothing.true)) in
+    let offered : c.args.input.now.sends ++ flat_map packet_in (joined (items_in old.apps)) ≡ [] =
+    offers_nothing c.args.input.now.sends (joined (items_in old.apps)) (c.if-is_empty-2.ensures ∙ ap (λ (packets : List (List ℕ)). length packets == 0) c.sends.ensures.value) none in
     record {
       run = record { lines = refl; epoch = refl; number = refl; failed = refl; tables = refl };
       apps = record { hs = refl; cs = refl; sc = refl; mm = refl; md = refl; lc = refl };

@@ -10,7 +10,7 @@ use Rattle.packet_log.specs.Sent.{makes}
 use Rattle.packet_log.specs.Standing.{Stands as LogStands}
 use Rattle.frame_wires.specs.Sending.{packet_in, offered}
 use Rattle.app_suite.specs.Jobs.{jobs_of}
-use Rattle.frame_exec.specs.Stages.{items_in}
+use Rattle.frame_exec.specs.Parts.{items_in}
 use Rattle.app_suite.specs.Wakes.{joined}
 use Rattle.frame_wires.proofs.Offers.{offers_two, drops_two}
 use Rattle.frame_exec.proofs.bench.Bench.send_all.Goals as goal
@@ -22,7 +22,7 @@ returns-then-self c =
     let stamped = c.stamp.ensures in
     let run = stamped.run in
     let apps = stamped.apps in
-    let none : offered c.stamp.new.self.resets c.args.input.now.sends (joined (items_in c.stamp.new.self)) ≡ [] = ap (λ (b : Bool). offered b c.args.input.now.sends (joined (items_in c.stamp.new.self))) c.if-self.true in
+    let none : offered c.stamp.new.self.resets c.args.input.now.sends (joined (items_in c.stamp.new.self.apps)) ≡ [] = ap (λ (b : Bool). offered b c.args.input.now.sends (joined (items_in c.stamp.new.self.apps))) c.if-self.true in
     record {
       run = record { lines = run.lines; epoch = run.epoch; number = run.number; failed = run.failed; tables = run.tables };
       apps = record { hs = apps.hs; cs = apps.cs; sc = apps.sc; mm = apps.mm; md = apps.md; lc = apps.lc };
@@ -41,14 +41,14 @@ returns c =
     let run = stamped.run in
     let apps = stamped.apps in
     let sends = c.sends.ensures.value in
-    let packets = flat_map packet_in (joined (items_in c.stamp.new.self)) in
-    let none : offered c.stamp.new.self.resets c.args.input.now.sends (joined (items_in c.stamp.new.self)) ≡ c.args.input.now.sends ++ packets = ap (λ (b : Bool). offered b c.args.input.now.sends (joined (items_in c.stamp.new.self))) c.if-self.false in
+    let packets = flat_map packet_in (joined (items_in c.stamp.new.self.apps)) in
+    let none : offered c.stamp.new.self.resets c.args.input.now.sends (joined (items_in c.stamp.new.self.apps)) ≡ c.args.input.now.sends ++ packets = ap (λ (b : Bool). offered b c.args.input.now.sends (joined (items_in c.stamp.new.self.apps))) c.if-self.false in
     let offered_first = c.deliver.ensures.pipes ∙ ap (λ (p : Pipes). after_offers p c.sends.result.now) stamped.pipes ∙ ap (after_offers old.wires.bus) sends in
     record {
       run = record { lines = run.lines; epoch = run.epoch; number = run.number; failed = run.failed; tables = run.tables };
       apps = record { hs = apps.hs; cs = apps.cs; sc = apps.sc; mm = apps.mm; md = apps.md; lc = apps.lc };
       sent = stamped.sent;
-      made = λ made stands. subst (λ (log : List ℕ). LogStands (made ++ flat_map makes (joined (items_in old))) log) (sym (c.deliver_lists.ensures.log ∙ c.deliver.ensures.log)) (stamped.made made stands);
+      made = λ made stands. subst (λ (log : List ℕ). LogStands (made ++ flat_map makes (joined (items_in old.apps))) log) (sym (c.deliver_lists.ensures.log ∙ c.deliver.ensures.log)) (stamped.made made stands);
       resets = stamped.resets ∙ c.asks_for_reset-self.ensures;
       pipes = offers_two old.wires.bus c.deliver.new.self.bus _ c.args.input.now.sends packets offered_first (c.deliver_lists.ensures.pipes ∙ ap (λ (items : List Out). after_offers c.deliver.new.self.bus (flat_map packet_in items)) c.in_order-lists.ensures.shown) ∙ sym (ap (after_offers old.wires.bus) none);
       drops = drops_two old.wires.bus c.deliver.new.self.bus c.args.self.now.wires.drops c.deliver.new.self.drops _ c.args.input.now.sends packets c.requires.none offered_first
@@ -86,7 +86,7 @@ deliver_lists-requires c =
     let old = c.args.self.now in
     let can = c.requires.can in
     let all = ap (λ (items : List Out). length items) c.in_order-lists.ensures.shown in
-    let sum = seven_long old.activations.items old.hs.out.items old.cs.out.items old.sc.out.items old.mm.out.items old.md.out.items old.lc.slot.out.items in
+    let sum = seven_long old.apps.activations.items old.apps.hs.out.items old.apps.cs.out.items old.apps.sc.out.items old.apps.mm.out.items old.apps.md.out.items old.apps.lc.slot.out.items in
     let before = ap (λ (held : Held Dropped). length held.items) c.stamp.ensures.drops in
     let none = ap (λ (items : List Dropped). length items) c.requires.none in
     let sends = ap (λ (packets : List (List ℕ)). length packets) c.sends.ensures.value in

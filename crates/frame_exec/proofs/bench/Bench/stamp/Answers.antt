@@ -14,13 +14,13 @@ as_long told stamped given sent one two = length-append stamped sent ∙ ap (λ 
 pub returns : goal.returns
 returns c =
     let old = c.args.self.now in
-    let told = old.activations.items in
-    let hs = old.hs.out.items in
-    let cs = old.cs.out.items in
-    let sc = old.sc.out.items in
-    let mm = old.mm.out.items in
-    let md = old.md.out.items in
-    let lc = old.lc.slot.out.items in
+    let told = old.apps.activations.items in
+    let hs = old.apps.hs.out.items in
+    let cs = old.apps.cs.out.items in
+    let sc = old.apps.sc.out.items in
+    let mm = old.apps.mm.out.items in
+    let md = old.apps.md.out.items in
+    let lc = old.apps.lc.slot.out.items in
     record {
       run = record { lines = refl; epoch = refl; number = refl; failed = refl; tables = refl };
       apps = record { hs = refl; cs = refl; sc = refl; mm = refl; md = refl; lc = refl };

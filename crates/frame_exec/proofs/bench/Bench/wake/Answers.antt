@@ -23,7 +23,7 @@ invariant_of-scene g c =
       eeprom = subst (λ (m : Memory). SegmentsGiven (regions_of m.areas) old.tables.set.eeprom) is c.requires.ready.given.set.eeprom;
       memory = subst (λ (m : Memory). SegmentsGiven (regions_of m.areas) old.tables.set.memory) is c.requires.ready.given.set.memory;
       sc = c.requires.ready.sc;
-      md = subst (λ (m : Memory). AllGiven (regions_of m.areas) old.md.state.value) is c.requires.ready.md;
+      md = subst (λ (m : Memory). AllGiven (regions_of m.areas) old.apps.md.state.value) is c.requires.ready.md;
     }
 
 pub returns : goal.returns
@@ -34,16 +34,17 @@ returns g c =
     let all = c.wake_all.ensures.left in
     record {
       run = record { lines = refl; epoch = refl; number = refl; failed = refl; tables = refl };
-      told = refl;
-      slots = record { hs = refl; cs = refl; sc = refl; mm = refl; md = refl; lc = refl; wires = refl; memory = refl };
-      manned = c.wake_all.ensures.count ∙ ap jobs_of old.there;
+      slots = record { told = refl; hs = refl; cs = refl; sc = refl; mm = refl; md = refl; lc = refl };
+      wires = refl;
+      memory = refl;
+      manned = c.wake_all.ensures.count;
       hs = all.hs;
-      cs = λ left at. subst (λ (m : Memory). Gives (λ t. cs_tables old.tables.set ≡ cs_tables t.now) cs_stands cs_gives cs_most old.cs.held (cs_reads time old.cs.commands m) old.cs.state.value left.stays left.cs.value left.out.items) is
+      cs = λ left at. subst (λ (m : Memory). Gives (λ t. cs_tables old.tables.set ≡ cs_tables t.now) cs_stands cs_gives cs_most old.apps.cs.held (cs_reads time old.apps.cs.commands m) old.apps.cs.state.value left.stays left.cs.value left.out.items) is
           (all.cs left at);
       sc = all.sc;
-      mm = λ left at. subst (λ (m : Memory). Gives {Setup = TableSet} (λ t. Unit {0}) mm_stands mm_gives mm_most old.mm.held (mm_reads (loads_in old) time old.mm.commands m) old.mm.state.value left.stays left.mm.value left.out.items
-          × Operates (loads_in old) old.mm.held time old.mm.commands m left.ops.value) is (all.mm left at);
-      md = λ left at. subst (λ (m : Memory). Gives {Setup = Active} (λ t. Unit {0}) md_stands md_gives md_most old.md.held (md_reads time old.md.commands m) old.md.state.value left.stays left.md.value left.out.items
-          × AllGiven (regions_of m.areas) (next_of left.stays left.md.value old.md.state.value)) is (all.md left at);
-      lc = λ watched. all.lc (old.there ∙ watched);
+      mm = λ left at. subst (λ (m : Memory). Gives {Setup = TableSet} (λ t. Unit {0}) mm_stands mm_gives mm_most old.apps.mm.held (mm_reads (loads_in old) time old.apps.mm.commands m) old.apps.mm.state.value left.stays left.mm.value left.out.items
+          × Operates (loads_in old) old.apps.mm.held time old.apps.mm.commands m left.ops.value) is (all.mm left at);
+      md = λ left at. subst (λ (m : Memory). Gives {Setup = Active} (λ t. Unit {0}) md_stands md_gives md_most old.apps.md.held (md_reads time old.apps.md.commands m) old.apps.md.state.value left.stays left.md.value left.out.items
+          × AllGiven (regions_of m.areas) (next_of left.stays left.md.value old.apps.md.state.value)) is (all.md left at);
+      lc = all.lc;
     }

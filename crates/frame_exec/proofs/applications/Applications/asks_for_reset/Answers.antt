@@ -4,7 +4,7 @@ use Rattle.std.specs.List.{list_any}
 use Rattle.std.proofs.lemmas.List.Folds.{list_any-append}
 use Rattle.frame_wires.specs.Sending.{is_reset}
 use Rattle.frame_wires.proofs.Offers.{reset_in_six}
-use Rattle.frame_exec.proofs.bench.Bench.asks_for_reset.Goals as goal
+use Rattle.frame_exec.proofs.applications.Applications.asks_for_reset.Goals as goal
 
 pub returns : goal.returns
 returns c =

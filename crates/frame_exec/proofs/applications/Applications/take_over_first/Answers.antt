@@ -6,7 +6,7 @@ use Rattle.mm_core.specs.declared.state.Mm.{Mm}
 use Rattle.app_suite.specs.declared.left.Left.{Left}
 use Rattle.app_suite.specs.Wakes.{next_of}
 use Rattle.app_suite.proofs.Taking.{none_given}
-use Rattle.frame_exec.proofs.bench.Bench.take_over.Goals as goal
+use Rattle.frame_exec.proofs.applications.Applications.take_over_first.Goals as goal
 
 pub returns-clause-over : goal.returns-clause-over
 returns-clause-over c =
@@ -21,7 +21,6 @@ returns-clause-over c =
     let count : length behind ≡ length c.args.self.now.crew.results = sc.count ∙ cs.count ∙ hs.count in
     let same = sym mm.from.1 ∙ get_or-set_same behind 3 gave mm.from.0 (omega (arith, count, c.requires.manned)) in
     record {
-      run = record { lines = refl; epoch = refl; number = refl; failed = refl; tables = refl };
       told = refl;
       hs = (hs.from.0, hs.from.1, (hs.from.2, hs.from.3));
       cs = (cs.from.0, sym (hs.others 1 cs.from.0 (omega arith)) ∙ cs.from.1, (cs.from.2, cs.from.3));
@@ -41,8 +40,6 @@ returns-clause-over c =
             ∙ sym (get_or-set_other behind 3 4 gave md.from.0 (omega arith)) ∙ sym (mm.others 4 md.from.0 (omega arith)) ∙ md.from.1,
         (md.from.2, md.from.3),
       );
-      wires = refl;
-      memory = refl;
     }
 
 pub returns-clause-none : goal.returns-clause-none

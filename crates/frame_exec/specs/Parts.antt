@@ -1,0 +1,78 @@
+-- What the parts of the bench keep and give.
+use Rattle.std.specs.Prelude.{◌≡◌, ℕ, false, not, List, [], ◌∷◌, slice_index_or}
+use Rattle.std.specs.List.{list_any}
+use Rattle.bus_pipes.specs.Pipes.{Pipes}
+use Rattle.bus_pipes.specs.declared.names.Out.{Out}
+use Rattle.app_suite.specs.declared.left.Left.{Left}
+use Rattle.app_suite.specs.Jobs.{LeftAs}
+use Rattle.app_suite.specs.Wakes.{HasTaken, next_of}
+use Rattle.frame_wires.specs.Sending.{is_same}
+use Rattle.memory_window.specs.declared.operations.MemOp.{MemOp}
+use Rattle.scenario.specs.declared.frame.App.{App}
+use Rattle.scenario.specs.declared.frame.App.TheVariants as names
+use Rattle.frame_exec.specs.declared.applications.Applications.{Applications}
+
+-- the states of the applications stay
+pub record KeepsApps (old new : Applications) : Type 0 where
+  pub hs : new.hs.state ≡ old.hs.state
+  pub cs : new.cs.state ≡ old.cs.state
+  pub sc : new.sc.state ≡ old.sc.state
+  pub mm : new.mm.state ≡ old.mm.state
+  pub md : new.md.state ≡ old.md.state
+  pub lc : new.lc.slot.state ≡ old.lc.slot.state
+
+-- the slots of the applications stay, and what was told of activations
+pub record KeepsSlots (old new : Applications) : Type 0 where
+  pub told : new.activations ≡ old.activations
+  pub hs : new.hs ≡ old.hs
+  pub cs : new.cs ≡ old.cs
+  pub sc : new.sc ≡ old.sc
+  pub mm : new.mm ≡ old.mm
+  pub md : new.md ≡ old.md
+  pub lc : new.lc ≡ old.lc
+
+-- what the applications gave, a list each, in their order
+abbrev pub given_in : Applications → List (List Out)
+given_in a = a.hs.out.items ∷ a.cs.out.items ∷ a.sc.out.items ∷ a.mm.out.items ∷ a.md.out.items ∷ a.lc.slot.out.items ∷ []
+
+-- the items of a frame: what was told of its activations, and behind it what the applications gave
+abbrev pub items_in : Applications → List (List Out)
+items_in a = a.activations.items ∷ given_in a
+
+-- no application gave anything yet
+pub record AreClear (a : Applications) : Type 0 where
+  pub hs : a.hs.out.items ≡ []
+  pub cs : a.cs.out.items ≡ []
+  pub sc : a.sc.out.items ≡ []
+  pub mm : a.mm.out.items ≡ []
+  pub md : a.md.out.items ≡ []
+  pub lc : a.lc.slot.out.items ≡ []
+
+-- each application took what its pipes held, unless it was held, and LC where its pipes are there; and gave nothing yet
+pub record TakeAll (held : List App) (pipes : Pipes) (old new : Applications) : Type 0 where
+  pub told : new.activations ≡ old.activations
+  pub hs : HasTaken (list_any (is_same names.Hs) held) pipes.hs new.hs.held new.hs.commands new.hs.out.items
+  pub events : list_any (is_same names.Hs) held ≡ false → new.events ≡ pipes.hs_ev
+  pub cs : HasTaken (list_any (is_same names.Cs) held) pipes.cs new.cs.held new.cs.commands new.cs.out.items
+  pub sc : HasTaken (list_any (is_same names.Sc) held) pipes.sc new.sc.held new.sc.commands new.sc.out.items
+  pub mm : HasTaken (list_any (is_same names.Mm) held) pipes.mm new.mm.held new.mm.commands new.mm.out.items
+  pub md : HasTaken (list_any (is_same names.Md) held) pipes.md new.md.held new.md.commands new.md.out.items
+  pub lc : HasTaken (not pipes.watched) pipes.lc new.lc.slot.held new.lc.slot.commands new.lc.slot.out.items
+  pub telemetry : not pipes.watched ≡ false → new.lc.telemetry.items ≡ pipes.lc_tlm
+
+-- the result of a job is one of which this holds
+abbrev pub HasLeft : Applications → ℕ → (Left → Type 0) → Type 0
+HasLeft a job P = LeftAs a.crew.results job P
+
+-- what was taken over is the result of a job
+abbrev pub IsTaken : Applications → ℕ → (Left → Type 0) → Type 0
+IsTaken a job P = (left : Left) × (slice_index_or a.crew.results job left ≡ left) × P left
+
+-- what the jobs left but LC's was taken over, and MM's operations
+pub record TakesOver (old new : Applications) (ops : List MemOp) : Type 0 where
+  pub told : new.activations ≡ old.activations
+  pub hs : IsTaken old 0 (λ left. (new.hs.state.value ≡ next_of left.stays left.hs.value old.hs.state.value) × (new.hs.out.items ≡ left.out.items))
+  pub cs : IsTaken old 1 (λ left. (new.cs.state.value ≡ next_of left.stays left.cs.value old.cs.state.value) × (new.cs.out.items ≡ left.out.items))
+  pub sc : IsTaken old 2 (λ left. (new.sc.state.value ≡ next_of left.stays left.sc.value old.sc.state.value) × (new.sc.out.items ≡ left.out.items))
+  pub mm : IsTaken old 3 (λ left. (new.mm.state.value ≡ next_of left.stays left.mm.value old.mm.state.value) × (new.mm.out.items ≡ left.out.items) × (ops ≡ left.ops.value))
+  pub md : IsTaken old 4 (λ left. (new.md.state.value ≡ next_of left.stays left.md.value old.md.state.value) × (new.md.out.items ≡ left.out.items))

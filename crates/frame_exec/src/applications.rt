@@ -1,0 +1,183 @@
+//! The applications of the bench.
+
+use crate::wires::Wires;
+use app_suite::{
+    CsSlot, Holds, HsSlot, LcSlot, Left, MdSlot, MmSlot, Naming, ScSlot, in_order, tell,
+};
+use bus_pipes::{Batch, Out, Outbox, PipeName};
+use crew_board::Crew;
+use frame_wires::{has_reset, take_unless};
+use memory_window::Ops;
+
+/// How many events of activations a frame has at most: one for each of its items.
+pub(crate) const EVENTS_ROOM: u32 = 64;
+
+/// The applications, with what each took and gave in a frame, and who wakes them.
+#[derive(Drop)]
+pub(crate) struct Applications {
+    // the events of the frame's activations, which are the first of its items
+    pub(crate) activations: Outbox,
+    pub(crate) hs: HsSlot,
+    // the packets that HS took from its pipe of events
+    pub(crate) events: Batch,
+    pub(crate) cs: CsSlot,
+    pub(crate) sc: ScSlot,
+    pub(crate) mm: MmSlot,
+    pub(crate) md: MdSlot,
+    pub(crate) lc: LcSlot,
+    // who wakes the applications, with what each left
+    pub(crate) crew: Crew<Left>,
+}
+
+impl Applications {
+    ghost use Rattle.std.specs.Prelude.{◌≡◌, ◌<◌, ◌≤◌, true, false, List, [], ◌∷◌, ◌++◌, length, slice_index_or};
+    ghost use Rattle.app_suite.specs.declared.left.Left.{Left};
+    ghost use Rattle.std.specs.List.{list_any};
+    ghost use Rattle.app_suite.specs.Activations.{table_event};
+    ghost use Rattle.app_suite.specs.Holding.{AreHeld};
+    ghost use Rattle.app_suite.specs.Jobs.{jobs_of};
+    ghost use Rattle.app_suite.specs.Wakes.{joined, next_of};
+    ghost use Rattle.frame_runs.specs.Runs.{left_by};
+    ghost use Rattle.frame_wires.specs.Sending.{is_reset, shown};
+    ghost use Rattle.scenario.specs.declared.frame.App.{App};
+    ghost use Rattle.frame_exec.specs.Parts.{AreClear, IsTaken, KeepsApps, TakeAll, TakesOver, given_in, items_in};
+
+    /// Forgets what an earlier frame told of activations.
+    #[inline(always)]
+    pub(crate) fn forget_told(&mut self)
+        ensures none { self.new.activations.items ≡ [] }
+        ensures room { self.new.activations.room ≡ self.old.activations.room }
+        ensures apps { KeepsApps self.old self.new }
+        ensures there { self.new.lc.there ≡ self.old.lc.there }
+        ensures jobs { self.new.crew.jobs ≡ self.old.crew.jobs }
+    {
+        self.activations.clear();
+    }
+
+    /// Tells what became of a file that a line named.
+    pub(crate) fn tell(&mut self, naming: Naming, time: u32)
+        requires room { length self.old.activations.items < self.old.activations.room }
+        ensures told { self.new.activations.items
+            ≡ self.old.activations.items ++ table_event time naming ∷ [] }
+        ensures room { self.new.activations.room ≡ self.old.activations.room }
+        ensures apps { KeepsApps self.old self.new }
+        ensures there { self.new.lc.there ≡ self.old.lc.there }
+        ensures jobs { self.new.crew.jobs ≡ self.old.crew.jobs }
+    {
+        tell(&mut self.activations, naming, time);
+    }
+
+    /// Each application but those that are held takes what its pipes hold.
+    #[inline(always)]
+    pub(crate) fn take_all_but(&mut self, wires: &mut Wires, holds: Holds)
+        requires there { self.old.lc.there ≡ wires.old.bus.watched }
+        ensures takes { (held : List App) → AreHeld held holds
+            → TakeAll held wires.old.bus self.old self.new }
+        ensures apps { KeepsApps self.old self.new }
+        ensures pipes { (held : List App) → AreHeld held holds
+            → wires.new.bus ≡ left_by held wires.old.bus }
+        ensures log { wires.new.log ≡ wires.old.log }
+        ensures there { self.new.lc.there ≡ self.old.lc.there }
+        ensures watched { wires.new.bus.watched ≡ wires.old.bus.watched }
+        ensures jobs { self.new.crew.jobs ≡ self.old.crew.jobs }
+        ensures room { self.new.activations.room ≡ self.old.activations.room }
+    {
+        self.hs.take(&mut wires.bus, PipeName::Hs, holds.hs);
+        take_unless(&mut wires.bus, PipeName::HsEv, holds.hs, &mut self.events);
+        self.cs.take(&mut wires.bus, PipeName::Cs, holds.cs);
+        self.sc.take(&mut wires.bus, PipeName::Sc, holds.sc);
+        self.mm.take(&mut wires.bus, PipeName::Mm, holds.mm);
+        self.md.take(&mut wires.bus, PipeName::Md, holds.md);
+        self.lc.take(&mut wires.bus);
+    }
+
+    /// Takes over what the jobs left, in the order of the applications, and tells whether no item was given.
+    #[inline(always)]
+    pub(crate) fn take_over(&mut self, ops: &mut Box<Ops>) -> bool
+        requires manned { length self.old.crew.results ≡ jobs_of self.old.lc.there }
+        requires clear { AreClear self.old }
+        requires empty { ops.old.value ≡ [] }
+        ensures over { TakesOver self.old self.new ops.new.value }
+        ensures lc { self.old.lc.there ≡ true → IsTaken self.old 5 (λ left. (self.new.lc.slot.state.value
+            ≡ next_of left.stays left.lc.value self.old.lc.slot.state.value)
+            × (self.new.lc.slot.out.items ≡ left.out.items)) }
+        ensures away { self.old.lc.there ≡ false → self.new.lc ≡ self.old.lc }
+        ensures there { self.new.lc.there ≡ self.old.lc.there }
+        ensures jobs { self.new.crew.jobs ≡ self.old.crew.jobs }
+        ensures none { result ≡ true → joined (given_in self.new) ≡ [] }
+    {
+        let none = self.take_over_first(ops);
+        if !self.lc.there {
+            return none;
+        }
+        none & self.lc.take_over(&mut self.crew)
+    }
+
+    /// Takes over what the jobs left but LC's, in the order of the applications, and tells whether no item was given.
+    #[inline(always)]
+    fn take_over_first(&mut self, ops: &mut Box<Ops>) -> bool
+        requires manned { 5 ≤ length self.old.crew.results }
+        requires clear { AreClear self.old }
+        requires empty { ops.old.value ≡ [] }
+        ensures over { TakesOver self.old self.new ops.new.value }
+        ensures lc { self.new.lc ≡ self.old.lc }
+        ensures last { (left : Left) → slice_index_or self.new.crew.results 5 left
+            ≡ slice_index_or self.old.crew.results 5 left }
+        ensures count { length self.new.crew.results ≡ length self.old.crew.results }
+        ensures jobs { self.new.crew.jobs ≡ self.old.crew.jobs }
+        ensures none { result ≡ true → joined (given_in self.new) ≡ [] }
+    {
+        let hs = self.hs.take_over(&mut self.crew, 0);
+        let cs = self.cs.take_over(&mut self.crew, 1);
+        let sc = self.sc.take_over(&mut self.crew, 2);
+        let left = self.crew.result_mut(3);
+        left.give_operations(ops);
+        let mm = self.mm.take_over(&mut self.crew, 3);
+        let md = self.md.take_over(&mut self.crew, 4);
+        hs & cs & sc & mm & md
+    }
+
+    /// What was told of activations, and behind it what the applications gave, a list each, in their order.
+    #[inline(always)]
+    pub(crate) fn in_order(&self) -> [&[Out]; 7]
+        ensures shown { shown result ≡ joined (items_in self.now) }
+    {
+        in_order(
+            &self.activations,
+            &self.hs,
+            &self.cs,
+            &self.sc,
+            &self.mm,
+            &self.md,
+            &self.lc,
+        )
+    }
+
+    /// Whether an item asks for a processor reset.
+    pub(crate) fn asks_for_reset(&self) -> bool
+        ensures { result ≡ list_any is_reset (joined (items_in self.now)) }
+    {
+        let told = has_reset(self.activations.items());
+        let given = has_reset(self.hs.out.items())
+            | has_reset(self.cs.out.items())
+            | has_reset(self.sc.out.items())
+            | has_reset(self.mm.out.items())
+            | has_reset(self.md.out.items())
+            | has_reset(self.lc.slot.out.items());
+        told | given
+    }
+
+    /// Whether nothing was told of activations nor given in the frame that was run.
+    #[inline(always)]
+    pub(crate) fn gave_nothing(&self) -> bool
+        ensures { result ≡ true → joined (items_in self.now) ≡ [] }
+    {
+        self.activations.is_empty()
+            && self.hs.out.is_empty()
+            && self.cs.out.is_empty()
+            && self.sc.out.is_empty()
+            && self.mm.out.is_empty()
+            && self.md.out.is_empty()
+            && self.lc.slot.out.is_empty()
+    }
+}
