@@ -131,12 +131,14 @@ module _ (counters : List Counter) (old middle new : Bench) (woken : AreWoken co
       let slots = woken.slots in
       let land = (woken.mm taken.mm.0 taken.mm.1).1.can_land in
       record {
-        hs = sendable_hs;
-        cs = taken_sendable _ _ _ _ _ _ _ _ _ _ _ _ _ (woken.cs taken.cs.0 taken.cs.1) (ap (λ slot. slot.state.value) slots.cs) taken.cs.2.0 taken.cs.2.1;
-        sc = taken_sendable _ _ _ _ _ _ _ _ _ _ _ _ _ (woken.sc taken.sc.0 taken.sc.1).0 (ap (λ slot. slot.state.value) slots.sc) taken.sc.2.0 taken.sc.2.1;
-        mm = taken_sendable _ _ _ _ _ _ _ _ _ _ _ _ _ (woken.mm taken.mm.0 taken.mm.1).0 (ap (λ slot. slot.state.value) slots.mm) taken.mm.2.0 taken.mm.2.1;
-        md = taken_sendable _ _ _ _ _ _ _ _ _ _ _ _ _ (woken.md taken.md.0 taken.md.1).0 (ap (λ slot. slot.state.value) slots.md) taken.md.2.0 taken.md.2.1;
-        lc = lc_sendable middle.apps.lc.there refl clear;
+        apps = record {
+          hs = sendable_hs;
+          cs = taken_sendable _ _ _ _ _ _ _ _ _ _ _ _ _ (woken.cs taken.cs.0 taken.cs.1) (ap (λ slot. slot.state.value) slots.cs) taken.cs.2.0 taken.cs.2.1;
+          sc = taken_sendable _ _ _ _ _ _ _ _ _ _ _ _ _ (woken.sc taken.sc.0 taken.sc.1).0 (ap (λ slot. slot.state.value) slots.sc) taken.sc.2.0 taken.sc.2.1;
+          mm = taken_sendable _ _ _ _ _ _ _ _ _ _ _ _ _ (woken.mm taken.mm.0 taken.mm.1).0 (ap (λ slot. slot.state.value) slots.mm) taken.mm.2.0 taken.mm.2.1;
+          md = taken_sendable _ _ _ _ _ _ _ _ _ _ _ _ _ (woken.md taken.md.0 taken.md.1).0 (ap (λ slot. slot.state.value) slots.md) taken.md.2.0 taken.md.2.1;
+          lc = lc_sendable middle.apps.lc.there refl clear;
+        };
         operations = subst (λ (t : Loaded). CanLand (loads_of t.files) new.memory.ram new.memory.ops.value) (sym same_tables)
             (subst (λ (m : Memory). CanLand (loads_in old) m new.memory.ops.value) (sym same_memory) (subst (λ (ops : List MemOp). CanLand (loads_in old) old.memory.ram ops) (sym taken.mm.2.2) land));
       }

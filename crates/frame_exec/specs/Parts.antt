@@ -1,16 +1,25 @@
 -- What the parts of the bench keep and give.
-use Rattle.std.specs.Prelude.{◌≡◌, ℕ, false, not, List, [], ◌∷◌, slice_index_or}
-use Rattle.std.specs.List.{list_any}
+use Rattle.std.specs.Prelude.{◌≡◌, ℕ, false, not, List, [], ◌∷◌, ◌++◌, length, slice_index_or}
+use Rattle.std.specs.List.{flat_map, list_any}
 use Rattle.bus_pipes.specs.Pipes.{Pipes}
 use Rattle.bus_pipes.specs.declared.names.Out.{Out}
 use Rattle.app_suite.specs.declared.left.Left.{Left}
 use Rattle.app_suite.specs.Jobs.{LeftAs}
-use Rattle.app_suite.specs.Wakes.{HasTaken, next_of}
-use Rattle.frame_wires.specs.Sending.{is_same}
+use Rattle.app_suite.specs.Wakes.{HasTaken, AreSendable, joined, next_of}
+use Rattle.frame_wires.specs.Sending.{is_same, sent_of}
+use Rattle.packet_log.specs.Sent.{makes}
+use Rattle.packet_log.specs.Standing.{Stands as LogStands}
+use Rattle.md_dwell.specs.declared.step.TheConstants.{MOST_ITEMS as md_most}
+use Rattle.cs_slices.specs.declared.step.TheConstants.{MOST_ITEMS as cs_most}
+use Rattle.sc_sequences.specs.declared.step.TheConstants.{MOST_ITEMS as sc_most}
+use Rattle.mm_core.specs.declared.step.TheConstants.{MOST_ITEMS as mm_most}
+use Rattle.hs_monitors.specs.declared.step.TheConstants.{MOST_ITEMS as hs_most}
+use Rattle.lc_watch.specs.declared.step.TheConstants.{MOST_ITEMS as lc_most}
 use Rattle.memory_window.specs.declared.operations.MemOp.{MemOp}
 use Rattle.scenario.specs.declared.frame.App.{App}
 use Rattle.scenario.specs.declared.frame.App.TheVariants as names
 use Rattle.frame_exec.specs.declared.applications.Applications.{Applications}
+use Rattle.frame_exec.specs.declared.wires.Wires.{Wires}
 
 -- the states of the applications stay
 pub record KeepsApps (old new : Applications) : Type 0 where
@@ -76,3 +85,21 @@ pub record TakesOver (old new : Applications) (ops : List MemOp) : Type 0 where
   pub sc : IsTaken old 2 (λ left. (new.sc.state.value ≡ next_of left.stays left.sc.value old.sc.state.value) × (new.sc.out.items ≡ left.out.items))
   pub mm : IsTaken old 3 (λ left. (new.mm.state.value ≡ next_of left.stays left.mm.value old.mm.state.value) × (new.mm.out.items ≡ left.out.items) × (ops ≡ left.ops.value))
   pub md : IsTaken old 4 (λ left. (new.md.state.value ≡ next_of left.stays left.md.value old.md.state.value) × (new.md.out.items ≡ left.out.items))
+
+-- what each application gave can be sent
+pub record CanBeSent (a : Applications) : Type 0 where
+  pub hs : AreSendable hs_most a.hs.out.items
+  pub cs : AreSendable cs_most a.cs.out.items
+  pub sc : AreSendable sc_most a.sc.out.items
+  pub mm : AreSendable mm_most a.mm.out.items
+  pub md : AreSendable md_most a.md.out.items
+  pub lc : AreSendable lc_most a.lc.slot.out.items
+
+-- the items got their sequence counts: they are as they are sent, behind the packets that the wires counted before
+pub record AreStamped (before after : Wires) (old new : Applications) : Type 0 where
+  pub apps : KeepsApps old new
+  pub sent : (made : List (List ℕ)) → LogStands made before.log → joined (items_in new) ≡ sent_of made (joined (items_in old))
+  pub made : (made : List (List ℕ)) → LogStands made before.log → LogStands (made ++ flat_map makes (joined (items_in old))) after.log
+  pub few : length (joined (items_in new)) ≡ length (joined (items_in old))
+  pub pipes : after.bus ≡ before.bus
+  pub drops : after.drops ≡ before.drops

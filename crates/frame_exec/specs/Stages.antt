@@ -27,12 +27,12 @@ use Rattle.frame_exec.specs.declared.bench.Bench.{Bench}
 use Rattle.active_tables.specs.Tables.{TableSet}
 use Rattle.frame_wires.specs.Sending.{upset_by, sent_of, is_reset, offered}
 use Rattle.packet_log.specs.Sent.{makes}
-use Rattle.app_suite.specs.Wakes.{joined, unless, AreSendable, IsWoken, next_of}
+use Rattle.app_suite.specs.Wakes.{joined, unless, IsWoken, next_of}
 use Rattle.app_suite.specs.Applications.{Active, cs_tables, lc_setup, hs_stands, cs_stands, sc_stands, mm_stands, md_stands, lc_stands, hs_gives, cs_gives, sc_gives, mm_gives, md_gives, lc_gives, hs_reads, cs_reads, sc_reads, mm_reads, md_reads, lc_reads}
 use Rattle.frame_runs.specs.Runs.{Setup, State, after_activation, activated_at, run_of, table_events, image_at, items_at, operations_at, left_by, sent_at, resets_at, offers_at, after_wakeups, behind}
 use Rattle.app_suite.specs.Landable.{CanLand}
 use Rattle.app_suite.specs.Jobs.{Gives, Operates, jobs_of}
-use Rattle.frame_exec.specs.Parts.{KeepsApps, KeepsSlots, AreClear, TakeAll, items_in, HasLeft}
+use Rattle.frame_exec.specs.Parts.{KeepsApps, KeepsSlots, AreClear, CanBeSent, TakeAll, items_in, HasLeft}
 use Rattle.frame_exec.specs.Standing.{AppsStand, Has}
 
 -- the time of the frame that comes
@@ -142,25 +142,8 @@ pub record AreWoken (counters : List Counter) (old new : Bench) : Type 0 where
 
 -- what the wakeups leave can be sent, and landed on the frame's image
 pub record CanSend (b : Bench) : Type 0 where
-  pub hs : AreSendable hs_most b.apps.hs.out.items
-  pub cs : AreSendable cs_most b.apps.cs.out.items
-  pub sc : AreSendable sc_most b.apps.sc.out.items
-  pub mm : AreSendable mm_most b.apps.mm.out.items
-  pub md : AreSendable md_most b.apps.md.out.items
-  pub lc : AreSendable lc_most b.apps.lc.slot.out.items
+  pub apps : CanBeSent b.apps
   pub operations : CanLand (loads_in b) b.memory.ram b.memory.ops.value
-
--- the items got their sequence counts: they are as they are sent
-pub record IsStamped (old new : Bench) : Type 0 where
-  pub run : IsSameRun old new
-  pub apps : KeepsApps old.apps new.apps
-  pub sent : (made : List (List ℕ)) → LogStands made old.wires.log → joined (items_in new.apps) ≡ sent_of made (joined (items_in old.apps))
-  pub made : (made : List (List ℕ)) → LogStands made old.wires.log → LogStands (made ++ flat_map makes (joined (items_in old.apps))) new.wires.log
-  pub few : length (joined (items_in new.apps)) ≡ length (joined (items_in old.apps))
-  pub resets : new.resets ≡ old.resets
-  pub pipes : new.wires.bus ≡ old.wires.bus
-  pub drops : new.wires.drops ≡ old.wires.drops
-  pub memory : new.memory ≡ old.memory
 
 -- the items were sent behind these packets
 pub record Sends (sends : List (List ℕ)) (old new : Bench) : Type 0 where

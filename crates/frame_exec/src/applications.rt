@@ -32,7 +32,8 @@ pub(crate) struct Applications {
 impl Applications {
     ghost use Rattle.std.specs.Prelude.{◌≡◌, ◌<◌, ◌≤◌, true, false, List, [], ◌∷◌, ◌++◌, length, slice_index_or};
     ghost use Rattle.app_suite.specs.declared.left.Left.{Left};
-    ghost use Rattle.std.specs.List.{list_any};
+    ghost use Rattle.std.specs.List.{AllPass, list_any};
+    ghost use Rattle.bus_pipes.specs.Counted.{is_item_counted};
     ghost use Rattle.app_suite.specs.Activations.{table_event};
     ghost use Rattle.app_suite.specs.Holding.{AreHeld};
     ghost use Rattle.app_suite.specs.Jobs.{jobs_of};
@@ -40,7 +41,7 @@ impl Applications {
     ghost use Rattle.frame_runs.specs.Runs.{left_by};
     ghost use Rattle.frame_wires.specs.Sending.{is_reset, shown};
     ghost use Rattle.scenario.specs.declared.frame.App.{App};
-    ghost use Rattle.frame_exec.specs.Parts.{AreClear, IsTaken, KeepsApps, TakeAll, TakesOver, given_in, items_in};
+    ghost use Rattle.frame_exec.specs.Parts.{AreClear, AreStamped, CanBeSent, IsTaken, KeepsApps, TakeAll, TakesOver, given_in, items_in};
 
     /// Forgets what an earlier frame told of activations.
     #[inline(always)]
@@ -135,6 +136,24 @@ impl Applications {
         let mm = self.mm.take_over(&mut self.crew, 3);
         let md = self.md.take_over(&mut self.crew, 4);
         hs & cs & sc & mm & md
+    }
+
+    /// Gives the items their sequence counts.
+    pub(crate) fn stamp(&mut self, wires: &mut Wires)
+        requires told { AllPass is_item_counted self.old.activations.items }
+        requires can { CanBeSent self.old }
+        ensures stamped { AreStamped wires.old wires.new self.old self.new }
+        ensures there { self.new.lc.there ≡ self.old.lc.there }
+        ensures jobs { self.new.crew.jobs ≡ self.old.crew.jobs }
+        ensures room { self.new.activations.room ≡ self.old.activations.room }
+    {
+        wires.stamp(&mut self.activations);
+        wires.stamp(&mut self.hs.out);
+        wires.stamp(&mut self.cs.out);
+        wires.stamp(&mut self.sc.out);
+        wires.stamp(&mut self.mm.out);
+        wires.stamp(&mut self.md.out);
+        wires.stamp(&mut self.lc.slot.out);
     }
 
     /// What was told of activations, and behind it what the applications gave, a list each, in their order.

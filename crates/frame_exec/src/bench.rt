@@ -65,7 +65,7 @@ impl<'f> Bench<'f> {
     ghost use Rattle.std.specs.List.{AllPass};
     ghost use Rattle.bus_pipes.specs.Counted.{is_item_counted};
     ghost use Rattle.table_files.specs.Files.{kind_at};
-    ghost use Rattle.frame_exec.specs.Stages.{GoesOn, NamesFile, Activates, IsUpset, Takes, Enters, Arrives, CanSend, Sends, RunsIn, IsSameFrame, Lands, StartsAnew, IsStamped, HasGiven, loads_in, lines_in};
+    ghost use Rattle.frame_exec.specs.Stages.{GoesOn, NamesFile, Activates, IsUpset, Takes, Enters, Arrives, CanSend, Sends, RunsIn, IsSameFrame, Lands, StartsAnew, HasGiven, loads_in, lines_in};
     ghost use Rattle.frame_exec.specs.Parts.{items_in, given_in};
     ghost use Rattle.app_suite.specs.Holding.{AreHeld};
     ghost use Rattle.app_suite.specs.Wakes.{joined};
@@ -475,28 +475,13 @@ impl<'f> Bench<'f> {
         ensures { Sends input.now.sends self.old self.new }
     {
         self.resets = self.apps.asks_for_reset();
-        self.stamp();
+        self.apps.stamp(&mut self.wires);
         if self.resets {
             return;
         }
         self.wires.deliver(input.sends());
         let lists = self.apps.in_order();
         self.wires.deliver_lists(&lists);
-    }
-
-    /// Gives the items their sequence counts.
-    fn stamp(&mut self)
-        requires can { CanSend self.old }
-        requires told { AllPass is_item_counted self.old.apps.activations.items }
-        ensures { IsStamped self.old self.new }
-    {
-        self.wires.stamp(&mut self.apps.activations);
-        self.wires.stamp(&mut self.apps.hs.out);
-        self.wires.stamp(&mut self.apps.cs.out);
-        self.wires.stamp(&mut self.apps.sc.out);
-        self.wires.stamp(&mut self.apps.mm.out);
-        self.wires.stamp(&mut self.apps.md.out);
-        self.wires.stamp(&mut self.apps.lc.slot.out);
     }
 
     /// Does what comes before the wakeups of a frame: makes the tables active that it names, writes its upsets, and lets each application

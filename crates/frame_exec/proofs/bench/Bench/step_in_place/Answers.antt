@@ -56,12 +56,14 @@ returns-clause-can_send g c =
     let b = c.args.self.now in
     let left = operates (loads_in b) b.apps.mm.held (b.epoch + b.number) b.apps.mm.commands (seen c.window.result) c.wake_in_place-mm.new.beside c.wake_in_place-mm.ensures.held c.wake_in_place-mm.ensures.fills in
     record {
-      hs = c.wake_in_place-hs.ensures.sendable;
-      cs = c.wake_in_place-cs.ensures.sendable;
-      sc = c.wake_in_place-sc.ensures.sendable;
-      mm = c.wake_in_place-mm.ensures.sendable;
-      md = c.wake_in_place-md.ensures.sendable;
-      lc = c.wake_in_place-lc.ensures.sendable;
+      apps = record {
+        hs = c.wake_in_place-hs.ensures.sendable;
+        cs = c.wake_in_place-cs.ensures.sendable;
+        sc = c.wake_in_place-sc.ensures.sendable;
+        mm = c.wake_in_place-mm.ensures.sendable;
+        md = c.wake_in_place-md.ensures.sendable;
+        lc = c.wake_in_place-lc.ensures.sendable;
+      };
       operations = subst (λ (m : Memory). CanLand (loads_in b) m c.wake_in_place-mm.new.beside) c.window.ensures.window left.can_land;
     }
 
@@ -113,12 +115,14 @@ returns-then-all_rest-clause-can_send g c =
     let all = six_parts c.rests-hs_rests.result c.rests-cs_rests.result c.rests-sc_rests.result c.rests-mm_rests.result c.rests-md_rests.result c.rests-lc_rests.result c.if-all_rest.true in
     let left = operates (loads_in b) b.apps.mm.held (b.epoch + b.number) b.apps.mm.commands (seen c.window.result) b.memory.ops.value (λ held. clear.operations) (λ here. c.rests-mm_rests.ensures.fills b.memory.ops.value all.3 here clear.operations) in
     record {
-      hs = none_sendable _ _ clear.apps.hs;
-      cs = none_sendable _ _ clear.apps.cs;
-      sc = none_sendable _ _ clear.apps.sc;
-      mm = none_sendable _ _ clear.apps.mm;
-      md = none_sendable _ _ clear.apps.md;
-      lc = none_sendable _ _ clear.apps.lc;
+      apps = record {
+        hs = none_sendable _ _ clear.apps.hs;
+        cs = none_sendable _ _ clear.apps.cs;
+        sc = none_sendable _ _ clear.apps.sc;
+        mm = none_sendable _ _ clear.apps.mm;
+        md = none_sendable _ _ clear.apps.md;
+        lc = none_sendable _ _ clear.apps.lc;
+      };
       operations = subst (λ (m : Memory). CanLand (loads_in b) m b.memory.ops.value) c.window.ensures.window left.can_land;
     }
 

@@ -5,24 +5,23 @@ use Rattle.packet_log.specs.Sent.{makes}
 use Rattle.packet_log.specs.Standing.{Stands as LogStands}
 use Rattle.frame_wires.proofs.Offers.{six_as_long}
 use Rattle.frame_wires.proofs.Stamping.{sent_none, sent_then, made_two}
-use Rattle.frame_exec.proofs.bench.Bench.stamp.Goals as goal
+use Rattle.frame_exec.proofs.applications.Applications.stamp.Goals as goal
 
 -- two lists, one behind the other, that are each as long as another
 as_long : (told stamped given sent : List Out) → length stamped ≡ length told → length sent ≡ length given → length (stamped ++ sent) ≡ length (told ++ given)
 as_long told stamped given sent one two = length-append stamped sent ∙ ap (λ (n : ℕ). n + length sent) one ∙ ap (λ (n : ℕ). length told + n) two ∙ sym (length-append told given)
 
-pub returns : goal.returns
-returns c =
+pub returns-clause-stamped : goal.returns-clause-stamped
+returns-clause-stamped c =
     let old = c.args.self.now in
-    let told = old.apps.activations.items in
-    let hs = old.apps.hs.out.items in
-    let cs = old.apps.cs.out.items in
-    let sc = old.apps.sc.out.items in
-    let mm = old.apps.mm.out.items in
-    let md = old.apps.md.out.items in
-    let lc = old.apps.lc.slot.out.items in
+    let told = old.activations.items in
+    let hs = old.hs.out.items in
+    let cs = old.cs.out.items in
+    let sc = old.sc.out.items in
+    let mm = old.mm.out.items in
+    let md = old.md.out.items in
+    let lc = old.lc.slot.out.items in
     record {
-      run = record { lines = refl; epoch = refl; number = refl; failed = refl; tables = refl };
       apps = record { hs = refl; cs = refl; sc = refl; mm = refl; md = refl; lc = refl };
       sent = λ made stands.
           let first = c.stamp.ensures.stands made stands in
@@ -57,8 +56,6 @@ returns c =
           (made_two (((((before ++ flat_map makes hs) ++ flat_map makes cs) ++ flat_map makes sc) ++ flat_map makes mm) ++ flat_map makes md) lc [] _ (subst (λ (packets : List (List ℕ)). LogStands packets c.stamp-7.new.self.log) (sym (append-nil _)) six)))))));
       few = as_long told _ (hs ++ (cs ++ (sc ++ (mm ++ (md ++ (lc ++ [])))))) _ c.stamp.ensures.few
           (six_as_long hs cs sc mm md lc _ _ _ _ _ _ c.stamp-2.ensures.few c.stamp-3.ensures.few c.stamp-4.ensures.few c.stamp-5.ensures.few c.stamp-6.ensures.few c.stamp-7.ensures.few);
-      resets = refl;
       pipes = c.stamp-7.ensures.pipes ∙ c.stamp-6.ensures.pipes ∙ c.stamp-5.ensures.pipes ∙ c.stamp-4.ensures.pipes ∙ c.stamp-3.ensures.pipes ∙ c.stamp-2.ensures.pipes ∙ c.stamp.ensures.pipes;
       drops = c.stamp-7.ensures.drops ∙ c.stamp-6.ensures.drops ∙ c.stamp-5.ensures.drops ∙ c.stamp-4.ensures.drops ∙ c.stamp-3.ensures.drops ∙ c.stamp-2.ensures.drops ∙ c.stamp.ensures.drops;
-      memory = refl;
     }
