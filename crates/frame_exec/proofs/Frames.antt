@@ -18,21 +18,17 @@ use Rattle.frame_exec.specs.declared.applications.Applications.{Applications}
 use Rattle.frame_exec.specs.declared.wires.Wires.{Wires}
 use Rattle.frame_exec.specs.declared.memory.Memory.{Memory as BenchMemory}
 use Rattle.hs_monitors.specs.Histories.{setup_of}
-use Rattle.hs_monitors.specs.State.{Stands as HsStands}
 use Rattle.hs_monitors.specs.Step.{resets_made, resets_maximum}
 use Rattle.hs_monitors.specs.declared.state.Hs.{Hs}
-use Rattle.mm_core.specs.State.{Stands as MmStands}
 use Rattle.mm_core.specs.declared.state.Mm.{Mm}
 use Rattle.sc_sequences.specs.Histories.{begun_at}
-use Rattle.sc_sequences.specs.State.{Stands as ScStands, IsReady as ScIsReady}
+use Rattle.sc_sequences.specs.State.{IsReady as ScIsReady}
 use Rattle.sc_sequences.specs.declared.state.Sc.{Sc}
 use Rattle.sc_sequences.proofs.Loaded.{tables_begun as sc_begun}
-use Rattle.cs_slices.specs.State.{Stands as CsStands}
 use Rattle.cs_slices.specs.declared.state.Cs.{Cs}
 use Rattle.cs_slices.proofs.Histories.{tables_begun as cs_begun}
 use Rattle.md_dwell.specs.declared.state.Md.{Md}
-use Rattle.md_dwell.specs.State.{Stands as MdStands, AllGiven}
-use Rattle.lc_watch.specs.State.{Stands as LcStands}
+use Rattle.md_dwell.specs.State.{AllGiven}
 use Rattle.lc_watch.specs.declared.state.Lc.{Lc}
 use Rattle.active_tables.specs.Tables.{TableSet, Loaded, AreGiven, tables_of, lc_named}
 use Rattle.app_suite.specs.Applications.{cs_tables, hs_setup, lc_setup, hs_stands, cs_stands, sc_stands, mm_stands, md_stands, lc_stands}
@@ -41,7 +37,7 @@ use Rattle.frame_runs.specs.Runs.{Setup, State, time_at, active_in, beginning, a
 use Rattle.frame_exec.specs.Standing.{AppsStand, Has, IsReady, Stands, CanRun}
 use Rattle.app_suite.specs.Landable.{CanLand}
 use Rattle.app_suite.specs.Wakes.{joined}
-use Rattle.frame_exec.specs.Parts.{KeepsApps, items_in}
+use Rattle.frame_exec.specs.Parts.{HistoriesBegin, KeepsApps, items_in}
 use Rattle.frame_exec.specs.Stages.{RunsIn, IsSameFrame, Lands, StartsAnew, HasGiven, loads_in}
 use Rattle.frame_runs.proofs.Frames.{run_more, activated_number, run_number, run_regions}
 
@@ -134,22 +130,22 @@ can_land_still before middle same can =
 
 -- a bench whose histories begin: with this number of frames, at this time of SC, and with these resets of HS
 pub has_begun : (b : Bench) (setup : Setup) (number began resets limit : ℕ) (pipes : Pipes) (made : List (List ℕ)) (memory : Memory) → b.number ≡ number → b.tables.set ≡ tables_of setup.files
-    → HsStands (setup_of b.tables.set.hs resets limit) [] b.apps.hs.state.value → CsStands (cs_tables b.tables.set) [] b.apps.cs.state.value → ScStands (begun_at began b.tables.set.sc) [] b.apps.sc.state.value
-    → MmStands [] b.apps.mm.state.value → MdStands b.tables.set.dwells [] b.apps.md.state.value → LcStands b.tables.set.wdt b.tables.set.adt [] b.apps.lc.slot.state.value → b.wires.bus ≡ pipes → LogStands made b.wires.log → b.memory.ram ≡ memory
+    → HistoriesBegin b.tables.set began resets limit b.apps → b.wires.bus ≡ pipes → LogStands made b.wires.log → b.memory.ram ≡ memory
     → Has b (record (beginning setup) { number = number; began = began; resets = resets; limit = limit; pipes = pipes; made = made; memory = memory })
 unfolding beginning
-has_begun b setup number began resets limit pipes made memory numbered tables hs cs sc mm md lc held log image =
+has_begun b setup number began resets limit pipes made memory numbered tables begins held log image =
     let set = tables_of setup.files in
+    let begun = subst (λ (t : TableSet). HistoriesBegin t began resets limit b.apps) tables begins in
     record {
       number = numbered;
       tables = tables;
       apps = record {
-        hs = (sym (hs_begun (setup_of set.hs resets limit)), subst (λ (t : TableSet). HsStands (setup_of t.hs resets limit) [] b.apps.hs.state.value) tables hs);
-        cs = (sym (cs_begun (cs_tables set)), subst (λ (t : TableSet). CsStands (cs_tables t) [] b.apps.cs.state.value) tables cs);
-        sc = (sym (sc_begun (begun_at began set.sc)), subst (λ (t : TableSet). ScStands (begun_at began t.sc) [] b.apps.sc.state.value) tables sc);
-        mm = mm;
-        md = subst (λ (t : TableSet). MdStands t.dwells [] b.apps.md.state.value) tables md;
-        lc = subst (λ (t : TableSet). LcStands t.wdt t.adt [] b.apps.lc.slot.state.value) tables lc;
+        hs = (sym (hs_begun (setup_of set.hs resets limit)), begun.hs);
+        cs = (sym (cs_begun (cs_tables set)), begun.cs);
+        sc = (sym (sc_begun (begun_at began set.sc)), begun.sc);
+        mm = begun.mm;
+        md = begun.md;
+        lc = begun.lc;
       };
       pipes = held;
       made = log;
@@ -166,15 +162,15 @@ ready_begun b regions same sequences dwells given = record {
 
 -- a bench that was opened stands for no frames
 pub stands_opened : (b : Bench) (setup : Setup) → b.epoch ≡ setup.epoch → b.tables.files ≡ setup.files → b.failed ≡ false → b.lines.block ≡ empty_block → b.number ≡ 0 → b.tables.set ≡ tables_of setup.files
-    → HsStands (setup_of b.tables.set.hs 0 3) [] b.apps.hs.state.value → CsStands (cs_tables b.tables.set) [] b.apps.cs.state.value → ScStands (begun_at setup.epoch b.tables.set.sc) [] b.apps.sc.state.value → MmStands [] b.apps.mm.state.value
-    → MdStands b.tables.set.dwells [] b.apps.md.state.value → LcStands b.tables.set.wdt b.tables.set.adt [] b.apps.lc.slot.state.value → AreGiven setup.regions b.tables → ScIsReady b.tables.set.sc b.apps.sc.state.value → AllGiven setup.regions b.apps.md.state.value → b.wires.bus ≡ empty_pipes (lc_named setup.files) → LogStands [] b.wires.log → b.memory.ram ≡ start_memory setup.regions → Stands b setup []
+    → HistoriesBegin b.tables.set setup.epoch 0 3 b.apps → AreGiven setup.regions b.tables → ScIsReady b.tables.set.sc b.apps.sc.state.value → AllGiven setup.regions b.apps.md.state.value
+    → b.wires.bus ≡ empty_pipes (lc_named setup.files) → LogStands [] b.wires.log → b.memory.ram ≡ start_memory setup.regions → Stands b setup []
 unfolding run_of beginning
-stands_opened b setup epoch files well waits number tables hs cs sc mm md lc given sequences dwells pipes made memory = record {
+stands_opened b setup epoch files well waits number tables begins given sequences dwells pipes made memory = record {
   epoch = epoch;
   files = files;
   well = well;
   waits = waits;
-  has = has_begun b setup 0 setup.epoch 0 3 (empty_pipes (lc_named setup.files)) [] (start_memory setup.regions) number tables hs cs sc mm md lc pipes made memory;
+  has = has_begun b setup 0 setup.epoch 0 3 (empty_pipes (lc_named setup.files)) [] (start_memory setup.regions) number tables begins pipes made memory;
   ready = ready_begun b setup.regions (ap (λ (m : Memory). regions_of m.areas) memory ∙ regions-cut setup.regions _) sequences dwells given;
 }
 

@@ -12,4 +12,3 @@ pub mod Following
 pub mod Beside
 pub mod Kinds
 pub mod Stages
-pub mod Opening

@@ -1,12 +1,24 @@
 -- What the parts of the bench keep and give.
-use Rattle.std.specs.Prelude.{◌≡◌, ℕ, false, not, List, [], ◌∷◌, ◌++◌, length, slice_index_or}
+use Rattle.std.specs.Prelude.{◌≡◌, ℕ, Bool, false, not, List, [], ◌∷◌, ◌++◌, length, slice_index_or}
 use Rattle.std.specs.List.{flat_map, list_any}
-use Rattle.bus_pipes.specs.Pipes.{Pipes}
+use Rattle.bus_pipes.specs.Pipes.{Pipes, empty_pipes}
 use Rattle.bus_pipes.specs.declared.names.Out.{Out}
 use Rattle.app_suite.specs.declared.left.Left.{Left}
 use Rattle.app_suite.specs.Jobs.{LeftAs}
 use Rattle.app_suite.specs.Wakes.{HasTaken, AreSendable, joined, next_of}
 use Rattle.frame_wires.specs.Sending.{is_same, sent_of}
+use Rattle.active_tables.specs.Tables.{TableSet}
+use Rattle.app_suite.specs.Applications.{cs_tables}
+use Rattle.hs_monitors.specs.Histories.{setup_of}
+use Rattle.hs_monitors.specs.State.{Stands as HsStands}
+use Rattle.cs_slices.specs.State.{Stands as CsStands}
+use Rattle.sc_sequences.specs.Histories.{begun_at}
+use Rattle.sc_sequences.specs.State.{Stands as ScStands, IsReady as ScIsReady}
+use Rattle.mm_core.specs.State.{Stands as MmStands}
+use Rattle.md_dwell.specs.Given.{TablesGiven}
+use Rattle.md_dwell.specs.State.{Stands as MdStands, AllGiven}
+use Rattle.lc_watch.specs.State.{Stands as LcStands}
+use Rattle.memory_window.specs.declared.regions.Region.{Region}
 use Rattle.packet_log.specs.Sent.{makes}
 use Rattle.packet_log.specs.Standing.{Stands as LogStands}
 use Rattle.md_dwell.specs.declared.step.TheConstants.{MOST_ITEMS as md_most}
@@ -20,6 +32,11 @@ use Rattle.scenario.specs.declared.frame.App.{App}
 use Rattle.scenario.specs.declared.frame.App.TheVariants as names
 use Rattle.frame_exec.specs.declared.applications.Applications.{Applications}
 use Rattle.frame_exec.specs.declared.wires.Wires.{Wires}
+
+-- wires over which nothing was sent, by whether LC is there
+pub record AreUnused (there : Bool) (wires : Wires) : Type 0 where
+  pub pipes : wires.bus ≡ empty_pipes there
+  pub log : LogStands [] wires.log
 
 -- the states of the applications stay
 pub record KeepsApps (old new : Applications) : Type 0 where
@@ -103,3 +120,17 @@ pub record AreStamped (before after : Wires) (old new : Applications) : Type 0 w
   pub few : length (joined (items_in new)) ≡ length (joined (items_in old))
   pub pipes : after.bus ≡ before.bus
   pub drops : after.drops ≡ before.drops
+
+-- The histories of the applications begin on these tables: SC's at this time, and HS's with so many resets made, of at most so many.
+pub record HistoriesBegin (tables : TableSet) (time resets limit : ℕ) (a : Applications) : Type 0 where
+  pub hs : HsStands (setup_of tables.hs resets limit) [] a.hs.state.value
+  pub cs : CsStands (cs_tables tables) [] a.cs.state.value
+  pub sc : ScStands (begun_at time tables.sc) [] a.sc.state.value
+  pub mm : MmStands [] a.mm.state.value
+  pub md : MdStands tables.dwells [] a.md.state.value
+  pub lc : LcStands tables.wdt tables.adt [] a.lc.slot.state.value
+
+-- the applications can be woken on these tables, as far as memory gives what the dwell tables read
+pub record AreReadyOn (tables : TableSet) (a : Applications) : Type 0 where
+  pub sc : ScIsReady tables.sc a.sc.state.value
+  pub md : (regions : List Region) → TablesGiven regions tables.dwells → AllGiven regions a.md.state.value

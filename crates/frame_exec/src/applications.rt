@@ -1,13 +1,23 @@
 //! The applications of the bench.
 
 use crate::wires::Wires;
+use active_tables::Tables;
 use app_suite::{
-    CsSlot, Holds, HsSlot, LcSlot, Left, MdSlot, MmSlot, Naming, ScSlot, in_order, tell,
+    CsSlot, Holds, HsSlot, LcSlot, Left, MdSlot, MmSlot, Naming, ScSlot, Slots, in_order, jobs_of,
+    tell,
 };
 use bus_pipes::{Batch, Out, Outbox, PipeName};
 use crew_board::Crew;
+use cs_slices::Cs;
 use frame_wires::{has_reset, take_unless};
+use fsw_outside::NoMemory;
+use hs_monitors::Hs;
+use lc_watch::Lc;
+use md_dwell::Md;
 use memory_window::Ops;
+use mm_core::Mm;
+use sc_sequences::Sc;
+use std::alloc::Global;
 
 /// How many events of activations a frame has at most: one for each of its items.
 pub(crate) const EVENTS_ROOM: u32 = 64;
@@ -30,18 +40,72 @@ pub(crate) struct Applications {
 }
 
 impl Applications {
-    ghost use Rattle.std.specs.Prelude.{◌≡◌, ◌<◌, ◌≤◌, true, false, List, [], ◌∷◌, ◌++◌, length, slice_index_or};
+    ghost use Rattle.std.specs.Prelude.{◌≡◌, ◌<◌, ◌≤◌, true, false, List, [], ◌∷◌, ◌++◌, length, slice_index_or, IfOk};
     ghost use Rattle.app_suite.specs.declared.left.Left.{Left};
     ghost use Rattle.std.specs.List.{AllPass, list_any};
     ghost use Rattle.bus_pipes.specs.Counted.{is_item_counted};
+    ghost use Rattle.hs_monitors.specs.Histories.{HsEntry, Setup as HsSetup};
+    ghost use Rattle.hs_monitors.specs.State.{Stands as HsStands};
+    ghost use Rattle.hs_monitors.specs.Step.{resets_made, resets_maximum};
     ghost use Rattle.app_suite.specs.Activations.{table_event};
+    ghost use Rattle.frame_exec.specs.declared.applications.TheConstants.{EVENTS_ROOM};
     ghost use Rattle.app_suite.specs.Holding.{AreHeld};
     ghost use Rattle.app_suite.specs.Jobs.{jobs_of};
     ghost use Rattle.app_suite.specs.Wakes.{joined, next_of};
     ghost use Rattle.frame_runs.specs.Runs.{left_by};
     ghost use Rattle.frame_wires.specs.Sending.{is_reset, shown};
     ghost use Rattle.scenario.specs.declared.frame.App.{App};
-    ghost use Rattle.frame_exec.specs.Parts.{AreClear, AreStamped, CanBeSent, IsTaken, KeepsApps, TakeAll, TakesOver, given_in, items_in};
+    ghost use Rattle.frame_exec.specs.Parts.{AreClear, AreReadyOn, AreStamped, CanBeSent, HistoriesBegin, IsTaken, KeepsApps, TakeAll, TakesOver, given_in, items_in};
+
+    /// The applications on these tables before the first frame, whose time is `time`, with a crew of so many workers; and whether LC
+    /// is there.
+    pub(crate) fn open(
+        alloc: Global,
+        tables: &Tables<'_>,
+        time: u32,
+        workers: u32,
+        lc: bool,
+    ) -> Result<Applications, NoMemory>
+        requires workers { (1 ≤ workers) × (workers ≤ 16) }
+        ensures begin { IfOk result (HistoriesBegin tables.now.set time 0 3) }
+        ensures ready { IfOk result (AreReadyOn tables.now.set) }
+        ensures there { IfOk result (λ apps. apps.lc.there ≡ lc) }
+        ensures jobs { IfOk result (λ apps. apps.crew.jobs ≡ jobs_of lc) }
+        ensures room { IfOk result (λ apps. apps.activations.room ≡ EVENTS_ROOM) }
+    {
+        let slots = Slots::open(alloc, tables, time, lc)?;
+        Ok(Applications {
+            activations: Outbox::open(alloc, EVENTS_ROOM)?,
+            hs: slots.hs,
+            events: Batch::new(),
+            cs: slots.cs,
+            sc: slots.sc,
+            mm: slots.mm,
+            md: slots.md,
+            lc: slots.lc,
+            crew: Crew::open(alloc, workers, jobs_of(lc))?,
+        })
+    }
+
+    /// Starts the applications anew on these tables, the next frame at `time`. HS keeps the resets made and their maximum.
+    pub(crate) fn start_anew(&mut self, tables: &Tables<'_>, time: u32)
+        ensures begin { (setup : HsSetup) (history : List HsEntry)
+            → HsStands setup history self.old.hs.state.value → HistoriesBegin tables.now.set time
+            (resets_made setup history) (resets_maximum setup history) self.new }
+        ensures ready { AreReadyOn tables.now.set self.new }
+        ensures items { items_in self.new ≡ items_in self.old }
+        ensures there { self.new.lc.there ≡ self.old.lc.there }
+        ensures jobs { self.new.crew.jobs ≡ self.old.crew.jobs }
+        ensures room { self.new.activations.room ≡ self.old.activations.room }
+    {
+        let (made, max) = self.hs.state.resets();
+        self.hs.begin(Hs::start(tables.hs(), made, max));
+        self.cs.begin(Cs::start(tables.eeprom(), tables.memory()));
+        self.sc.begin(Sc::start(tables.sc(), time));
+        self.mm.begin(Mm::start());
+        self.md.begin(Md::start(tables.dwells()));
+        self.lc.begin(Lc::start(tables.adt()));
+    }
 
     /// Forgets what an earlier frame told of activations.
     #[inline(always)]

@@ -13,15 +13,9 @@ use crate::wires::Wires;
 use crate::yielded::Yield;
 use active_tables::Tables;
 use app_suite::{Holds, Naming, hand_over, naming_of};
-use cs_slices::Cs;
 use frame_runs::obey_frame;
 use fsw_outside::{Failed, Gate, Sink};
-use hs_monitors::Hs;
-use lc_watch::Lc;
-use md_dwell::Md;
-use mm_core::Mm;
 use packet_forms::Counter;
-use sc_sequences::Sc;
 use scenario::{FrameInput, Upset};
 use std::thread::Threads;
 use subjects::{Crowd, Subject};
@@ -349,17 +343,9 @@ impl<'f> Bench<'f> {
         ensures anew { StartsAnew self.old self.new }
         ensures ready { IsReady self.new }
     {
-        let (made, max) = self.apps.hs.state.resets();
         let time = self.epoch + self.number as u32;
         self.tables.load_again();
-        self.apps.hs.begin(Hs::start(self.tables.hs(), made, max));
-        self.apps
-            .cs
-            .begin(Cs::start(self.tables.eeprom(), self.tables.memory()));
-        self.apps.sc.begin(Sc::start(self.tables.sc(), time));
-        self.apps.mm.begin(Mm::start());
-        self.apps.md.begin(Md::start(self.tables.dwells()));
-        self.apps.lc.begin(Lc::start(self.tables.adt()));
+        self.apps.start_anew(&self.tables, time);
         self.wires.empty();
     }
 

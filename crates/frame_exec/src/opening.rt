@@ -1,49 +1,17 @@
 //! The opening of a bench.
 
 ghost use Rattle.std.specs.Prelude.{IfOk};
-ghost use Rattle.frame_exec.specs.Opening.{IsEmpty};
 
-use crate::applications::{Applications, EVENTS_ROOM};
+use crate::applications::Applications;
 use crate::bench::Bench;
 use crate::lines::Lines;
 use crate::memory::Memory;
 use crate::wires::Wires;
 use active_tables::{OpenFault, Tables, names_limit_checker, refused_place};
-use app_suite::{Left, Slots, jobs_of};
-use bus_pipes::{Batch, Outbox};
-use crew_board::Crew;
 use fsw_outside::NoMemory;
 use scenario::Header;
 use std::alloc::Global;
 use table_files::Files;
-
-/// The room of a bench beside that of its applications.
-#[derive(Drop)]
-pub(crate) struct Room {
-    pub(crate) activations: Outbox,
-    pub(crate) crew: Crew<Left>,
-    pub(crate) wires: Wires,
-    pub(crate) memory: Memory,
-    pub(crate) lines: Lines,
-}
-
-impl Room {
-    ghost use Rattle.std.specs.Prelude.{◌≤◌};
-
-    /// Room for so many workers, with empty pipes, LC's among them where it is there, and the memory of the header's map.
-    fn open(alloc: Global, header: &Header, workers: u32, lc: bool) -> Result<Room, NoMemory>
-        requires workers { (1 ≤ workers) × (workers ≤ 16) }
-        ensures { IfOk result (IsEmpty header.now.map lc) }
-    {
-        Ok(Room {
-            activations: Outbox::open(alloc, EVENTS_ROOM)?,
-            crew: Crew::open(alloc, workers, jobs_of(lc))?,
-            wires: Wires::open(alloc, lc)?,
-            memory: Memory::open(alloc, header.map)?,
-            lines: Lines::open(alloc)?,
-        })
-    }
-}
 
 impl<'f> Bench<'f> {
     ghost use Rattle.std.specs.Prelude.{ℕ, ◌≤◌, List, []};
@@ -91,29 +59,21 @@ impl<'f> Bench<'f> {
         ensures { (files : List (List ℕ)) → AreLoaded files tables.entry → IfOk result (λ bench. Stands bench (setup_in header.now files) []) }
     {
         let lc = names_limit_checker(tables.files());
-        let slots = Slots::open(alloc, &tables, header.epoch, lc)?;
-        let room = Room::open(alloc, header, workers, lc)?;
+        let apps = Applications::open(alloc, &tables, header.epoch, workers, lc)?;
+        let wires = Wires::open(alloc, lc)?;
+        let memory = Memory::open(alloc, header.map)?;
+        let lines = Lines::open(alloc)?;
         Ok(Bench {
             epoch: header.epoch,
             number: 0,
             failed: false,
             resets: false,
             workers,
-            apps: Applications {
-                activations: room.activations,
-                hs: slots.hs,
-                events: Batch::new(),
-                cs: slots.cs,
-                sc: slots.sc,
-                mm: slots.mm,
-                md: slots.md,
-                lc: slots.lc,
-                crew: room.crew,
-            },
             tables,
-            wires: room.wires,
-            memory: room.memory,
-            lines: room.lines,
+            apps,
+            wires,
+            memory,
+            lines,
         })
     }
 }

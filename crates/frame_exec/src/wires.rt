@@ -32,7 +32,7 @@ impl Wires {
     ghost use Rattle.packet_log.specs.Sent.{makes};
     ghost use Rattle.packet_log.specs.Standing.{Stands as LogStands};
     ghost use Rattle.frame_wires.specs.Sending.{packet_in, sent_of, shown};
-    ghost use Rattle.frame_exec.specs.Opening.{AreUnused};
+    ghost use Rattle.frame_exec.specs.Parts.{AreUnused};
 
     /// Wires over which nothing was sent, LC's pipes among them where it is there.
     pub(crate) fn open(alloc: Global, lc: bool) -> Result<Wires, NoMemory>

@@ -8,14 +8,14 @@ use Rattle.frame_exec.proofs.bench.Bench.begin.Goals as goal
 
 pub returns : goal.returns
 returns c = λ files loaded.
-    let room = c.in_ok-room.ensures in
-    let slots = c.in_ok-slots.ensures in
-    stands_opened _ _ refl loaded.kept refl room.lines refl loaded.named slots.hs slots.cs slots.sc slots.mm slots.md slots.lc c.requires.given slots.ready (slots.given c.args.header.now.map c.requires.given.set.dwells)
-    (room.wires.pipes ∙ ap (λ (watched : Bool). empty_pipes watched) (c.names_limit_checker-lc.ensures ∙ ap lc_named (c.files.ensures ∙ loaded.kept))) room.wires.log room.memory
+    let apps = c.in_ok-apps.ensures in
+    let wires = c.in_ok-wires.ensures in
+    stands_opened _ _ refl loaded.kept refl c.in_ok-lines.ensures refl loaded.named apps.begin c.requires.given apps.ready.sc (apps.ready.md c.args.header.now.map c.requires.given.set.dwells)
+    (wires.pipes ∙ ap (λ (watched : Bool). empty_pipes watched) (c.names_limit_checker-lc.ensures ∙ ap lc_named (c.files.ensures ∙ loaded.kept))) wires.log c.in_ok-memory.ensures
 
 -- there are as many jobs as applications
 pub invariant_of-result-clause-manned : goal.invariant_of-result-clause-manned
-invariant_of-result-clause-manned c = c.in_ok-room.ensures.manned ∙ ap jobs_of (sym (ap (λ (pipes : Pipes). pipes.watched) c.in_ok-room.ensures.wires.pipes))
+invariant_of-result-clause-manned c = c.in_ok-apps.ensures.jobs ∙ ap jobs_of (sym (ap (λ (pipes : Pipes). pipes.watched) c.in_ok-wires.ensures.pipes))
 
 pub invariant_of-result-clause-there : goal.invariant_of-result-clause-there
-invariant_of-result-clause-there c = c.in_ok-slots.ensures.there ∙ sym (ap (λ (pipes : Pipes). pipes.watched) c.in_ok-room.ensures.wires.pipes)
+invariant_of-result-clause-there c = c.in_ok-apps.ensures.there ∙ sym (ap (λ (pipes : Pipes). pipes.watched) c.in_ok-wires.ensures.pipes)
