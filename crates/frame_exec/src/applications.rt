@@ -163,7 +163,8 @@ impl Applications {
         requires clear { AreClear self.old }
         requires empty { ops.old.value ≡ [] }
         ensures over { TakesOver self.old self.new ops.new.value }
-        ensures lc { self.old.lc.there ≡ true → IsTaken self.old 5 (λ left. (self.new.lc.slot.state.value
+        ensures lc { self.old.lc.there ≡ true → IsTaken self.old 5 (λ left.
+            (self.new.lc.slot.state.value
             ≡ next_of left.stays left.lc.value self.old.lc.slot.state.value)
             × (self.new.lc.slot.out.items ≡ left.out.items)) }
         ensures away { self.old.lc.there ≡ false → self.new.lc ≡ self.old.lc }

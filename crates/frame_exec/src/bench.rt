@@ -81,11 +81,15 @@ impl<'f> Bench<'f> {
         gate: &G,
         sink: &mut O,
     ) -> Result<(), Failed>
-        requires started { (setup : Setup) × (frames : List Frame) × Stands self.old setup frames × CanRun setup frames input.now }
+        requires started { (setup : Setup) × (frames : List Frame) × Stands self.old setup frames
+            × CanRun setup frames input.now }
         ensures lines { (setup : Setup) (frames : List Frame) → Stands self.old setup frames
-            → WhereTold (O.held sink.old) (O.held sink.new) (WritesAll result (frame_lines setup frames input.now)) }
-        ensures stands { (setup : Setup) (frames : List Frame) → Stands self.old setup frames → OnOk result (Stands self.new setup (frames ++ input.now ∷ [])) }
-        ensures interrupted { (setup : Setup) (frames : List Frame) → Stands self.old setup frames → OnErr result (IsInterrupted self.new setup frames input.now) }
+            → WhereTold (O.held sink.old) (O.held sink.new)
+            (WritesAll result (frame_lines setup frames input.now)) }
+        ensures stands { (setup : Setup) (frames : List Frame) → Stands self.old setup frames
+            → OnOk result (Stands self.new setup (frames ++ input.now ∷ [])) }
+        ensures interrupted { (setup : Setup) (frames : List Frame) → Stands self.old setup frames
+            → OnErr result (IsInterrupted self.new setup frames input.now) }
         ensures cause { HasCause (O.held sink.new) (O.faults sink.old) (O.faults sink.new) result }
         ensures failed { has_failed self.new ≡ is_err result }
     {
@@ -102,14 +106,23 @@ impl<'f> Bench<'f> {
         gate: &G,
         sink: &mut O,
     ) -> Result<(), Failed>
-        requires started { (setup : Setup) × (frames : List Frame) × Stands self.old setup frames × CanRun setup frames input.now }
+        requires started { (setup : Setup) × (frames : List Frame) × Stands self.old setup frames
+            × CanRun setup frames input.now }
         ensures lines { (setup : Setup) (frames : List Frame) → Stands self.old setup frames
-            → WhereTold (O.held sink.old) (O.held sink.new) (WritesAll result (frame_lines setup frames (beside (map S.seen crowd.old.subjects) input.now))) }
-        ensures stands { (setup : Setup) (frames : List Frame) → Stands self.old setup frames → OnOk result (Stands self.new setup (frames ++ beside (map S.seen crowd.old.subjects) input.now ∷ [])) }
-        ensures interrupted { (setup : Setup) (frames : List Frame) → Stands self.old setup frames → OnErr result (IsInterrupted self.new setup frames (beside (map S.seen crowd.old.subjects) input.now)) }
+            → WhereTold (O.held sink.old) (O.held sink.new) (WritesAll result
+            (frame_lines setup frames (beside (map S.seen crowd.old.subjects) input.now))) }
+        ensures stands { (setup : Setup) (frames : List Frame) → Stands self.old setup frames
+            → OnOk result (Stands self.new setup (frames
+            ++ beside (map S.seen crowd.old.subjects) input.now ∷ [])) }
+        ensures interrupted { (setup : Setup) (frames : List Frame) → Stands self.old setup frames
+            → OnErr result (IsInterrupted self.new setup frames
+            (beside (map S.seen crowd.old.subjects) input.now)) }
         ensures crowd { (setup : Setup) (frames : List Frame) → Stands self.old setup frames
-            → OnOk result (map S.seen crowd.new.subjects ≡ crowd_after setup (run_of setup frames) (beside (map S.seen crowd.old.subjects) input.now) (map S.seen crowd.old.subjects)) }
-        ensures cycled { OnErr result (map S.seen crowd.new.subjects ≡ all_cycled (map S.seen crowd.old.subjects)) }
+            → OnOk result (map S.seen crowd.new.subjects
+            ≡ crowd_after setup (run_of setup frames)
+            (beside (map S.seen crowd.old.subjects) input.now) (map S.seen crowd.old.subjects)) }
+        ensures cycled { OnErr result (map S.seen crowd.new.subjects
+            ≡ all_cycled (map S.seen crowd.old.subjects)) }
         ensures readings { crowd.new.readings ≡ map counter_of (map S.seen crowd.old.subjects) }
         ensures cause { HasCause (O.held sink.new) (O.faults sink.old) (O.faults sink.new) result }
         ensures failed { has_failed self.new ≡ is_err result }
@@ -134,12 +147,19 @@ impl<'f> Bench<'f> {
         gate: &G,
         sink: &mut O,
     ) -> Result<(), Failed>
-        requires started { (setup : Setup) × (frames : List Frame) × Stands self.old setup frames × CanRun setup frames input.now }
+        requires started { (setup : Setup) × (frames : List Frame) × Stands self.old setup frames
+            × CanRun setup frames input.now }
         ensures lines { (setup : Setup) (frames : List Frame) → Stands self.old setup frames
-            → WhereTold (O.held sink.old) (O.held sink.new) (WritesAll result (frame_lines setup frames (with_counters counters.now input.now))) }
-        ensures stands { (setup : Setup) (frames : List Frame) → Stands self.old setup frames → OnOk result (Stands self.new setup (frames ++ with_counters counters.now input.now ∷ [])) }
-        ensures interrupted { (setup : Setup) (frames : List Frame) → Stands self.old setup frames → OnErr result (IsInterrupted self.new setup frames (with_counters counters.now input.now)) }
-        ensures given { (setup : Setup) (frames : List Frame) → Stands self.old setup frames → OnOk result (HasGiven self.new setup frames (with_counters counters.now input.now)) }
+            → WhereTold (O.held sink.old) (O.held sink.new) (WritesAll result
+            (frame_lines setup frames (with_counters counters.now input.now))) }
+        ensures stands { (setup : Setup) (frames : List Frame) → Stands self.old setup frames
+            → OnOk result (Stands self.new setup
+            (frames ++ with_counters counters.now input.now ∷ [])) }
+        ensures interrupted { (setup : Setup) (frames : List Frame) → Stands self.old setup frames
+            → OnErr result (IsInterrupted self.new setup frames
+            (with_counters counters.now input.now)) }
+        ensures given { (setup : Setup) (frames : List Frame) → Stands self.old setup frames
+            → OnOk result (HasGiven self.new setup frames (with_counters counters.now input.now)) }
         ensures cause { HasCause (O.held sink.new) (O.faults sink.old) (O.faults sink.new) result }
         ensures failed { has_failed self.new ≡ is_err result }
     {
@@ -147,7 +167,7 @@ impl<'f> Bench<'f> {
         match self.write(sink, lines) {
             Ok(()) => {
                 self.land(rt, gate);
-                self.go_on();
+                self.reset_if_asked();
                 Ok(())
             }
             Err(failed) => {
@@ -186,12 +206,14 @@ impl<'f> Bench<'f> {
             × WhereTold (tells (O.held sink.old) (waiting_in self.old)) (O.held sink.new)
             (λ before after. (start : List ℕ)
             → before ≡ start ++ log_of setup (earlier ++ later)
-            → IsCutAt setup ((earlier ++ later) ++ frame_beside (crowd_in S.seen crowd.old) input.now
+            → IsCutAt setup ((earlier ++ later)
+            ++ frame_beside (crowd_in S.seen crowd.old) input.now
             ∷ []) (length (earlier ++ later) - cut.late) start after)) }
         ensures crowd { (setup : Setup) (earlier later : List Frame)
             → Follows self.old setup earlier later
             → OnOk result (crowd_in S.seen crowd.new
-            ≡ crowd_then setup (earlier ++ later) (frame_beside (crowd_in S.seen crowd.old) input.now)
+            ≡ crowd_then setup (earlier ++ later)
+            (frame_beside (crowd_in S.seen crowd.old) input.now)
             (crowd_in S.seen crowd.old)) }
         ensures cause { HasCause (O.held sink.new) (O.faults sink.old) (O.faults sink.new) result }
         ensures failed { has_failed self.new ≡ is_err result }
@@ -212,15 +234,31 @@ impl<'f> Bench<'f> {
         gate: &G,
         sink: &mut O,
     ) -> Result<(), Cut>
-        requires started { (setup : Setup) × (earlier : List Frame) × (later : List Frame) × Follows self.old setup earlier later × CanRun setup (earlier ++ later) input.now }
-        ensures follows { (setup : Setup) (earlier later : List Frame) → Follows self.old setup earlier later → OnOk result (Follows self.new setup earlier (later ++ beside (map S.seen crowd.old.subjects) input.now ∷ [])) }
-        ensures told { (setup : Setup) (earlier later : List Frame) → Follows self.old setup earlier later
-            → OnOk result (WhereTold (tells (O.held sink.old) (waiting_in self.old)) (tells (O.held sink.new) (waiting_in self.new)) (λ before after. after ≡ before ++ frame_lines setup (earlier ++ later) (beside (map S.seen crowd.old.subjects) input.now))) }
-        ensures cut { (setup : Setup) (earlier later : List Frame) → Follows self.old setup earlier later
-            → IfErr result (λ cut. (cut.late ≤ length later) × WhereTold (tells (O.held sink.old) (waiting_in self.old)) (O.held sink.new) (λ before after. (start : List ℕ)
-            → before ≡ start ++ log_of setup (earlier ++ later) → IsCutAt setup ((earlier ++ later) ++ beside (map S.seen crowd.old.subjects) input.now ∷ []) (length (earlier ++ later) - cut.late) start after)) }
-        ensures crowd { (setup : Setup) (earlier later : List Frame) → Follows self.old setup earlier later
-            → OnOk result (map S.seen crowd.new.subjects ≡ crowd_after setup (run_of setup (earlier ++ later)) (beside (map S.seen crowd.old.subjects) input.now) (map S.seen crowd.old.subjects)) }
+        requires started { (setup : Setup) × (earlier : List Frame) × (later : List Frame)
+            × Follows self.old setup earlier later × CanRun setup (earlier ++ later) input.now }
+        ensures follows { (setup : Setup) (earlier later : List Frame)
+            → Follows self.old setup earlier later
+            → OnOk result (Follows self.new setup earlier
+            (later ++ beside (map S.seen crowd.old.subjects) input.now ∷ [])) }
+        ensures told { (setup : Setup) (earlier later : List Frame)
+            → Follows self.old setup earlier later
+            → OnOk result (WhereTold (tells (O.held sink.old) (waiting_in self.old))
+            (tells (O.held sink.new) (waiting_in self.new)) (λ before after. after ≡ before
+            ++ frame_lines setup (earlier ++ later)
+            (beside (map S.seen crowd.old.subjects) input.now))) }
+        ensures cut { (setup : Setup) (earlier later : List Frame)
+            → Follows self.old setup earlier later
+            → IfErr result (λ cut. (cut.late ≤ length later)
+            × WhereTold (tells (O.held sink.old) (waiting_in self.old)) (O.held sink.new)
+            (λ before after. (start : List ℕ)
+            → before ≡ start ++ log_of setup (earlier ++ later)
+            → IsCutAt setup ((earlier ++ later) ++ beside (map S.seen crowd.old.subjects) input.now
+            ∷ []) (length (earlier ++ later) - cut.late) start after)) }
+        ensures crowd { (setup : Setup) (earlier later : List Frame)
+            → Follows self.old setup earlier later
+            → OnOk result (map S.seen crowd.new.subjects
+            ≡ crowd_after setup (run_of setup (earlier ++ later))
+            (beside (map S.seen crowd.old.subjects) input.now) (map S.seen crowd.old.subjects)) }
         ensures cause { HasCause (O.held sink.new) (O.faults sink.old) (O.faults sink.new) result }
         ensures failed { has_failed self.new ≡ is_err result }
     {
@@ -244,14 +282,29 @@ impl<'f> Bench<'f> {
         gate: &G,
         sink: &mut O,
     ) -> Result<(), Cut>
-        requires started { (setup : Setup) × (earlier : List Frame) × (later : List Frame) × Follows self.old setup earlier later × CanRun setup (earlier ++ later) input.now }
-        ensures follows { (setup : Setup) (earlier later : List Frame) → Follows self.old setup earlier later → OnOk result (Follows self.new setup earlier (later ++ with_counters counters.now input.now ∷ [])) }
-        ensures told { (setup : Setup) (earlier later : List Frame) → Follows self.old setup earlier later
-            → OnOk result (WhereTold (tells (O.held sink.old) (waiting_in self.old)) (tells (O.held sink.new) (waiting_in self.new)) (λ before after. after ≡ before ++ frame_lines setup (earlier ++ later) (with_counters counters.now input.now))) }
-        ensures cut { (setup : Setup) (earlier later : List Frame) → Follows self.old setup earlier later
-            → IfErr result (λ cut. (cut.late ≤ length later) × WhereTold (tells (O.held sink.old) (waiting_in self.old)) (O.held sink.new) (λ before after. (start : List ℕ)
-            → before ≡ start ++ log_of setup (earlier ++ later) → IsCutAt setup ((earlier ++ later) ++ with_counters counters.now input.now ∷ []) (length (earlier ++ later) - cut.late) start after)) }
-        ensures given { (setup : Setup) (earlier later : List Frame) → Follows self.old setup earlier later → OnOk result (HasGiven self.new setup (earlier ++ later) (with_counters counters.now input.now)) }
+        requires started { (setup : Setup) × (earlier : List Frame) × (later : List Frame)
+            × Follows self.old setup earlier later × CanRun setup (earlier ++ later) input.now }
+        ensures follows { (setup : Setup) (earlier later : List Frame)
+            → Follows self.old setup earlier later
+            → OnOk result (Follows self.new setup earlier
+            (later ++ with_counters counters.now input.now ∷ [])) }
+        ensures told { (setup : Setup) (earlier later : List Frame)
+            → Follows self.old setup earlier later
+            → OnOk result (WhereTold (tells (O.held sink.old) (waiting_in self.old))
+            (tells (O.held sink.new) (waiting_in self.new)) (λ before after. after ≡ before
+            ++ frame_lines setup (earlier ++ later) (with_counters counters.now input.now))) }
+        ensures cut { (setup : Setup) (earlier later : List Frame)
+            → Follows self.old setup earlier later
+            → IfErr result (λ cut. (cut.late ≤ length later)
+            × WhereTold (tells (O.held sink.old) (waiting_in self.old)) (O.held sink.new)
+            (λ before after. (start : List ℕ)
+            → before ≡ start ++ log_of setup (earlier ++ later)
+            → IsCutAt setup ((earlier ++ later) ++ with_counters counters.now input.now
+            ∷ []) (length (earlier ++ later) - cut.late) start after)) }
+        ensures given { (setup : Setup) (earlier later : List Frame)
+            → Follows self.old setup earlier later
+            → OnOk result (HasGiven self.new setup
+            (earlier ++ later) (with_counters counters.now input.now)) }
         ensures cause { HasCause (O.held sink.new) (O.faults sink.old) (O.faults sink.new) result }
         ensures failed { has_failed self.new ≡ is_err result }
     {
@@ -259,7 +312,7 @@ impl<'f> Bench<'f> {
         match self.add_lines(sink, lines) {
             Ok(()) => {
                 self.land(rt, gate);
-                self.go_on();
+                self.reset_if_asked();
                 Ok(())
             }
             Err(_) => Err(self.cut()),
@@ -268,12 +321,20 @@ impl<'f> Bench<'f> {
 
     /// Hands on all lines that wait. Where that fails, the error says how many frames weren't handed on whole.
     pub fn flush<O: Sink>(&mut self, sink: &mut O) -> Result<(), Cut>
-        ensures follows { (setup : Setup) (earlier later : List Frame) → Follows self.old setup earlier later → OnOk result (Follows self.new setup (earlier ++ later) []) }
-        ensures told { WhereTold (tells (O.held sink.old) (waiting_in self.old)) (tells (O.held sink.new) (waiting_in self.new)) (λ before after. after ≡ before) }
+        ensures follows { (setup : Setup) (earlier later : List Frame)
+            → Follows self.old setup earlier later
+            → OnOk result (Follows self.new setup (earlier ++ later) []) }
+        ensures told { WhereTold (tells (O.held sink.old) (waiting_in self.old))
+            (tells (O.held sink.new) (waiting_in self.new)) (λ before after. after ≡ before) }
         ensures handed { OnOk result (waiting_in self.new ≡ empty_block) }
-        ensures cut { (setup : Setup) (earlier later : List Frame) → Follows self.old setup earlier later
-            → IfErr result (λ cut. (0 < cut.late) × (cut.late ≤ length later) × WhereTold (tells (O.held sink.old) (waiting_in self.old)) (O.held sink.new) (λ before after. (start : List ℕ)
-            → before ≡ start ++ log_of setup (earlier ++ later) → IsCutAt setup (earlier ++ later) (length (earlier ++ later) - cut.late) start after)) }
+        ensures cut { (setup : Setup) (earlier later : List Frame)
+            → Follows self.old setup earlier later
+            → IfErr result (λ cut. (0 < cut.late) × (cut.late ≤ length later)
+            × WhereTold (tells (O.held sink.old) (waiting_in self.old)) (O.held sink.new)
+            (λ before after. (start : List ℕ)
+            → before ≡ start ++ log_of setup (earlier ++ later)
+            → IsCutAt setup (earlier ++ later)
+            (length (earlier ++ later) - cut.late) start after)) }
         ensures cause { HasCause (O.held sink.new) (O.faults sink.old) (O.faults sink.new) result }
         ensures failed { has_failed self.new ≡ has_failed self.old || is_err result }
     {
@@ -285,7 +346,8 @@ impl<'f> Bench<'f> {
 
     /// Marks the bench as failed, and says how many frames weren't handed on whole.
     fn cut(&mut self) -> Cut
-        ensures late { (ends : List ℕ) (given : ℕ) → Notes ends given self.old.lines.block → result.late ≡ late_in ends (given - length self.old.lines.block.bytes) }
+        ensures late { (ends : List ℕ) (given : ℕ) → Notes ends given self.old.lines.block
+            → result.late ≡ late_in ends (given - length self.old.lines.block.bytes) }
         ensures cut { self.new ≡ record self.old { failed = true } }
     {
         self.failed = true;
@@ -298,7 +360,8 @@ impl<'f> Bench<'f> {
     #[inline(always)]
     fn land<R: Threads + Sync, G: Gate>(&mut self, rt: &R, gate: &G)
         requires number { self.old.number < 4294967296 }
-        requires can_land { CanLand (loads_in self.old) self.old.memory.ram self.old.memory.ops.value }
+        requires can_land { CanLand (loads_in self.old) self.old.memory.ram
+            self.old.memory.ops.value }
         ensures { Lands self.old self.new }
     {
         if self.memory.stays() {
@@ -312,7 +375,8 @@ impl<'f> Bench<'f> {
     #[inline(never)]
     fn land_all<R: Threads + Sync, G: Gate>(&mut self, rt: &R, gate: &G)
         requires number { self.old.number < 4294967296 }
-        requires can_land { CanLand (loads_in self.old) self.old.memory.ram self.old.memory.ops.value }
+        requires can_land { CanLand (loads_in self.old) self.old.memory.ram
+            self.old.memory.ops.value }
         ensures { Lands self.old self.new }
     {
         let workers = self.workers.max(1);
@@ -322,7 +386,7 @@ impl<'f> Bench<'f> {
 
     /// Lets a processor reset take effect, where one was asked for in the frame.
     #[inline(always)]
-    fn go_on(&mut self)
+    fn reset_if_asked(&mut self)
         requires time { self.old.epoch + self.old.number < 4294967296 }
         requires ready { IsReady self.old }
         ensures anew { StartsAnew self.old self.new }
@@ -379,7 +443,8 @@ impl<'f> Bench<'f> {
         requires time { self.old.epoch + self.old.number < 4294967296 }
         requires room { length self.old.apps.activations.items < 64 }
         requires ready { IsReady self.old }
-        ensures activates { Activates (file ∷ []) self.old.apps.activations.items self.old self.new }
+        ensures activates { Activates (file ∷ []) self.old.apps.activations.items
+            self.old self.new }
         ensures ready { IsReady self.new }
     {
         let time = self.epoch + self.number as u32;
@@ -390,7 +455,8 @@ impl<'f> Bench<'f> {
     /// Makes the table of this file active, if it can be, and answers what became of it.
     fn make_active(&mut self, file: u32) -> Naming
         requires ready { IsReady self.old }
-        ensures naming { (setup : Setup) (s : State) → self.old.tables.files ≡ setup.files → Has self.old s → result ≡ naming_at s (kind_at setup.files file) }
+        ensures naming { (setup : Setup) (s : State) → self.old.tables.files ≡ setup.files
+            → Has self.old s → result ≡ naming_at s (kind_at setup.files file) }
         ensures names { NamesFile file self.old self.new }
         ensures ready { IsReady self.new }
     {
@@ -524,7 +590,8 @@ impl<'f> Bench<'f> {
             → RunsIn setup (activated_at setup s (with_counters counters.now input.now))
             (with_counters counters.now input.now) self.new }
         ensures run { GoesOn self.old self.new }
-        ensures can_land { CanLand (loads_in self.new) self.new.memory.ram self.new.memory.ops.value }
+        ensures can_land { CanLand (loads_in self.new) self.new.memory.ram
+            self.new.memory.ops.value }
         ensures ready { IsReady self.new }
         ensures silent { result ≡ yields.Nothing → lines_in self.new ≡ [] }
     {
@@ -538,7 +605,8 @@ impl<'f> Bench<'f> {
         requires number { self.old.number < 4294967296 }
         requires none { self.old.lines.block ≡ empty_block }
         requires silent { lines ≡ yields.Nothing → lines_in self.old ≡ [] }
-        ensures content { WhereTold (O.held sink.old) (O.held sink.new) (WritesAll result (lines_in self.old)) }
+        ensures content { WhereTold (O.held sink.old) (O.held sink.new)
+            (WritesAll result (lines_in self.old)) }
         ensures cause { HasCause (O.held sink.new) (O.faults sink.old) (O.faults sink.new) result }
         ensures same { IsSameFrame self.old self.new }
         ensures handed { OnOk result (self.new.lines.block ≡ empty_block) }
@@ -553,7 +621,8 @@ impl<'f> Bench<'f> {
     fn add_lines<O: Sink>(&mut self, sink: &mut O, lines: Yield) -> Result<(), Failed>
         requires number { self.old.number < 4294967296 }
         requires silent { lines ≡ yields.Nothing → lines_in self.old ≡ [] }
-        ensures adds { Adds result (lines_in self.old) self.old.lines.block self.new.lines.block (O.held sink.old) (O.held sink.new) }
+        ensures adds { Adds result (lines_in self.old) self.old.lines.block self.new.lines.block
+            (O.held sink.old) (O.held sink.new) }
         ensures cause { HasCause (O.held sink.new) (O.faults sink.old) (O.faults sink.new) result }
         ensures same { IsSameFrame self.old self.new }
     {
@@ -567,7 +636,8 @@ impl<'f> Bench<'f> {
     fn put_lines<O: Sink>(&mut self, sink: &mut O, lines: Yield) -> Result<(), Failed>
         requires number { self.old.number < 4294967296 }
         requires silent { lines ≡ yields.Nothing → lines_in self.old ≡ [] }
-        ensures puts { Puts result (lines_in self.old) self.old.lines.block self.new.lines.block (O.held sink.old) (O.held sink.new) }
+        ensures puts { Puts result (lines_in self.old) self.old.lines.block self.new.lines.block
+            (O.held sink.old) (O.held sink.new) }
         ensures left { OnErr result (0 < length self.new.lines.block.bytes) }
         ensures cause { HasCause (O.held sink.new) (O.faults sink.old) (O.faults sink.new) result }
         ensures same { IsSameFrame self.old self.new }
@@ -583,7 +653,8 @@ impl<'f> Bench<'f> {
     /// Lets a crowd obey the items of the frame that was run, in their order, and restart where a processor reset was asked for.
     #[inline(always)]
     fn tell<S: Subject + Send>(&self, crowd: &mut Crowd<S>)
-        ensures subjects { map S.seen crowd.new.subjects ≡ behind_items self.now.resets (joined (items_in self.now.apps)) (map S.seen crowd.old.subjects) }
+        ensures subjects { map S.seen crowd.new.subjects ≡ behind_items self.now.resets
+            (joined (items_in self.now.apps)) (map S.seen crowd.old.subjects) }
         ensures readings { crowd.new.readings ≡ crowd.old.readings }
     {
         if !self.resets && self.apps.gave_nothing() {

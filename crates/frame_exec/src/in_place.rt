@@ -14,14 +14,20 @@ pub(crate) fn wake_in_place<S: Application<X>, X>(
     reads: &Reads<'_, '_, '_>,
     beside: &mut X,
 ) -> bool
-    requires woken { (setup : S.Setup) → rests ≡ true → S.belongs setup reads.now → IsWoken (S.stands setup) (S.items setup) slot.old.held (S.input reads.now slot.old.commands) slot.old.state.value slot.old.state.value [] }
-    requires fills { (other : X) → rests ≡ true → slot.old.held ≡ false → S.is_clear other → S.fills reads.now slot.old.commands other }
+    requires woken { (setup : S.Setup) → rests ≡ true → S.belongs setup reads.now
+        → IsWoken (S.stands setup) (S.items setup) slot.old.held
+        (S.input reads.now slot.old.commands) slot.old.state.value slot.old.state.value [] }
+    requires fills { (other : X) → rests ≡ true → slot.old.held ≡ false → S.is_clear other
+        → S.fills reads.now slot.old.commands other }
     requires here { rests ≡ false → slot.old.held ≡ false }
     requires room { S.most ≤ LIST_ROOM }
     requires empty { slot.old.out.items ≡ [] }
     requires can { S.can_step reads.now slot.old.state.value }
     requires clear { S.is_clear beside.old }
-    ensures woken { (setup : S.Setup) → S.belongs setup reads.now → IsWoken (S.stands setup) (S.items setup) slot.old.held (S.input reads.now slot.old.commands) slot.old.state.value slot.new.state.value slot.new.out.items }
+    ensures woken { (setup : S.Setup) → S.belongs setup reads.now
+        → IsWoken (S.stands setup) (S.items setup) slot.old.held
+        (S.input reads.now slot.old.commands) slot.old.state.value slot.new.state.value
+        slot.new.out.items }
     ensures can { S.can_step reads.now slot.new.state.value }
     ensures sendable { AreSendable S.most slot.new.out.items }
     ensures held { slot.old.held ≡ true → S.is_clear beside.new }

@@ -32,7 +32,8 @@ impl<'f> Bench<'f> {
         requires workers { (1 ≤ workers) × (workers ≤ 16) }
         requires loaded { AreLoaded files.now tables }
         ensures stands { IfOk result (λ bench. Stands bench (setup_in header.now files.now) []) }
-        ensures follows { IfOk result (λ bench. Follows bench (setup_in header.now files.now) [] []) }
+        ensures follows { IfOk result (λ bench. Follows bench (setup_in header.now files.now)
+            [] []) }
         ensures refused { Opens (region_fault header.now.map files.now) result }
     {
         if let Some(place) = refused_place(&header.map, files) {
@@ -56,7 +57,8 @@ impl<'f> Bench<'f> {
     ) -> Result<Bench<'f>, NoMemory>
         requires workers { (1 ≤ workers) × (workers ≤ 16) }
         requires given { AreGiven header.now.map tables }
-        ensures { (files : List (List ℕ)) → AreLoaded files tables.entry → IfOk result (λ bench. Stands bench (setup_in header.now files) []) }
+        ensures { (files : List (List ℕ)) → AreLoaded files tables.entry
+            → IfOk result (λ bench. Stands bench (setup_in header.now files) []) }
     {
         let lc = names_limit_checker(tables.files());
         let apps = Applications::open(alloc, &tables, header.epoch, workers, lc)?;

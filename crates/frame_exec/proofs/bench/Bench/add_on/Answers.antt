@@ -39,8 +39,8 @@ land-requires-clause-number g c =
 pub land-requires-clause-can_land : goal.land-requires-clause-can_land
 land-requires-clause-can_land g c = λ _ _. can_land_still c.run-lines.new.self c.add_lines.new.self c.in-Ok.ensures.same c.run-lines.ensures.can_land
 
-pub go_on-requires-clause-time : goal.go_on-requires-clause-time
-go_on-requires-clause-time g c =
+pub reset_if_asked-requires-clause-time : goal.reset_if_asked-requires-clause-time
+reset_if_asked-requires-clause-time g c =
     let s = c.requires.started in
     let fits = time_fits c.args.self.now s.0 (s.1 ++ s.2) c.args.input.now s.3.epoch s.3.has s.4 in
     let same = c.in-Ok.ensures.same in
@@ -48,8 +48,8 @@ go_on-requires-clause-time g c =
     let number = c.land.ensures.number ∙ ap (λ (n : ℕ). n + 1) (same.number ∙ c.run-lines.ensures.run.number) in
     omega (arith, fits, epoch, number)
 
-pub go_on-requires-clause-ready : goal.go_on-requires-clause-ready
-go_on-requires-clause-ready g c =
+pub reset_if_asked-requires-clause-ready : goal.reset_if_asked-requires-clause-ready
+reset_if_asked-requires-clause-ready g c =
     let s = c.requires.started in
     ready_next c.run-lines.new.self c.add_lines.new.self c.land.new.self s.0 (s.1 ++ s.2) c.args.input.now c.in-Ok.ensures.same c.land.ensures c.run-lines.ensures.ready
 
@@ -60,11 +60,11 @@ returns-in-Ok-clause-follows g c = λ setup earlier later follows.
     let r = c.run-lines.ensures.runs setup (run_of setup (earlier ++ later)) follows.epoch follows.files follows.has in
     let frame = with_counters c.args.counters.now c.args.input.now in
     let lines = lines_are setup (earlier ++ later) frame c.run-lines.new.self.number _ c.run-lines.new.self.wires.drops.items (run.number ∙ follows.has.number) r.sent r.drops in
-    let goes = c.go_on.ensures.anew.goes in
-    follows_next c.go_on.new.self setup earlier later frame _ c.run-lines.new.self.lines.block c.add_lines.new.self.lines.block _ _
+    let goes = c.reset_if_asked.ensures.anew.goes in
+    follows_next c.reset_if_asked.new.self setup earlier later frame _ c.run-lines.new.self.lines.block c.add_lines.new.self.lines.block _ _
     (goes.epoch ∙ c.land.ensures.epoch ∙ same.epoch ∙ run.epoch ∙ follows.epoch) (goes.files ∙ ap (λ (t : Loaded). t.files) (c.land.ensures.tables ∙ same.tables) ∙ run.files ∙ follows.files) (goes.failed ∙ c.land.ensures.failed ∙ same.failed ∙ run.failed ∙ follows.well)
-    (has_next c.run-lines.new.self c.add_lines.new.self c.land.new.self setup (earlier ++ later) frame same c.land.ensures c.go_on.new.self c.go_on.ensures.anew (run.epoch ∙ follows.epoch) (run.files ∙ follows.files) (run.number ∙ follows.has.number) r)
-    c.go_on.ensures.ready
+    (has_next c.run-lines.new.self c.add_lines.new.self c.land.new.self setup (earlier ++ later) frame same c.land.ensures c.reset_if_asked.new.self c.reset_if_asked.ensures.anew (run.epoch ∙ follows.epoch) (run.files ∙ follows.files) (run.number ∙ follows.has.number) r)
+    c.reset_if_asked.ensures.ready
     (ap (λ (l : Lines). l.block) (goes.lines ∙ c.land.ensures.lines)) lines
     (subst (Notes (ends_from 0 (lines_behind setup earlier later)) (length (joined (lines_behind setup earlier later)))) (sym (ap (λ (l : Lines). l.block) run.lines)) follows.notes) c.in-Ok.ensures.adds
 
@@ -73,7 +73,7 @@ returns-in-Ok-clause-told g c = λ setup earlier later follows.
     let r = c.run-lines.ensures.runs setup (run_of setup (earlier ++ later)) follows.epoch follows.files follows.has in
     let frame = with_counters c.args.counters.now c.args.input.now in
     let lines = lines_are setup (earlier ++ later) frame c.run-lines.new.self.number _ c.run-lines.new.self.wires.drops.items (c.run-lines.ensures.run.number ∙ follows.has.number) r.sent r.drops in
-    told_added _ _ c.args.self.now.lines.block c.run-lines.new.self.lines.block c.add_lines.new.self.lines.block c.go_on.new.self.lines.block _ _ lines (ap (λ (l : Lines). l.block) c.run-lines.ensures.run.lines) (ap (λ (l : Lines). l.block) (c.go_on.ensures.anew.goes.lines ∙ c.land.ensures.lines)) c.in-Ok.ensures.adds
+    told_added _ _ c.args.self.now.lines.block c.run-lines.new.self.lines.block c.add_lines.new.self.lines.block c.reset_if_asked.new.self.lines.block _ _ lines (ap (λ (l : Lines). l.block) c.run-lines.ensures.run.lines) (ap (λ (l : Lines). l.block) (c.reset_if_asked.ensures.anew.goes.lines ∙ c.land.ensures.lines)) c.in-Ok.ensures.adds
 
 pub returns-in-Err-clause-cut : goal.returns-in-Err-clause-cut
 returns-in-Err-clause-cut g c = λ setup earlier later follows.
@@ -87,5 +87,5 @@ returns-in-Err-clause-cut g c = λ setup earlier later follows.
 
 pub returns-in-Ok-clause-given : goal.returns-in-Ok-clause-given
 returns-in-Ok-clause-given g c = λ setup earlier later follows.
-    has_given c.run-lines.new.self c.add_lines.new.self c.land.new.self c.go_on.new.self setup (earlier ++ later) (with_counters c.args.counters.now c.args.input.now) c.in-Ok.ensures.same c.land.ensures c.go_on.ensures.anew
+    has_given c.run-lines.new.self c.add_lines.new.self c.land.new.self c.reset_if_asked.new.self setup (earlier ++ later) (with_counters c.args.counters.now c.args.input.now) c.in-Ok.ensures.same c.land.ensures c.reset_if_asked.ensures.anew
     (c.run-lines.ensures.runs setup (run_of setup (earlier ++ later)) follows.epoch follows.files follows.has)

@@ -36,8 +36,8 @@ land-requires-clause-number g c =
 pub land-requires-clause-can_land : goal.land-requires-clause-can_land
 land-requires-clause-can_land g c = λ _ _. can_land_still c.run-lines.new.self c.write.new.self c.in-Ok.ensures.same c.run-lines.ensures.can_land
 
-pub go_on-requires-clause-time : goal.go_on-requires-clause-time
-go_on-requires-clause-time g c =
+pub reset_if_asked-requires-clause-time : goal.reset_if_asked-requires-clause-time
+reset_if_asked-requires-clause-time g c =
     let s = c.requires.started in
     let fits = time_fits c.args.self.now s.0 s.1 c.args.input.now s.2.epoch s.2.has s.3 in
     let same = c.in-Ok.ensures.same in
@@ -45,8 +45,8 @@ go_on-requires-clause-time g c =
     let number = c.land.ensures.number ∙ ap (λ (n : ℕ). n + 1) (same.number ∙ c.run-lines.ensures.run.number) in
     omega (arith, fits, epoch, number)
 
-pub go_on-requires-clause-ready : goal.go_on-requires-clause-ready
-go_on-requires-clause-ready g c =
+pub reset_if_asked-requires-clause-ready : goal.reset_if_asked-requires-clause-ready
+reset_if_asked-requires-clause-ready g c =
     let s = c.requires.started in
     ready_next c.run-lines.new.self c.write.new.self c.land.new.self s.0 s.1 c.args.input.now c.in-Ok.ensures.same c.land.ensures c.run-lines.ensures.ready
 
@@ -61,15 +61,15 @@ pub returns-in-Ok-clause-stands : goal.returns-in-Ok-clause-stands
 returns-in-Ok-clause-stands g c = λ setup frames stands.
     let run = c.run-lines.ensures.run in
     let same = c.in-Ok.ensures.same in
-    let goes = c.go_on.ensures.anew.goes in
+    let goes = c.reset_if_asked.ensures.anew.goes in
     record {
       epoch = goes.epoch ∙ c.land.ensures.epoch ∙ same.epoch ∙ run.epoch ∙ stands.epoch;
       files = goes.files ∙ ap (λ (t : Loaded). t.files) (c.land.ensures.tables ∙ same.tables) ∙ run.files ∙ stands.files;
       well = goes.failed ∙ c.land.ensures.failed ∙ same.failed ∙ run.failed ∙ stands.well;
       waits = ap (λ (l : Lines). l.block) (goes.lines ∙ c.land.ensures.lines) ∙ c.in-Ok.ensures.handed;
-      has = has_next c.run-lines.new.self c.write.new.self c.land.new.self setup frames (with_counters c.args.counters.now c.args.input.now) same c.land.ensures c.go_on.new.self c.go_on.ensures.anew (run.epoch ∙ stands.epoch) (run.files ∙ stands.files) (run.number ∙ stands.has.number)
+      has = has_next c.run-lines.new.self c.write.new.self c.land.new.self setup frames (with_counters c.args.counters.now c.args.input.now) same c.land.ensures c.reset_if_asked.new.self c.reset_if_asked.ensures.anew (run.epoch ∙ stands.epoch) (run.files ∙ stands.files) (run.number ∙ stands.has.number)
           (c.run-lines.ensures.runs setup (run_of setup frames) stands.epoch stands.files stands.has);
-      ready = c.go_on.ensures.ready;
+      ready = c.reset_if_asked.ensures.ready;
     }
 
 pub returns-in-Err-clause-interrupted : goal.returns-in-Err-clause-interrupted
@@ -84,5 +84,5 @@ returns-in-Err-clause-lines g c = λ setup frames stands.
 
 pub returns-in-Ok-clause-given : goal.returns-in-Ok-clause-given
 returns-in-Ok-clause-given g c = λ setup frames stands.
-    has_given c.run-lines.new.self c.write.new.self c.land.new.self c.go_on.new.self setup frames (with_counters c.args.counters.now c.args.input.now) c.in-Ok.ensures.same c.land.ensures c.go_on.ensures.anew
+    has_given c.run-lines.new.self c.write.new.self c.land.new.self c.reset_if_asked.new.self setup frames (with_counters c.args.counters.now c.args.input.now) c.in-Ok.ensures.same c.land.ensures c.reset_if_asked.ensures.anew
     (c.run-lines.ensures.runs setup (run_of setup frames) stands.epoch stands.files stands.has)
