@@ -71,34 +71,34 @@ module _ (setup : Setup) (s : State) (frame : Frame) (start took stepped : Bench
       seen_by (hs_stands (active_in s)) (hs_gives (active_in s)) (λ events. hs_reads (time_at setup s) took.apps.hs.commands events frame.counters) (is_held names.Hs frame) took.apps.hs.held took.apps.events s.pipes.hs_ev took.apps.hs.state.value
       stepped.apps.hs.state.value stepped.apps.hs.out.items hs_took.same (λ free. takes.takes.events free ∙ ap (λ (p : Pipes). p.hs_ev) pipes)
       (subst (λ (n : ℕ). IsWoken (hs_stands (active_in s)) (hs_gives (active_in s)) took.apps.hs.held (hs_reads n took.apps.hs.commands took.apps.events frame.counters) took.apps.hs.state.value stepped.apps.hs.state.value stepped.apps.hs.out.items) same_time
-      (steps.hs (active_in s) (ap (λ (t : TableSet). t.hs) (sym same_tables))))
+      (steps.woken.hs (active_in s) (ap (λ (t : TableSet). t.hs) (sym same_tables))))
 
   cs_woken : IsWoken (cs_stands (active_in s)) (cs_gives (active_in s)) took.apps.cs.held (cs_reads (time_at setup s) took.apps.cs.commands (image_at s frame)) took.apps.cs.state.value stepped.apps.cs.state.value stepped.apps.cs.out.items
   cs_woken =
       of_both (λ (n : ℕ) (m : Memory). IsWoken (cs_stands (active_in s)) (cs_gives (active_in s)) took.apps.cs.held (cs_reads n took.apps.cs.commands m) took.apps.cs.state.value stepped.apps.cs.state.value stepped.apps.cs.out.items) _ _ _ _ same_time same_image
-      (steps.cs (active_in s) (ap cs_tables (sym same_tables)))
+      (steps.woken.cs (active_in s) (ap cs_tables (sym same_tables)))
 
   sc_woken : IsWoken (sc_stands (active_in s)) (sc_gives (active_in s)) took.apps.sc.held (sc_reads (time_at setup s) took.apps.sc.commands) took.apps.sc.state.value stepped.apps.sc.state.value stepped.apps.sc.out.items
   sc_woken =
       subst (λ (n : ℕ). IsWoken (sc_stands (active_in s)) (sc_gives (active_in s)) took.apps.sc.held (sc_reads n took.apps.sc.commands) took.apps.sc.state.value stepped.apps.sc.state.value stepped.apps.sc.out.items) same_time
-      (steps.sc (active_in s) (ap (λ (t : TableSet). t.sc) (sym same_tables)))
+      (steps.woken.sc (active_in s) (ap (λ (t : TableSet). t.sc) (sym same_tables)))
 
   mm_woken : IsWoken (mm_stands s.tables) (mm_gives s.tables) took.apps.mm.held (mm_reads (loads_of setup.files) (time_at setup s) took.apps.mm.commands (image_at s frame)) took.apps.mm.state.value stepped.apps.mm.state.value stepped.apps.mm.out.items
   mm_woken =
       subst (λ (loads : List (ℕ × List ℕ)). IsWoken (mm_stands s.tables) (mm_gives s.tables) took.apps.mm.held (mm_reads loads (time_at setup s) took.apps.mm.commands (image_at s frame)) took.apps.mm.state.value stepped.apps.mm.state.value stepped.apps.mm.out.items) same_loads
       (moved (λ (t : TableSet) (n : ℕ) (m : Memory). IsWoken (mm_stands t) (mm_gives t) took.apps.mm.held (mm_reads (loads_in took) n took.apps.mm.commands m) took.apps.mm.state.value stepped.apps.mm.state.value stepped.apps.mm.out.items)
-      took.tables.set s.tables (time_of took) (time_at setup s) took.memory.ram (image_at s frame) same_tables same_time same_image (steps.mm took.tables.set))
+      took.tables.set s.tables (time_of took) (time_at setup s) took.memory.ram (image_at s frame) same_tables same_time same_image (steps.woken.mm took.tables.set))
 
   md_woken : IsWoken (md_stands (active_in s)) (md_gives (active_in s)) took.apps.md.held (md_reads (time_at setup s) took.apps.md.commands (image_at s frame)) took.apps.md.state.value stepped.apps.md.state.value stepped.apps.md.out.items
   md_woken = moved (λ (t : TableSet) (n : ℕ) (m : Memory). IsWoken (md_stands (active_in s)) (md_gives (active_in s)) took.apps.md.held (md_reads n took.apps.md.commands m) took.apps.md.state.value stepped.apps.md.state.value stepped.apps.md.out.items)
-      took.tables.set s.tables (time_of took) (time_at setup s) took.memory.ram (image_at s frame) same_tables same_time same_image (steps.md (active_in s))
+      took.tables.set s.tables (time_of took) (time_at setup s) took.memory.ram (image_at s frame) same_tables same_time same_image (steps.woken.md (active_in s))
 
   lc_woken : IsWoken (lc_stands (lc_setup s.tables)) (lc_gives (lc_setup s.tables)) took.apps.lc.slot.held (lc_reads (time_at setup s) took.apps.lc.slot.commands s.pipes.lc_tlm) took.apps.lc.slot.state.value stepped.apps.lc.slot.state.value stepped.apps.lc.slot.out.items
   lc_woken =
       seen_by (lc_stands (lc_setup s.tables)) (lc_gives (lc_setup s.tables)) (λ telemetry. lc_reads (time_at setup s) took.apps.lc.slot.commands telemetry) (is_away s) took.apps.lc.slot.held took.apps.lc.telemetry.items s.pipes.lc_tlm took.apps.lc.slot.state.value
       stepped.apps.lc.slot.state.value stepped.apps.lc.slot.out.items lc_took.same (λ free. takes.takes.telemetry (ap (λ (p : Pipes). not p.watched) pipes ∙ free) ∙ ap (λ (p : Pipes). p.lc_tlm) pipes)
       (of_both (λ (t : TableSet) (n : ℕ). IsWoken (lc_stands (lc_setup t)) (lc_gives (lc_setup t)) took.apps.lc.slot.held (lc_reads n took.apps.lc.slot.commands took.apps.lc.telemetry.items) took.apps.lc.slot.state.value stepped.apps.lc.slot.state.value stepped.apps.lc.slot.out.items) _ _ _ _ same_tables same_time
-      steps.lc)
+      steps.woken.lc)
 
   pub apps_after : AppsStand stepped.apps (after_wakeups setup s frame)
   unfolding after_wakeups hs_input_at cs_input_at sc_input_at mm_input_at md_input_at lc_input_at
@@ -140,7 +140,7 @@ module _ (setup : Setup) (s : State) (frame : Frame) (start took stepped : Bench
       woken_beside (λ commands. mm_operations (mm_reads (loads_of setup.files) (time_at setup s) commands (image_at s frame))) _ took.apps.mm.held s.pipes.mm took.apps.mm.commands took.apps.mm.out.items stepped.memory.ops.value mm_took
       (subst (λ (loads : List (ℕ × List ℕ)). stepped.memory.ops.value ≡ unless took.apps.mm.held (mm_operations (mm_reads loads (time_at setup s) took.apps.mm.commands (image_at s frame)))) same_loads
       (moved (λ (t : TableSet) (n : ℕ) (m : Memory). stepped.memory.ops.value ≡ unless took.apps.mm.held (mm_operations (mm_reads (loads_in took) n took.apps.mm.commands m))) took.tables.set s.tables (time_of took) (time_at setup s) took.memory.ram (image_at s frame) same_tables
-      same_time same_image steps.operations))
+      same_time same_image steps.woken.operations))
 
   -- what the pipes hold then
   left : stepped.wires.bus ≡ left_by frame.held s.pipes

@@ -63,13 +63,7 @@ pub steps_beside : (counters : List Counter) (old new : Bench) (manned : old.app
 steps_beside counters old new manned roomy away there told steps = record {
   run = record { lines = steps.run.lines; epoch = steps.run.epoch; number = steps.run.number; failed = steps.run.failed; tables = steps.run.tables };
   told = steps.told;
-  hs = steps.hs;
-  cs = steps.cs;
-  sc = steps.sc;
-  mm = steps.mm;
-  md = steps.md;
-  lc = steps.lc;
-  operations = steps.operations;
+  woken = steps.woken;
   wires = steps.wires;
   memory = steps.memory;
 }
@@ -93,7 +87,7 @@ module _ (counters : List Counter) (old middle new : Bench) (woken : AreWoken co
       → IsWoken (lc_stands (lc_setup old.tables.set)) (lc_gives (lc_setup old.tables.set)) old.apps.lc.slot.held (lc_reads (time_of old) old.apps.lc.slot.commands old.apps.lc.telemetry.items) old.apps.lc.slot.state.value new.apps.lc.slot.state.value new.apps.lc.slot.out.items
   lc_woken true is =
       let lc = takes is in
-      taken_woken _ _ _ _ _ _ _ _ _ _ _ _ _ (woken.lc (same_there ∙ is) lc.0 lc.1) (ap (λ (l : LcSlot). l.slot.state.value) woken.slots.lc) lc.2.0 lc.2.1 _ refl
+      taken_woken _ _ _ _ _ _ _ _ _ _ _ _ _ (woken.left.lc (same_there ∙ is) lc.0 lc.1) (ap (λ (l : LcSlot). l.slot.state.value) woken.slots.lc) lc.2.0 lc.2.1 _ refl
   lc_woken false is =
       let lc = away is ∙ woken.slots.lc in
       let none = old.apps.lc.away (same_there ∙ is) in
@@ -102,7 +96,7 @@ module _ (counters : List Counter) (old middle new : Bench) (woken : AreWoken co
   lc_sendable : (there : Bool) → middle.apps.lc.there ≡ there → old.apps.lc.slot.out.items ≡ [] → AreSendable lc_most new.apps.lc.slot.out.items
   lc_sendable true is clear =
       let lc = takes is in
-      taken_sendable _ _ _ _ _ _ _ _ _ _ _ _ _ (woken.lc (same_there ∙ is) lc.0 lc.1) (ap (λ (l : LcSlot). l.slot.state.value) woken.slots.lc) lc.2.0 lc.2.1
+      taken_sendable _ _ _ _ _ _ _ _ _ _ _ _ _ (woken.left.lc (same_there ∙ is) lc.0 lc.1) (ap (λ (l : LcSlot). l.slot.state.value) woken.slots.lc) lc.2.0 lc.2.1
   lc_sendable false is clear = none_sendable _ _ (ap (λ (l : LcSlot). l.slot.out.items) (away is ∙ woken.slots.lc) ∙ clear)
 
   pub all_step : Steps counters old new
@@ -112,31 +106,33 @@ module _ (counters : List Counter) (old middle new : Bench) (woken : AreWoken co
       record {
         run = record { lines = more.lines ∙ run.lines; epoch = more.epoch ∙ run.epoch; number = more.number ∙ run.number; failed = more.failed ∙ run.failed; tables = more.tables ∙ run.tables };
         told = taken.told ∙ slots.told;
-        hs = λ tables same. taken_woken _ _ _ _ _ _ _ _ _ _ _ _ _ (woken.hs taken.hs.0 taken.hs.1) (ap (λ slot. slot.state.value) slots.hs) taken.hs.2.0 taken.hs.2.1 tables (sym same);
-        cs = λ tables same. taken_woken _ _ _ _ _ _ _ _ _ _ _ _ _ (woken.cs taken.cs.0 taken.cs.1) (ap (λ slot. slot.state.value) slots.cs) taken.cs.2.0 taken.cs.2.1 tables (sym same);
-        sc = λ tables same. taken_woken _ _ _ _ _ _ _ _ _ _ _ _ _ (woken.sc taken.sc.0 taken.sc.1).0 (ap (λ slot. slot.state.value) slots.sc) taken.sc.2.0 taken.sc.2.1 tables (sym same);
-        mm = λ tables. taken_woken _ _ _ _ _ _ _ _ _ _ _ _ _ (woken.mm taken.mm.0 taken.mm.1).0 (ap (λ slot. slot.state.value) slots.mm) taken.mm.2.0 taken.mm.2.1 tables tt;
-        md = λ tables. taken_woken _ _ _ _ _ _ _ _ _ _ _ _ _ (woken.md taken.md.0 taken.md.1).0 (ap (λ slot. slot.state.value) slots.md) taken.md.2.0 taken.md.2.1 tables tt;
-        lc = lc_woken middle.apps.lc.there refl;
-        operations = taken.mm.2.2 ∙ (woken.mm taken.mm.0 taken.mm.1).1.are;
+        woken = record {
+          hs = λ tables same. taken_woken _ _ _ _ _ _ _ _ _ _ _ _ _ (woken.left.hs taken.hs.0 taken.hs.1) (ap (λ slot. slot.state.value) slots.hs) taken.hs.2.0 taken.hs.2.1 tables (sym same);
+          cs = λ tables same. taken_woken _ _ _ _ _ _ _ _ _ _ _ _ _ (woken.left.cs taken.cs.0 taken.cs.1) (ap (λ slot. slot.state.value) slots.cs) taken.cs.2.0 taken.cs.2.1 tables (sym same);
+          sc = λ tables same. taken_woken _ _ _ _ _ _ _ _ _ _ _ _ _ (woken.left.sc taken.sc.0 taken.sc.1).0 (ap (λ slot. slot.state.value) slots.sc) taken.sc.2.0 taken.sc.2.1 tables (sym same);
+          mm = λ tables. taken_woken _ _ _ _ _ _ _ _ _ _ _ _ _ (woken.left.mm taken.mm.0 taken.mm.1).0 (ap (λ slot. slot.state.value) slots.mm) taken.mm.2.0 taken.mm.2.1 tables tt;
+          md = λ tables. taken_woken _ _ _ _ _ _ _ _ _ _ _ _ _ (woken.left.md taken.md.0 taken.md.1).0 (ap (λ slot. slot.state.value) slots.md) taken.md.2.0 taken.md.2.1 tables tt;
+          lc = lc_woken middle.apps.lc.there refl;
+          operations = taken.mm.2.2 ∙ (woken.left.mm taken.mm.0 taken.mm.1).1.are;
+        };
         wires = wires ∙ woken.wires;
         memory = same_memory;
       }
 
   sendable_hs : AreSendable hs_most new.apps.hs.out.items
-  sendable_hs = taken_sendable _ _ _ _ _ _ _ _ _ _ _ _ _ (woken.hs taken.hs.0 taken.hs.1) (ap (λ slot. slot.state.value) woken.slots.hs) taken.hs.2.0 taken.hs.2.1
+  sendable_hs = taken_sendable _ _ _ _ _ _ _ _ _ _ _ _ _ (woken.left.hs taken.hs.0 taken.hs.1) (ap (λ slot. slot.state.value) woken.slots.hs) taken.hs.2.0 taken.hs.2.1
 
   pub all_can_send : old.apps.lc.slot.out.items ≡ [] → CanSend new
   all_can_send clear =
       let slots = woken.slots in
-      let land = (woken.mm taken.mm.0 taken.mm.1).1.can_land in
+      let land = (woken.left.mm taken.mm.0 taken.mm.1).1.can_land in
       record {
         apps = record {
           hs = sendable_hs;
-          cs = taken_sendable _ _ _ _ _ _ _ _ _ _ _ _ _ (woken.cs taken.cs.0 taken.cs.1) (ap (λ slot. slot.state.value) slots.cs) taken.cs.2.0 taken.cs.2.1;
-          sc = taken_sendable _ _ _ _ _ _ _ _ _ _ _ _ _ (woken.sc taken.sc.0 taken.sc.1).0 (ap (λ slot. slot.state.value) slots.sc) taken.sc.2.0 taken.sc.2.1;
-          mm = taken_sendable _ _ _ _ _ _ _ _ _ _ _ _ _ (woken.mm taken.mm.0 taken.mm.1).0 (ap (λ slot. slot.state.value) slots.mm) taken.mm.2.0 taken.mm.2.1;
-          md = taken_sendable _ _ _ _ _ _ _ _ _ _ _ _ _ (woken.md taken.md.0 taken.md.1).0 (ap (λ slot. slot.state.value) slots.md) taken.md.2.0 taken.md.2.1;
+          cs = taken_sendable _ _ _ _ _ _ _ _ _ _ _ _ _ (woken.left.cs taken.cs.0 taken.cs.1) (ap (λ slot. slot.state.value) slots.cs) taken.cs.2.0 taken.cs.2.1;
+          sc = taken_sendable _ _ _ _ _ _ _ _ _ _ _ _ _ (woken.left.sc taken.sc.0 taken.sc.1).0 (ap (λ slot. slot.state.value) slots.sc) taken.sc.2.0 taken.sc.2.1;
+          mm = taken_sendable _ _ _ _ _ _ _ _ _ _ _ _ _ (woken.left.mm taken.mm.0 taken.mm.1).0 (ap (λ slot. slot.state.value) slots.mm) taken.mm.2.0 taken.mm.2.1;
+          md = taken_sendable _ _ _ _ _ _ _ _ _ _ _ _ _ (woken.left.md taken.md.0 taken.md.1).0 (ap (λ slot. slot.state.value) slots.md) taken.md.2.0 taken.md.2.1;
           lc = lc_sendable middle.apps.lc.there refl clear;
         };
         operations = subst (λ (t : Loaded). CanLand (loads_of t.files) new.memory.ram new.memory.ops.value) (sym same_tables)
@@ -146,8 +142,8 @@ module _ (counters : List Counter) (old middle new : Bench) (woken : AreWoken co
   pub all_ready : IsReady old → IsReady new
   all_ready ready =
       let slots = woken.slots in
-      let sc = (woken.sc taken.sc.0 taken.sc.1) in
-      let md = (woken.md taken.md.0 taken.md.1) in
+      let sc = (woken.left.sc taken.sc.0 taken.sc.1) in
+      let md = (woken.left.md taken.md.0 taken.md.1) in
       record {
         sc = subst (λ (t : Loaded). ScIsReady t.set.sc new.apps.sc.state.value) (sym same_tables)
             (subst (λ (s : Sc). ScIsReady old.tables.set.sc s) (sym (state_is _ _ _ _ _ _ _ _ _ _ _ _ _ sc.0 (ap (λ slot. slot.state.value) slots.sc) taken.sc.2.0 taken.sc.2.1)) sc.1);

@@ -4,11 +4,13 @@ use Rattle.std.specs.List.{flat_map, list_any}
 use Rattle.bus_pipes.specs.Pipes.{Pipes, empty_pipes}
 use Rattle.bus_pipes.specs.declared.names.Out.{Out}
 use Rattle.app_suite.specs.declared.left.Left.{Left}
-use Rattle.app_suite.specs.Jobs.{LeftAs}
-use Rattle.app_suite.specs.Wakes.{HasTaken, AreSendable, joined, next_of}
+use Rattle.app_suite.specs.Turns.{Seen}
+use Rattle.app_suite.specs.Wakes.{HasTaken, IsWoken, AreSendable, joined, next_of, unless}
 use Rattle.frame_wires.specs.Sending.{is_same, sent_of}
 use Rattle.active_tables.specs.Tables.{TableSet}
-use Rattle.app_suite.specs.Applications.{cs_tables}
+use Rattle.app_suite.specs.Applications.{Active, cs_tables, lc_setup, hs_stands, cs_stands, sc_stands, mm_stands, md_stands, lc_stands, hs_gives, cs_gives, sc_gives, mm_gives, md_gives, lc_gives, hs_reads, cs_reads, sc_reads, mm_reads, md_reads, lc_reads}
+use Rattle.table_files.specs.Files.{loads_of}
+use Rattle.mm_core.specs.Step.{mm_operations}
 use Rattle.hs_monitors.specs.Histories.{setup_of}
 use Rattle.hs_monitors.specs.State.{Stands as HsStands}
 use Rattle.cs_slices.specs.State.{Stands as CsStands}
@@ -86,9 +88,16 @@ pub record TakeAll (held : List App) (pipes : Pipes) (old new : Applications) : 
   pub lc : HasTaken (not pipes.watched) pipes.lc new.lc.slot.held new.lc.slot.commands new.lc.slot.out.items
   pub telemetry : not pipes.watched ≡ false → new.lc.telemetry.items ≡ pipes.lc_tlm
 
--- the result of a job is one of which this holds
-abbrev pub HasLeft : Applications → ℕ → (Left → Type 0) → Type 0
-HasLeft a job P = LeftAs a.crew.results job P
+-- The applications were woken on what the wakeups of a frame read, unless they were held: their next states, their items, and MM's
+-- operations.
+pub record StepAll (s : Seen) (new : Applications) (ops : List MemOp) : Type 0 where
+  pub hs : (tables : Active) → tables.now.hs ≡ s.tables.hs → IsWoken (hs_stands tables) (hs_gives tables) s.hs.held (hs_reads s.time s.hs.commands s.events s.counters) s.hs.state.value new.hs.state.value new.hs.out.items
+  pub cs : (tables : Active) → cs_tables tables.now ≡ cs_tables s.tables → IsWoken (cs_stands tables) (cs_gives tables) s.cs.held (cs_reads s.time s.cs.commands s.memory) s.cs.state.value new.cs.state.value new.cs.out.items
+  pub sc : (tables : Active) → tables.now.sc ≡ s.tables.sc → IsWoken (sc_stands tables) (sc_gives tables) s.sc.held (sc_reads s.time s.sc.commands) s.sc.state.value new.sc.state.value new.sc.out.items
+  pub mm : (tables : TableSet) → IsWoken (mm_stands tables) (mm_gives tables) s.mm.held (mm_reads (loads_of s.files) s.time s.mm.commands s.memory) s.mm.state.value new.mm.state.value new.mm.out.items
+  pub md : (tables : Active) → IsWoken (md_stands tables) (md_gives tables) s.md.held (md_reads s.time s.md.commands s.memory) s.md.state.value new.md.state.value new.md.out.items
+  pub lc : IsWoken (lc_stands (lc_setup s.tables)) (lc_gives (lc_setup s.tables)) s.lc.held (lc_reads s.time s.lc.commands s.telemetry) s.lc.state.value new.lc.slot.state.value new.lc.slot.out.items
+  pub operations : ops ≡ unless s.mm.held (mm_operations (mm_reads (loads_of s.files) s.time s.mm.commands s.memory))
 
 -- what was taken over is the result of a job
 abbrev pub IsTaken : Applications → ℕ → (Left → Type 0) → Type 0

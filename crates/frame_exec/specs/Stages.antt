@@ -1,15 +1,11 @@
 -- What the stages of a frame change in the bench.
-use Rattle.std.specs.Prelude.{◌≡◌, ℕ, ◌+◌, true, List, [], ◌++◌, length}
+use Rattle.std.specs.Prelude.{◌≡◌, ℕ, ◌+◌, List, [], ◌++◌, length}
 use Rattle.std.specs.List.{AllPass, flat_map, fold, list_any}
 use Rattle.bus_pipes.specs.Delivery.{after_offers, drops_from}
 use Rattle.bus_pipes.specs.Counted.{is_item_counted}
 use Rattle.bus_pipes.specs.declared.names.Out.{Out}
 use Rattle.table_files.specs.Files.{loads_of}
 use Rattle.memory_window.specs.Landing.{land}
-use Rattle.sc_sequences.specs.State.{IsReady as ScIsReady}
-use Rattle.memory_window.specs.Memory.{regions_of}
-use Rattle.md_dwell.specs.State.{AllGiven}
-use Rattle.mm_core.specs.Step.{mm_operations}
 use Rattle.packet_forms.specs.declared.name.Counter.{Counter}
 use Rattle.packet_log.specs.Items.{item_line}
 use Rattle.packet_log.specs.Lines.{drop_line}
@@ -17,22 +13,15 @@ use Rattle.packet_log.specs.Standing.{Stands as LogStands}
 use Rattle.scenario.specs.declared.frame.App.{App}
 use Rattle.scenario.specs.declared.frame.Upset.{Upset}
 use Rattle.scenario.specs.FrameLists.{Frame}
-use Rattle.md_dwell.specs.declared.step.TheConstants.{MOST_ITEMS as md_most}
-use Rattle.cs_slices.specs.declared.step.TheConstants.{MOST_ITEMS as cs_most}
-use Rattle.sc_sequences.specs.declared.step.TheConstants.{MOST_ITEMS as sc_most}
-use Rattle.mm_core.specs.declared.step.TheConstants.{MOST_ITEMS as mm_most}
-use Rattle.hs_monitors.specs.declared.step.TheConstants.{MOST_ITEMS as hs_most}
-use Rattle.lc_watch.specs.declared.step.TheConstants.{MOST_ITEMS as lc_most}
 use Rattle.frame_exec.specs.declared.bench.Bench.{Bench}
-use Rattle.active_tables.specs.Tables.{TableSet}
 use Rattle.frame_wires.specs.Sending.{upset_by, sent_of, is_reset, offered}
 use Rattle.packet_log.specs.Sent.{makes}
-use Rattle.app_suite.specs.Wakes.{joined, unless, IsWoken, next_of}
-use Rattle.app_suite.specs.Applications.{Active, cs_tables, lc_setup, hs_stands, cs_stands, sc_stands, mm_stands, md_stands, lc_stands, hs_gives, cs_gives, sc_gives, mm_gives, md_gives, lc_gives, hs_reads, cs_reads, sc_reads, mm_reads, md_reads, lc_reads}
+use Rattle.app_suite.specs.Wakes.{joined}
 use Rattle.frame_runs.specs.Runs.{Setup, State, after_activation, activated_at, run_of, table_events, image_at, items_at, operations_at, left_by, sent_at, resets_at, offers_at, after_wakeups, behind}
 use Rattle.app_suite.specs.Landable.{CanLand}
-use Rattle.app_suite.specs.Jobs.{Gives, Operates, jobs_of}
-use Rattle.frame_exec.specs.Parts.{KeepsApps, KeepsSlots, AreClear, CanBeSent, TakeAll, items_in, HasLeft}
+use Rattle.app_suite.specs.Jobs.{AllLeave, jobs_of}
+use Rattle.app_suite.specs.Turns.{Seen}
+use Rattle.frame_exec.specs.Parts.{KeepsApps, KeepsSlots, AreClear, CanBeSent, StepAll, TakeAll, items_in}
 use Rattle.frame_exec.specs.Standing.{AppsStand, Has}
 
 -- the time of the frame that comes
@@ -109,17 +98,29 @@ pub record IsClear (b : Bench) : Type 0 where
 abbrev pub loads_in : Bench → List (ℕ × List ℕ)
 loads_in b = loads_of b.tables.files
 
+-- what the wakeups of a frame read in the bench, on these execution counters
+abbrev pub seen_in : List Counter → Bench → Seen
+seen_in counters b = record {
+  hs = b.apps.hs;
+  events = b.apps.events;
+  cs = b.apps.cs;
+  sc = b.apps.sc;
+  mm = b.apps.mm;
+  md = b.apps.md;
+  lc = b.apps.lc.slot;
+  telemetry = b.apps.lc.telemetry.items;
+  tables = b.tables.set;
+  files = b.tables.files;
+  memory = b.memory.ram;
+  counters = counters;
+  time = time_of b;
+}
+
 -- the applications were woken on what they took, and on these execution counters or memory, unless they were held
 pub record Steps (counters : List Counter) (old new : Bench) : Type 0 where
   pub run : IsSameRun old new
   pub told : new.apps.activations ≡ old.apps.activations
-  pub hs : (tables : Active) → tables.now.hs ≡ old.tables.set.hs → IsWoken (hs_stands tables) (hs_gives tables) old.apps.hs.held (hs_reads (time_of old) old.apps.hs.commands old.apps.events counters) old.apps.hs.state.value new.apps.hs.state.value new.apps.hs.out.items
-  pub cs : (tables : Active) → cs_tables tables.now ≡ cs_tables old.tables.set → IsWoken (cs_stands tables) (cs_gives tables) old.apps.cs.held (cs_reads (time_of old) old.apps.cs.commands old.memory.ram) old.apps.cs.state.value new.apps.cs.state.value new.apps.cs.out.items
-  pub sc : (tables : Active) → tables.now.sc ≡ old.tables.set.sc → IsWoken (sc_stands tables) (sc_gives tables) old.apps.sc.held (sc_reads (time_of old) old.apps.sc.commands) old.apps.sc.state.value new.apps.sc.state.value new.apps.sc.out.items
-  pub mm : (tables : TableSet) → IsWoken (mm_stands tables) (mm_gives tables) old.apps.mm.held (mm_reads (loads_in old) (time_of old) old.apps.mm.commands old.memory.ram) old.apps.mm.state.value new.apps.mm.state.value new.apps.mm.out.items
-  pub md : (tables : Active) → IsWoken (md_stands tables) (md_gives tables) old.apps.md.held (md_reads (time_of old) old.apps.md.commands old.memory.ram) old.apps.md.state.value new.apps.md.state.value new.apps.md.out.items
-  pub lc : IsWoken (lc_stands (lc_setup old.tables.set)) (lc_gives (lc_setup old.tables.set)) old.apps.lc.slot.held (lc_reads (time_of old) old.apps.lc.slot.commands old.apps.lc.telemetry.items) old.apps.lc.slot.state.value new.apps.lc.slot.state.value new.apps.lc.slot.out.items
-  pub operations : new.memory.ops.value ≡ unless old.apps.mm.held (mm_operations (mm_reads (loads_in old) (time_of old) old.apps.mm.commands old.memory.ram))
+  pub woken : StepAll (seen_in counters old) new.apps new.memory.ops.value
   pub wires : new.wires ≡ old.wires
   pub memory : new.memory.ram ≡ old.memory.ram
 
@@ -127,18 +128,10 @@ pub record Steps (counters : List Counter) (old new : Bench) : Type 0 where
 pub record AreWoken (counters : List Counter) (old new : Bench) : Type 0 where
   pub run : IsSameRun old new
   pub slots : KeepsSlots old.apps new.apps
+  pub manned : length new.apps.crew.results ≡ jobs_of old.apps.lc.there
+  pub left : AllLeave old.apps.lc.there (seen_in counters old) new.apps.crew.results
   pub wires : new.wires ≡ old.wires
   pub memory : new.memory ≡ old.memory
-  pub manned : length new.apps.crew.results ≡ jobs_of old.apps.lc.there
-  pub hs : HasLeft new.apps 0 (λ left. Gives (λ t. old.tables.set.hs ≡ t.now.hs) hs_stands hs_gives hs_most old.apps.hs.held (hs_reads (time_of old) old.apps.hs.commands old.apps.events counters) old.apps.hs.state.value left.stays left.hs.value left.out.items)
-  pub cs : HasLeft new.apps 1 (λ left. Gives (λ t. cs_tables old.tables.set ≡ cs_tables t.now) cs_stands cs_gives cs_most old.apps.cs.held (cs_reads (time_of old) old.apps.cs.commands old.memory.ram) old.apps.cs.state.value left.stays left.cs.value left.out.items)
-  pub sc : HasLeft new.apps 2 (λ left. Gives (λ t. old.tables.set.sc ≡ t.now.sc) sc_stands sc_gives sc_most old.apps.sc.held (sc_reads (time_of old) old.apps.sc.commands) old.apps.sc.state.value left.stays left.sc.value left.out.items
-      × ScIsReady old.tables.set.sc (next_of left.stays left.sc.value old.apps.sc.state.value))
-  pub mm : HasLeft new.apps 3 (λ left. Gives {Setup = TableSet} (λ t. Unit {0}) mm_stands mm_gives mm_most old.apps.mm.held (mm_reads (loads_in old) (time_of old) old.apps.mm.commands old.memory.ram) old.apps.mm.state.value left.stays left.mm.value left.out.items
-      × Operates (loads_in old) old.apps.mm.held (time_of old) old.apps.mm.commands old.memory.ram left.ops.value)
-  pub md : HasLeft new.apps 4 (λ left. Gives {Setup = Active} (λ t. Unit {0}) md_stands md_gives md_most old.apps.md.held (md_reads (time_of old) old.apps.md.commands old.memory.ram) old.apps.md.state.value left.stays left.md.value left.out.items
-      × AllGiven (regions_of old.memory.ram.areas) (next_of left.stays left.md.value old.apps.md.state.value))
-  pub lc : old.apps.lc.there ≡ true → HasLeft new.apps 5 (λ left. Gives (λ t. lc_setup old.tables.set ≡ t) lc_stands lc_gives lc_most old.apps.lc.slot.held (lc_reads (time_of old) old.apps.lc.slot.commands old.apps.lc.telemetry.items) old.apps.lc.slot.state.value left.stays left.lc.value left.out.items)
 
 -- what the wakeups leave can be sent, and landed on the frame's image
 pub record CanSend (b : Bench) : Type 0 where

@@ -36,17 +36,19 @@ returns-clause-steps g c =
     record {
       run = record { lines = refl; epoch = refl; number = refl; failed = refl; tables = refl };
       told = refl;
-      hs = λ tables same. c.wake_in_place-hs.ensures.woken tables (sym same);
-      cs = λ tables same. subst (λ (m : Memory). IsWoken (cs_stands tables) (cs_gives tables) b.apps.cs.held (cs_reads time b.apps.cs.commands m) b.apps.cs.state.value cs.state.value cs.out.items) is
-          (c.wake_in_place-cs.ensures.woken tables (sym same));
-      sc = λ tables same. c.wake_in_place-sc.ensures.woken tables (sym same);
-      mm = λ tables. subst (λ (m : Memory). IsWoken (mm_stands tables) (mm_gives tables) b.apps.mm.held (mm_reads (loads_in b) time b.apps.mm.commands m) b.apps.mm.state.value mm.state.value mm.out.items) is
-          (c.wake_in_place-mm.ensures.woken tables tt);
-      md = λ tables. subst (λ (m : Memory). IsWoken (md_stands tables) (md_gives tables) b.apps.md.held (md_reads time b.apps.md.commands m) b.apps.md.state.value md.state.value md.out.items) is
-          (c.wake_in_place-md.ensures.woken tables tt);
-      lc = c.wake_in_place-lc.ensures.woken (lc_setup b.tables.set) refl;
-      operations = left_unless b.apps.mm.held c.wake_in_place-mm.new.beside (mm_operations (mm_reads (loads_in b) time b.apps.mm.commands b.memory.ram)) c.wake_in_place-mm.ensures.held
-          (λ here. (c.wake_in_place-mm.ensures.fills here).0 ∙ ap (λ (m : Memory). mm_operations (mm_reads (loads_in b) time b.apps.mm.commands m)) is);
+      woken = record {
+        hs = λ tables same. c.wake_in_place-hs.ensures.woken tables (sym same);
+        cs = λ tables same. subst (λ (m : Memory). IsWoken (cs_stands tables) (cs_gives tables) b.apps.cs.held (cs_reads time b.apps.cs.commands m) b.apps.cs.state.value cs.state.value cs.out.items) is
+            (c.wake_in_place-cs.ensures.woken tables (sym same));
+        sc = λ tables same. c.wake_in_place-sc.ensures.woken tables (sym same);
+        mm = λ tables. subst (λ (m : Memory). IsWoken (mm_stands tables) (mm_gives tables) b.apps.mm.held (mm_reads (loads_in b) time b.apps.mm.commands m) b.apps.mm.state.value mm.state.value mm.out.items) is
+            (c.wake_in_place-mm.ensures.woken tables tt);
+        md = λ tables. subst (λ (m : Memory). IsWoken (md_stands tables) (md_gives tables) b.apps.md.held (md_reads time b.apps.md.commands m) b.apps.md.state.value md.state.value md.out.items) is
+            (c.wake_in_place-md.ensures.woken tables tt);
+        lc = c.wake_in_place-lc.ensures.woken (lc_setup b.tables.set) refl;
+        operations = left_unless b.apps.mm.held c.wake_in_place-mm.new.beside (mm_operations (mm_reads (loads_in b) time b.apps.mm.commands b.memory.ram)) c.wake_in_place-mm.ensures.held
+            (λ here. (c.wake_in_place-mm.ensures.fills here).0 ∙ ap (λ (m : Memory). mm_operations (mm_reads (loads_in b) time b.apps.mm.commands m)) is);
+      };
       wires = refl;
       memory = refl;
     }
@@ -93,17 +95,19 @@ returns-then-all_rest-clause-steps g c =
     record {
       run = record { lines = refl; epoch = refl; number = refl; failed = refl; tables = refl };
       told = refl;
-      hs = λ tables same. rested _ _ _ _ _ _ clear.apps.hs (c.rests-hs_rests.ensures.woken tables all.0 (sym same));
-      cs = λ tables same. rested _ _ _ _ _ _ clear.apps.cs (subst (λ (m : Memory). IsWoken (cs_stands tables) (cs_gives tables) b.apps.cs.held (cs_reads time b.apps.cs.commands m) b.apps.cs.state.value b.apps.cs.state.value []) is
-          (c.rests-cs_rests.ensures.woken tables all.1 (sym same)));
-      sc = λ tables same. rested _ _ _ _ _ _ clear.apps.sc (c.rests-sc_rests.ensures.woken tables all.2 (sym same));
-      mm = λ tables. rested _ _ _ _ _ _ clear.apps.mm (subst (λ (m : Memory). IsWoken (mm_stands tables) (mm_gives tables) b.apps.mm.held (mm_reads (loads_in b) time b.apps.mm.commands m) b.apps.mm.state.value b.apps.mm.state.value []) is
-          (c.rests-mm_rests.ensures.woken tables all.3 tt));
-      md = λ tables. rested _ _ _ _ _ _ clear.apps.md (subst (λ (m : Memory). IsWoken (md_stands tables) (md_gives tables) b.apps.md.held (md_reads time b.apps.md.commands m) b.apps.md.state.value b.apps.md.state.value []) is
-          (c.rests-md_rests.ensures.woken tables all.4 tt));
-      lc = rested _ _ _ _ _ _ clear.apps.lc (c.rests-lc_rests.ensures.woken (lc_setup b.tables.set) all.5 refl);
-      operations = left_unless b.apps.mm.held b.memory.ops.value (mm_operations (mm_reads (loads_in b) time b.apps.mm.commands b.memory.ram)) (λ held. clear.operations)
-          (λ here. (c.rests-mm_rests.ensures.fills b.memory.ops.value all.3 here clear.operations).0 ∙ ap (λ (m : Memory). mm_operations (mm_reads (loads_in b) time b.apps.mm.commands m)) is);
+      woken = record {
+        hs = λ tables same. rested _ _ _ _ _ _ clear.apps.hs (c.rests-hs_rests.ensures.woken tables all.0 (sym same));
+        cs = λ tables same. rested _ _ _ _ _ _ clear.apps.cs (subst (λ (m : Memory). IsWoken (cs_stands tables) (cs_gives tables) b.apps.cs.held (cs_reads time b.apps.cs.commands m) b.apps.cs.state.value b.apps.cs.state.value []) is
+            (c.rests-cs_rests.ensures.woken tables all.1 (sym same)));
+        sc = λ tables same. rested _ _ _ _ _ _ clear.apps.sc (c.rests-sc_rests.ensures.woken tables all.2 (sym same));
+        mm = λ tables. rested _ _ _ _ _ _ clear.apps.mm (subst (λ (m : Memory). IsWoken (mm_stands tables) (mm_gives tables) b.apps.mm.held (mm_reads (loads_in b) time b.apps.mm.commands m) b.apps.mm.state.value b.apps.mm.state.value []) is
+            (c.rests-mm_rests.ensures.woken tables all.3 tt));
+        md = λ tables. rested _ _ _ _ _ _ clear.apps.md (subst (λ (m : Memory). IsWoken (md_stands tables) (md_gives tables) b.apps.md.held (md_reads time b.apps.md.commands m) b.apps.md.state.value b.apps.md.state.value []) is
+            (c.rests-md_rests.ensures.woken tables all.4 tt));
+        lc = rested _ _ _ _ _ _ clear.apps.lc (c.rests-lc_rests.ensures.woken (lc_setup b.tables.set) all.5 refl);
+        operations = left_unless b.apps.mm.held b.memory.ops.value (mm_operations (mm_reads (loads_in b) time b.apps.mm.commands b.memory.ram)) (λ held. clear.operations)
+            (λ here. (c.rests-mm_rests.ensures.fills b.memory.ops.value all.3 here clear.operations).0 ∙ ap (λ (m : Memory). mm_operations (mm_reads (loads_in b) time b.apps.mm.commands m)) is);
+      };
       wires = refl;
       memory = refl;
     }
