@@ -27,7 +27,7 @@ pub use hs_slot::HsSlot;
 pub use jobs::{jobs_of, wake_all};
 pub use lc_slot::LcSlot;
 pub use left::{Left, Next};
-pub use lists::{deliver_all, in_order};
+pub use lists::in_order;
 pub use md_slot::MdSlot;
 pub use mm_slot::MmSlot;
 pub use reads::Reads;
