@@ -49,6 +49,12 @@ pub record KeepsApps (old new : Applications) : Type 0 where
   pub md : new.md.state ≡ old.md.state
   pub lc : new.lc.slot.state ≡ old.lc.slot.state
 
+-- whether LC is there stays, how many jobs the crew has, and how many events there is room for
+pub record KeepsRoom (old new : Applications) : Type 0 where
+  pub there : new.lc.there ≡ old.lc.there
+  pub jobs : new.crew.jobs ≡ old.crew.jobs
+  pub events : new.activations.room ≡ old.activations.room
+
 -- the slots of the applications stay, and what was told of activations
 pub record KeepsSlots (old new : Applications) : Type 0 where
   pub told : new.activations ≡ old.activations

@@ -55,7 +55,7 @@ impl Applications {
     ghost use Rattle.frame_runs.specs.Runs.{left_by};
     ghost use Rattle.frame_wires.specs.Sending.{is_reset, shown};
     ghost use Rattle.scenario.specs.declared.frame.App.{App};
-    ghost use Rattle.frame_exec.specs.Parts.{AreClear, AreReadyOn, AreStamped, CanBeSent, HistoriesBegin, IsTaken, KeepsApps, TakeAll, TakesOver, given_in, items_in};
+    ghost use Rattle.frame_exec.specs.Parts.{AreClear, AreReadyOn, AreStamped, CanBeSent, HistoriesBegin, IsTaken, KeepsApps, KeepsRoom, TakeAll, TakesOver, given_in, items_in};
 
     /// The applications on these tables before the first frame, whose time is `time`, with a crew of so many workers; and whether LC
     /// is there.
@@ -94,9 +94,7 @@ impl Applications {
             (resets_made setup history) (resets_maximum setup history) self.new }
         ensures ready { AreReadyOn tables.now.set self.new }
         ensures items { items_in self.new ≡ items_in self.old }
-        ensures there { self.new.lc.there ≡ self.old.lc.there }
-        ensures jobs { self.new.crew.jobs ≡ self.old.crew.jobs }
-        ensures room { self.new.activations.room ≡ self.old.activations.room }
+        ensures keeps { KeepsRoom self.old self.new }
     {
         let (made, max) = self.hs.state.resets();
         self.hs.begin(Hs::start(tables.hs(), made, max));
@@ -111,10 +109,8 @@ impl Applications {
     #[inline(always)]
     pub(crate) fn forget_told(&mut self)
         ensures none { self.new.activations.items ≡ [] }
-        ensures room { self.new.activations.room ≡ self.old.activations.room }
         ensures apps { KeepsApps self.old self.new }
-        ensures there { self.new.lc.there ≡ self.old.lc.there }
-        ensures jobs { self.new.crew.jobs ≡ self.old.crew.jobs }
+        ensures keeps { KeepsRoom self.old self.new }
     {
         self.activations.clear();
     }
@@ -124,10 +120,8 @@ impl Applications {
         requires room { length self.old.activations.items < self.old.activations.room }
         ensures told { self.new.activations.items
             ≡ self.old.activations.items ++ table_event time naming ∷ [] }
-        ensures room { self.new.activations.room ≡ self.old.activations.room }
         ensures apps { KeepsApps self.old self.new }
-        ensures there { self.new.lc.there ≡ self.old.lc.there }
-        ensures jobs { self.new.crew.jobs ≡ self.old.crew.jobs }
+        ensures keeps { KeepsRoom self.old self.new }
     {
         tell(&mut self.activations, naming, time);
     }
@@ -142,10 +136,8 @@ impl Applications {
         ensures pipes { (held : List App) → AreHeld held holds
             → wires.new.bus ≡ left_by held wires.old.bus }
         ensures log { wires.new.log ≡ wires.old.log }
-        ensures there { self.new.lc.there ≡ self.old.lc.there }
+        ensures keeps { KeepsRoom self.old self.new }
         ensures watched { wires.new.bus.watched ≡ wires.old.bus.watched }
-        ensures jobs { self.new.crew.jobs ≡ self.old.crew.jobs }
-        ensures room { self.new.activations.room ≡ self.old.activations.room }
     {
         self.hs.take(&mut wires.bus, PipeName::Hs, holds.hs);
         take_unless(&mut wires.bus, PipeName::HsEv, holds.hs, &mut self.events);
@@ -168,8 +160,7 @@ impl Applications {
             ≡ next_of left.stays left.lc.value self.old.lc.slot.state.value)
             × (self.new.lc.slot.out.items ≡ left.out.items)) }
         ensures away { self.old.lc.there ≡ false → self.new.lc ≡ self.old.lc }
-        ensures there { self.new.lc.there ≡ self.old.lc.there }
-        ensures jobs { self.new.crew.jobs ≡ self.old.crew.jobs }
+        ensures keeps { KeepsRoom self.old self.new }
         ensures none { result ≡ true → joined (given_in self.new) ≡ [] }
     {
         let none = self.take_over_first(ops);
@@ -208,9 +199,7 @@ impl Applications {
         requires told { AllPass is_item_counted self.old.activations.items }
         requires can { CanBeSent self.old }
         ensures stamped { AreStamped wires.old wires.new self.old self.new }
-        ensures there { self.new.lc.there ≡ self.old.lc.there }
-        ensures jobs { self.new.crew.jobs ≡ self.old.crew.jobs }
-        ensures room { self.new.activations.room ≡ self.old.activations.room }
+        ensures keeps { KeepsRoom self.old self.new }
     {
         wires.stamp(&mut self.activations);
         wires.stamp(&mut self.hs.out);

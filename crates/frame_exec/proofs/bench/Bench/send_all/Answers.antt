@@ -70,10 +70,10 @@ watched_is c =
     sym (second ∙ first ∙ ap (λ (p : Pipes). p.watched) c.stamp.ensures.stamped.pipes)
 
 pub invariant_of-self-2-clause-manned : goal.invariant_of-self-2-clause-manned
-invariant_of-self-2-clause-manned c = c.stamp.ensures.jobs ∙ c.args.self.now.manned ∙ ap jobs_of (watched_is c)
+invariant_of-self-2-clause-manned c = c.stamp.ensures.keeps.jobs ∙ c.args.self.now.manned ∙ ap jobs_of (watched_is c)
 
 pub invariant_of-self-2-clause-there : goal.invariant_of-self-2-clause-there
-invariant_of-self-2-clause-there c = c.stamp.ensures.there ∙ c.args.self.now.there ∙ watched_is c
+invariant_of-self-2-clause-there c = c.stamp.ensures.keeps.there ∙ c.args.self.now.there ∙ watched_is c
 
 -- how many items seven lists have
 seven_long : (a b c d e f g : List Out) → length (a ++ (b ++ (c ++ (d ++ (e ++ (f ++ (g ++ []))))))) ≡ length a + (length b + (length c + (length d + (length e + (length f + (length g + 0))))))
