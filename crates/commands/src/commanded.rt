@@ -5,7 +5,7 @@ ghost use Rattle.bus_pipes.specs.Held.{adding};
 ghost use Rattle.bus_pipes.specs.Counted.{is_item_counted};
 ghost use Rattle.bus_pipes.specs.declared.names.Out.TheVariants as outs;
 ghost use Rattle.commands.specs.Rows.{row_of, is_allowed};
-ghost use Rattle.commands.specs.Verdicts.{Language};
+ghost use Rattle.commands.specs.Verdicts.{Language, Protocol};
 ghost use Rattle.commands.specs.Answering.{Answers};
 
 use crate::verdicts::CodeRow;
@@ -62,7 +62,8 @@ pub trait Commanded<R: Copy> {
 
     ghost Turn: { Type 0 };
 
-    ghost refuses: { Basis → List Self.Instruction → Self.Instruction → Option Self.Refusal };
+    // its commands, and how it refuses them
+    ghost protocol: { Protocol Basis Self.Instruction Self.Refusal };
 
     ghost answers: { Answers Turn Self.Instruction };
 
@@ -83,7 +84,7 @@ pub trait Commanded<R: Copy> {
     fn refusal(&self, instruction: &Self::Instruction, reads: R, now: u32) -> Option<Self::Refusal>
         ensures refusal { (turn : Turn) (orders : List Self.Instruction) (left : Self.Left)
             → belongs turn reads now → stands turn orders self.now left
-            → result ≡ refuses (basis turn) orders instruction.now }
+            → result ≡ protocol.refuses (basis turn) orders instruction.now }
         ensures passes { result ≡ None → can_obey reads self.now instruction.now };
 
     /// The housekeeping packet.
@@ -117,6 +118,10 @@ pub trait Commanded<R: Copy> {
             → AllPass is_item_counted out.new.items }
         ensures few { length out.new.items ≤ length out.old.items + most }
         ensures room { out.new.room ≡ out.old.room };
+
+    ghost speaks: { protocol.language ≡ Self.Instruction.language };
+
+    ghost numbers: { protocol.number ≡ Self.Refusal.number };
 
     ghost still_safe: { (reads : R) (n : ℕ) (state : Self) (left : Self.Left)
         → is_safe reads n state left → is_safe reads (n + 1) state left };

@@ -5,7 +5,7 @@ ghost use Rattle.bus_pipes.specs.Held.{adding};
 ghost use Rattle.bus_pipes.specs.Counted.{is_item_counted};
 ghost use Rattle.packet_forms.specs.Packets.{payload_of};
 ghost use Rattle.commands.specs.Rows.{row_of, is_allowed};
-ghost use Rattle.commands.specs.Verdicts.{protocol_of, orders_in, verdict_by_form, verdict_at, verdicts_on};
+ghost use Rattle.commands.specs.Verdicts.{orders_in, verdict_by_form, verdict_at, verdicts_on};
 ghost use Rattle.commands.specs.Counting.{counts_of};
 ghost use Rattle.commands.specs.Answering.{packet_items, command_items};
 ghost use Rattle.commands.specs.declared.verdicts.Verdict.{Verdict};
@@ -34,18 +34,15 @@ pub fn handle_all<R: Copy + Drop, S: Commanded<R>>(
     ensures counts { (turn : S.Turn) → S.belongs turn reads now
         → S.stands turn [] state.old left.old → counts.old ≡ counts_of (S.answers.earlier turn)
         → counts.new ≡ counts_of (S.answers.earlier turn
-        ++ verdicts_on (protocol_of S.Instruction.language S.Refusal.number S.refuses)
-        (S.basis turn) packets.now) }
+        ++ verdicts_on S.protocol (S.basis turn) packets.now) }
     ensures stands { (turn : S.Turn) → S.belongs turn reads now
         → S.stands turn [] state.old left.old
-        → S.stands turn (orders_in (verdicts_on
-        (protocol_of S.Instruction.language S.Refusal.number S.refuses)
-        (S.basis turn) packets.now)) state.new left.new }
+        → S.stands turn (orders_in (verdicts_on S.protocol (S.basis turn) packets.now)) state.new
+        left.new }
     ensures items { (turn : S.Turn) → S.belongs turn reads now → S.stands turn [] state.old left.old
         → counts.old ≡ counts_of (S.answers.earlier turn)
         → out.new ≡ adding out.old (command_items S.answers S.Instruction.language.name turn
-        (verdicts_on (protocol_of S.Instruction.language S.Refusal.number S.refuses)
-        (S.basis turn) packets.now)) }
+        (verdicts_on S.protocol (S.basis turn) packets.now)) }
     ensures safe { S.is_safe reads (length packets.now) state.new left.new }
     ensures counted { AllPass is_item_counted out.new.items }
     ensures few { length out.new.items ≤ (1 + S.most) * length packets.now }
@@ -73,19 +70,16 @@ fn handle<R: Copy + Drop, S: Commanded<R>>(
         → S.belongs turn reads now → S.stands turn (orders_in heard) state.old left.old
         → counts.old ≡ counts_of (S.answers.earlier turn ++ heard)
         → counts.new ≡ counts_of ((S.answers.earlier turn ++ heard)
-        ++ verdict_at (protocol_of S.Instruction.language S.Refusal.number S.refuses)
-        (S.basis turn) (orders_in heard) packet.now ∷ []) }
+        ++ verdict_at S.protocol (S.basis turn) (orders_in heard) packet.now ∷ []) }
     ensures stands { (turn : S.Turn) (heard : List (Verdict S.Instruction))
         → S.belongs turn reads now → S.stands turn (orders_in heard) state.old left.old
-        → S.stands turn (orders_in (heard ++ verdict_at
-        (protocol_of S.Instruction.language S.Refusal.number S.refuses) (S.basis turn)
+        → S.stands turn (orders_in (heard ++ verdict_at S.protocol (S.basis turn)
         (orders_in heard) packet.now ∷ [])) state.new left.new }
     ensures items { (turn : S.Turn) (heard : List (Verdict S.Instruction))
         → S.belongs turn reads now → S.stands turn (orders_in heard) state.old left.old
         → counts.old ≡ counts_of (S.answers.earlier turn ++ heard)
         → out.new ≡ adding out.old (packet_items S.answers S.Instruction.language.name turn heard
-        (verdict_at (protocol_of S.Instruction.language S.Refusal.number S.refuses)
-        (S.basis turn) (orders_in heard) packet.now)) }
+        (verdict_at S.protocol (S.basis turn) (orders_in heard) packet.now)) }
     ensures safe { (n : ℕ) → n < 16 → S.is_safe reads n state.old left.old
         → S.is_safe reads (n + 1) state.new left.new }
     ensures counted { AllPass is_item_counted out.old.items
@@ -124,9 +118,8 @@ fn handle<R: Copy + Drop, S: Commanded<R>>(
 #[tactic(auto, unfolding(crate::specs::Verdicts::verdict_at))]
 fn judge<R: Copy + Drop, S: Commanded<R>>(packet: &Packet) -> Verdict<()>
     ensures verdict { (basis : S.Basis) (orders : List S.Instruction)
-        → verdict_at (protocol_of S.Instruction.language S.Refusal.number S.refuses) basis orders
-        packet.now ≡ verdict_by_form (protocol_of S.Instruction.language S.Refusal.number
-        S.refuses) basis orders (payload_of packet.now) result }
+        → verdict_at S.protocol basis orders packet.now
+        ≡ verdict_by_form S.protocol basis orders (payload_of packet.now) result }
     ensures allowed { (code : ℕ) (form : Unit {0}) → result ≡ Verdict.Accepted code form
         → is_allowed (row_of S.Instruction.language.codes code) (payload_of packet.now) ≡ true }
 {

@@ -44,10 +44,10 @@ struct Reads<'a> {
 }
 
 impl<'a> Commanded<Reads<'a>> for Duty {
-    ghost use Rattle.std.specs.Prelude.{◌≡◌};
+    ghost use Rattle.std.specs.Prelude.{◌≡◌, refl};
     ghost use Rattle.cs_slices.specs.Tables.{TablePair, pair_of};
     ghost use Rattle.cs_slices.specs.Instructions.{IsNamed};
-    ghost use Rattle.cs_slices.specs.Verdicts.{own_refusal};
+    ghost use Rattle.cs_slices.specs.Verdicts.{own_refusal, cs_protocol};
     ghost use Rattle.cs_slices.specs.Histories.{tables_after};
     ghost use Rattle.cs_slices.specs.Step.{Turn, happened_in, cs_answers};
     ghost use Rattle.cs_slices.specs.State.{DutyStands};
@@ -62,7 +62,7 @@ impl<'a> Commanded<Reads<'a>> for Duty {
 
     ghost Turn = { Turn };
 
-    ghost refuses = { λ tables orders instruction. own_refusal tables instruction };
+    ghost protocol = { cs_protocol };
 
     ghost answers = { cs_answers };
 
@@ -77,6 +77,10 @@ impl<'a> Commanded<Reads<'a>> for Duty {
     ghost can_obey = { λ reads duty instruction. IsNamed instruction };
 
     ghost most = { 1 };
+
+    ghost speaks = { refl };
+
+    ghost numbers = { refl };
 
     ghost still_safe = { λ reads n duty left safe. safe };
 

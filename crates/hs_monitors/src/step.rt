@@ -29,8 +29,8 @@ struct Reads<'a> {
 }
 
 impl<'a> Commanded<Reads<'a>> for Duty {
-    ghost use Rattle.std.specs.Prelude.{◌≡◌};
-    ghost use Rattle.hs_monitors.specs.Verdicts.{own_refusal};
+    ghost use Rattle.std.specs.Prelude.{◌≡◌, refl};
+    ghost use Rattle.hs_monitors.specs.Verdicts.{hs_protocol};
     ghost use Rattle.hs_monitors.specs.Histories.{tables_after};
     ghost use Rattle.hs_monitors.specs.Attempts.{past_in};
     ghost use Rattle.hs_monitors.specs.Step.{Turn, hs_answers};
@@ -46,7 +46,7 @@ impl<'a> Commanded<Reads<'a>> for Duty {
 
     ghost Turn = { Turn };
 
-    ghost refuses = { own_refusal };
+    ghost protocol = { hs_protocol };
 
     ghost answers = { hs_answers };
 
@@ -59,6 +59,10 @@ impl<'a> Commanded<Reads<'a>> for Duty {
         (past_in turn.setup turn.history orders) duty };
 
     ghost most = { 0 };
+
+    ghost speaks = { refl };
+
+    ghost numbers = { refl };
 
     ghost still_safe = { λ reads n duty left safe. safe };
 

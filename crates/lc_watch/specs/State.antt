@@ -1,13 +1,14 @@
 -- When a state of LC stands for its tables and a history, and when it has nothing to do.
 use Rattle.std.specs.Prelude.{◌≡◌, ◌<◌, ℕ, ◌==◌, Bool, not, ◌&&◌, List, [], ◌∷◌, ◌++◌, length, false, slice_index_or}
 use Rattle.commands.specs.Counting.{counts_of}
-use Rattle.lc_watch.specs.Outcomes.{OutcomesStand}
+use Rattle.lc_watch.specs.Outcomes.{outcome_at, kept_at, OutcomesStand}
 use Rattle.lc_watch.specs.Actionpoints.{act_at, uses_any}
 use Rattle.lc_watch.specs.Failing.{PointStands}
 use Rattle.lc_watch.specs.Histories.{Input, Setup, setup_of, ordered_at, switches_in, telemetry_of, evaluations_of}
 use Rattle.lc_watch.specs.Firing.{starts_active, settings_of, fired_count}
 use Rattle.lc_watch.specs.Step.{lc_heard}
 use Rattle.lc_watch.specs.declared.watchpoints.WatchRow.{WatchRow}
+use Rattle.lc_watch.specs.declared.outcomes.Outcome.{Outcome}
 use Rattle.lc_watch.specs.declared.actionpoints.ActRow.{ActRow}
 use Rattle.lc_watch.specs.declared.points.Point.{Point}
 use Rattle.lc_watch.specs.declared.instructions.Instruction.{Instruction}
@@ -28,6 +29,12 @@ pub record DutyStands (setup : Setup) (history : List Input) (orders : List Inst
   pub outcomes : OutcomesStand setup.watch (telemetry_of history) duty.outcomes
   pub points : PointsStand setup history orders duty.points
   pub fired : duty.fired ≡ fired_count setup history
+
+-- What is kept as a wakeup's actionpoints are to be evaluated: of the watchpoints what its telemetry made of them, of the actionpoints
+-- what the history and the wakeup's commands did.
+pub record AwaitsEvaluation (setup : Setup) (history : List Input) (input : Input) (watched : List Outcome) (kept : List Point) : Type 0 where
+  pub outcomes : (k : ℕ) → kept_at watched k ≡ outcome_at setup.watch (telemetry_of (history ++ input ∷ [])) k
+  pub points : PointsStand setup history (ordered_at setup input) kept
 
 -- Once a wakeup's telemetry was taken the outcomes stand for it, and the rest still for the history and what was ordered in the wakeup.
 pub record HasTaken (setup : Setup) (history : List Input) (input : Input) (duty : Duty) : Type 0 where

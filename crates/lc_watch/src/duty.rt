@@ -4,13 +4,13 @@ ghost use Rattle.std.specs.List.{AllPass, flat_map};
 ghost use Rattle.bus_pipes.specs.Held.{adding};
 ghost use Rattle.bus_pipes.specs.Counted.{is_item_counted};
 ghost use Rattle.lc_watch.specs.declared.watchpoints.WatchRow.{WatchRow};
-ghost use Rattle.lc_watch.specs.Outcomes.{outcome_at, kept_at, OutcomesStand};
+ghost use Rattle.lc_watch.specs.Outcomes.{outcome_at, OutcomesStand};
 ghost use Rattle.lc_watch.specs.Instructions.{NamesPoint};
-ghost use Rattle.lc_watch.specs.Histories.{Input, Setup, setup_of, ordered_at, telemetry_of};
+ghost use Rattle.lc_watch.specs.Histories.{Input, Setup, setup_of};
 ghost use Rattle.lc_watch.specs.Firing.{is_active, fired_at};
 ghost use Rattle.lc_watch.specs.Housekeeping.{results_of, active_bits};
 ghost use Rattle.lc_watch.specs.Answers.{point_items};
-ghost use Rattle.lc_watch.specs.State.{PointsStand, DutyStands, HasTaken};
+ghost use Rattle.lc_watch.specs.State.{PointsStand, DutyStands, HasTaken, AwaitsEvaluation};
 ghost use Rattle.lc_watch.specs.declared.instructions.Instruction.{Instruction};
 
 use crate::actionpoints::{ACTIONPOINTS, Adt};
@@ -141,23 +141,15 @@ fn serve_all(
 )
     requires room { length out.old.items + 32 ≤ out.old.room }
     ensures points { (watch : List WatchRow) (history : List Input) (input : Input)
-        → ((k : ℕ) → kept_at outcomes.now k ≡ outcome_at watch (telemetry_of (history ++ input
-        ∷ [])) k)
-        → PointsStand (setup_of watch actions.now) history
-        (ordered_at (setup_of watch actions.now) input) points.old
+        → AwaitsEvaluation (setup_of watch actions.now) history input outcomes.now points.old
         → PointsStand (setup_of watch actions.now) (history ++ input ∷ []) [] points.new }
     ensures items { (watch : List WatchRow) (history : List Input) (input : Input)
-        → ((k : ℕ) → kept_at outcomes.now k ≡ outcome_at watch (telemetry_of (history ++ input
-        ∷ [])) k)
-        → PointsStand (setup_of watch actions.now) history
-        (ordered_at (setup_of watch actions.now) input) points.old
+        → AwaitsEvaluation (setup_of watch actions.now) history input outcomes.now points.old
         → out.new ≡ adding out.old (flat_map (point_items now actions.now)
         (fired_at (setup_of watch actions.now) history input)) }
     ensures fired { (watch : List WatchRow) (history : List Input) (input : Input) (count : ℕ)
-        → ((k : ℕ) → kept_at outcomes.now k ≡ outcome_at watch (telemetry_of (history ++ input
-        ∷ [])) k)
-        → PointsStand (setup_of watch actions.now) history
-        (ordered_at (setup_of watch actions.now) input) points.old → fired.old ≡ count % 65536
+        → AwaitsEvaluation (setup_of watch actions.now) history input outcomes.now points.old
+        → fired.old ≡ count % 65536
         → fired.new ≡ (count + length (fired_at
         (setup_of watch actions.now) history input)) % 65536 }
     ensures counted { AllPass is_item_counted out.old.items

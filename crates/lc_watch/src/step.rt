@@ -27,10 +27,10 @@ struct Reads<'a> {
 }
 
 impl<'a> Commanded<Reads<'a>> for Duty {
-    ghost use Rattle.std.specs.Prelude.{◌≡◌, List};
+    ghost use Rattle.std.specs.Prelude.{◌≡◌, List, refl};
     ghost use Rattle.lc_watch.specs.declared.actionpoints.ActRow.{ActRow};
     ghost use Rattle.lc_watch.specs.Instructions.{NamesPoint};
-    ghost use Rattle.lc_watch.specs.Verdicts.{own_refusal};
+    ghost use Rattle.lc_watch.specs.Verdicts.{own_refusal, lc_protocol};
     ghost use Rattle.lc_watch.specs.Step.{Turn, lc_answers};
     ghost use Rattle.lc_watch.specs.State.{DutyStands};
 
@@ -44,7 +44,7 @@ impl<'a> Commanded<Reads<'a>> for Duty {
 
     ghost Turn = { Turn };
 
-    ghost refuses = { λ actions orders instruction. own_refusal actions instruction };
+    ghost protocol = { lc_protocol };
 
     ghost answers = { lc_answers };
 
@@ -58,6 +58,10 @@ impl<'a> Commanded<Reads<'a>> for Duty {
     ghost can_obey = { λ reads duty instruction. NamesPoint instruction };
 
     ghost most = { 0 };
+
+    ghost speaks = { refl };
+
+    ghost numbers = { refl };
 
     ghost still_safe = { λ reads n duty left safe. safe };
 

@@ -32,10 +32,10 @@ struct Reads<'a> {
 }
 
 impl<'a> Commanded<Reads<'a>> for Duty {
-    ghost use Rattle.std.specs.Prelude.{◌≡◌, None};
+    ghost use Rattle.std.specs.Prelude.{◌≡◌, None, refl};
     ghost use Rattle.memory_window.specs.Memory.{Memory, regions_of};
     ghost use Rattle.memory_window.specs.Window.{seen};
-    ghost use Rattle.md_dwell.specs.Verdicts.{own_refusal};
+    ghost use Rattle.md_dwell.specs.Verdicts.{own_refusal, md_protocol};
     ghost use Rattle.md_dwell.specs.Step.{Turn, md_answers};
     ghost use Rattle.md_dwell.specs.State.{DutyStands, StreamsGiven};
 
@@ -49,7 +49,7 @@ impl<'a> Commanded<Reads<'a>> for Duty {
 
     ghost Turn = { Turn };
 
-    ghost refuses = { λ image orders instruction. own_refusal image instruction };
+    ghost protocol = { md_protocol };
 
     ghost answers = { md_answers };
 
@@ -67,6 +67,10 @@ impl<'a> Commanded<Reads<'a>> for Duty {
         ≡ None };
 
     ghost most = { 0 };
+
+    ghost speaks = { refl };
+
+    ghost numbers = { refl };
 
     ghost still_safe = { λ reads n duty left safe. safe };
 

@@ -26,10 +26,10 @@ use table_files::Files;
 pub const MOST_ITEMS: u32 = 272;
 
 impl<'a> Commanded<Reads<'a>> for Duty {
-    ghost use Rattle.std.specs.Prelude.{◌≡◌};
+    ghost use Rattle.std.specs.Prelude.{◌≡◌, refl};
     ghost use Rattle.std.proofs.Common.{arith};
     ghost use Rattle.mm_core.specs.Reading.{Seen, seen_in};
-    ghost use Rattle.mm_core.specs.Verdicts.{own_refusal, CanObey};
+    ghost use Rattle.mm_core.specs.Verdicts.{own_refusal, CanObey, mm_protocol};
     ghost use Rattle.mm_core.specs.Step.{Turn, mm_answers, operations_of};
     ghost use Rattle.mm_core.specs.State.{CanLand};
 
@@ -43,7 +43,7 @@ impl<'a> Commanded<Reads<'a>> for Duty {
 
     ghost Turn = { Turn };
 
-    ghost refuses = { λ seen orders instruction. own_refusal seen instruction };
+    ghost protocol = { mm_protocol };
 
     ghost answers = { mm_answers };
 
@@ -60,6 +60,10 @@ impl<'a> Commanded<Reads<'a>> for Duty {
         (seen_in reads.window reads.files.now) instruction };
 
     ghost most = { 16 };
+
+    ghost speaks = { refl };
+
+    ghost numbers = { refl };
 
     ghost still_safe = { λ reads n duty ops safe. record {
       few = Prim.omega arith;

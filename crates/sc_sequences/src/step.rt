@@ -28,7 +28,7 @@ struct Reads<'a> {
 }
 
 impl<'a> Commanded<Reads<'a>> for Duty {
-    ghost use Rattle.std.specs.Prelude.{◌≡◌};
+    ghost use Rattle.std.specs.Prelude.{◌≡◌, refl};
     ghost use Rattle.sc_sequences.specs.Verdicts.{Basis, sc_protocol};
     ghost use Rattle.sc_sequences.specs.Turns.{Sequences};
     ghost use Rattle.sc_sequences.specs.Histories.{sequences_of, tables_after, basis_of, ordered};
@@ -45,7 +45,7 @@ impl<'a> Commanded<Reads<'a>> for Duty {
 
     ghost Turn = { Turn };
 
-    ghost refuses = { sc_protocol.refuses };
+    ghost protocol = { sc_protocol };
 
     ghost answers = { sc_answers };
 
@@ -61,6 +61,10 @@ impl<'a> Commanded<Reads<'a>> for Duty {
     ghost is_safe = { λ reads n duty left. (s : Sequences) × DutyStands reads.tables.now s duty };
 
     ghost most = { 0 };
+
+    ghost speaks = { refl };
+
+    ghost numbers = { refl };
 
     ghost still_safe = { λ reads n duty left safe. safe };
 

@@ -1,6 +1,6 @@
 use Rattle.std.proofs.Common.{◌≡◌, ◌+◌, ◌++◌, ◌∷◌, [], take, length, refl, ap, ◌∙◌, append-nil, append_assoc, arith}
 use Rattle.histories.proofs.Fronts.{front_more}
-use Rattle.commands.specs.Verdicts.{protocol_of, orders_in, verdict_at, verdicts_on}
+use Rattle.commands.specs.Verdicts.{orders_in, verdict_at, verdicts_on}
 use Rattle.commands.specs.Counting.{counts_of}
 use Rattle.commands.proofs.Answering.{none_fail}
 use Rattle.commands.proofs.Heard.{orders_none, verdicts_none, verdicts_more, items_none, items_step}
@@ -8,7 +8,7 @@ use Rattle.commands.proofs.step.handle_all.Goals as goal
 
 pub loop-packet-init : goal.loop-packet-init
 loop-packet-init g c =
-    let protocol = protocol_of g.S.Instruction.Command.language g.S.Refusal.Reason.number g.S.Commanded.refuses in
+    let protocol = g.S.Commanded.protocol in
     record {
       few = omega (arith, ap length c.requires.empty);
       room = refl;
@@ -21,7 +21,7 @@ loop-packet-init g c =
 
 pub loop-packet-preserved : goal.loop-packet-preserved
 loop-packet-preserved g c =
-    let protocol = protocol_of g.S.Instruction.Command.language g.S.Refusal.Reason.number g.S.Commanded.refuses in
+    let protocol = g.S.Commanded.protocol in
     let held = c.loop-packet.invariant in
     let p = c.packet-item.result in
     let done = take c.loop-packet.packet-index c.args.packets.now in

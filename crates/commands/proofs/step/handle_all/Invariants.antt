@@ -2,7 +2,7 @@ use Rattle.std.proofs.Common.{◌≡◌, ◌+◌, ◌*◌, ◌≤◌, ◌++◌, 
 use Rattle.std.specs.List.{AllPass}
 use Rattle.bus_pipes.specs.Held.{adding}
 use Rattle.bus_pipes.specs.Counted.{is_item_counted}
-use Rattle.commands.specs.Verdicts.{protocol_of, orders_in, verdicts_on}
+use Rattle.commands.specs.Verdicts.{orders_in, verdicts_on}
 use Rattle.commands.specs.Counting.{counts_of}
 use Rattle.commands.specs.Answering.{command_items}
 use Rattle.commands.proofs.step.handle_all.Given as goal
@@ -15,9 +15,9 @@ invariant-loop-packet g l = record {
   safe : g.S.Commanded.is_safe l.reads l.packet-index l.state l.left;
   counted : AllPass is_item_counted l.out.items;
   stand : (turn : g.S.Commanded.Turn) → g.S.Commanded.belongs turn l.reads l.now → g.S.Commanded.stands turn [] l.fn.state l.fn.left
-      → g.S.Commanded.stands turn (orders_in (verdicts_on (protocol_of g.S.Instruction.Command.language g.S.Refusal.Reason.number g.S.Commanded.refuses) (g.S.Commanded.basis turn) (take l.packet-index l.packets))) l.state l.left;
+      → g.S.Commanded.stands turn (orders_in (verdicts_on g.S.Commanded.protocol (g.S.Commanded.basis turn) (take l.packet-index l.packets))) l.state l.left;
   counts : (turn : g.S.Commanded.Turn) → g.S.Commanded.belongs turn l.reads l.now → g.S.Commanded.stands turn [] l.fn.state l.fn.left → l.fn.counts ≡ counts_of (g.S.Commanded.answers.earlier turn)
-      → l.counts ≡ counts_of (g.S.Commanded.answers.earlier turn ++ verdicts_on (protocol_of g.S.Instruction.Command.language g.S.Refusal.Reason.number g.S.Commanded.refuses) (g.S.Commanded.basis turn) (take l.packet-index l.packets));
+      → l.counts ≡ counts_of (g.S.Commanded.answers.earlier turn ++ verdicts_on g.S.Commanded.protocol (g.S.Commanded.basis turn) (take l.packet-index l.packets));
   items : (turn : g.S.Commanded.Turn) → g.S.Commanded.belongs turn l.reads l.now → g.S.Commanded.stands turn [] l.fn.state l.fn.left → l.fn.counts ≡ counts_of (g.S.Commanded.answers.earlier turn)
-      → l.out ≡ adding l.fn.out (command_items g.S.Commanded.answers g.S.Instruction.Command.language.name turn (verdicts_on (protocol_of g.S.Instruction.Command.language g.S.Refusal.Reason.number g.S.Commanded.refuses) (g.S.Commanded.basis turn) (take l.packet-index l.packets)));
+      → l.out ≡ adding l.fn.out (command_items g.S.Commanded.answers g.S.Instruction.Command.language.name turn (verdicts_on g.S.Commanded.protocol (g.S.Commanded.basis turn) (take l.packet-index l.packets)));
 }

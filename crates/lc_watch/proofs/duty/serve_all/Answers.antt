@@ -9,7 +9,7 @@ use Rattle.lc_watch.specs.Failing.{fires_by, by_firing, PointStands}
 use Rattle.lc_watch.specs.Histories.{Input, Setup, setup_of, ordered_at, switches_in, telemetry_of, evaluation_at, evaluations_of}
 use Rattle.lc_watch.specs.Firing.{starts_active, settings_of}
 use Rattle.lc_watch.specs.Answers.{firing_items, point_items}
-use Rattle.lc_watch.specs.State.{PointsStand, point_at}
+use Rattle.lc_watch.specs.State.{AwaitsEvaluation, point_at}
 use Rattle.lc_watch.specs.declared.watchpoints.WatchRow.{WatchRow}
 use Rattle.lc_watch.specs.declared.actionpoints.ActRow.{ActRow}
 use Rattle.lc_watch.proofs.Halves.{half_none, half_more, half_whole}
@@ -24,29 +24,28 @@ loop-place-init c = record {
   few = omega arith;
   room = refl;
   counted = λ before. before;
-  points = λ watch history input same stood.
+  points = λ watch history input awaits.
       let setup : Setup = setup_of watch c.args.actions.now in
-      half_none (IsPoint setup history (ordered_at setup input)) (IsPoint setup (history ++ input ∷ []) []) 16 (record { active = false; failing = 0 }) c.args.points.now stood.each;
-  items = λ watch history input same stood.
+      half_none (IsPoint setup history (ordered_at setup input)) (IsPoint setup (history ++ input ∷ []) []) 16 (record { active = false; failing = 0 }) c.args.points.now awaits.points.each;
+  items = λ watch history input awaits.
       let setup : Setup = setup_of watch c.args.actions.now in
       sym (ap (λ (places : List ℕ). adding c.args.out.now (flat_map (point_items c.args.now c.args.actions.now) places)) (below_none setup history input) ∙ adding_none c.args.out.now);
-  fired = λ watch history input count same stood counted.
+  fired = λ watch history input count awaits counted.
       let setup : Setup = setup_of watch c.args.actions.now in
       let none : length (fired_below setup history input 0) ≡ 0 = ap length (below_none setup history input) in
       omega (arith, none, counted);
 }
 
 -- the place that is served, before it is
-stood_here : (c : After-serve) (watch : List WatchRow) (history : List Input) (input : Input) → ((k : ℕ) → kept_at c.args.outcomes.now k ≡ outcome_at watch (telemetry_of (history ++ input ∷ [])) k)
-    → PointsStand (setup_of watch c.args.actions.now) history (ordered_at (setup_of watch c.args.actions.now) input) c.args.points.now
+stood_here : (c : After-serve) (watch : List WatchRow) (history : List Input) (input : Input) → AwaitsEvaluation (setup_of watch c.args.actions.now) history input c.args.outcomes.now c.args.points.now
     → IsPoint (setup_of watch c.args.actions.now) history (ordered_at (setup_of watch c.args.actions.now) input) c.loop-place.place (point_at c.loop-place.points c.loop-place.place)
-stood_here c watch history input same stood = (c.loop-place.invariant.points watch history input same stood).left c.loop-place.place (omega arith) c.loop-place-test.true
+stood_here c watch history input awaits = (c.loop-place.invariant.points watch history input awaits).left c.loop-place.place (omega arith) c.loop-place-test.true
 
 -- and what its evaluation comes to
-evaluated_here : (c : After-serve) (watch : List WatchRow) (history : List Input) (input : Input) → ((k : ℕ) → kept_at c.args.outcomes.now k ≡ outcome_at watch (telemetry_of (history ++ input ∷ [])) k)
+evaluated_here : (c : After-serve) (watch : List WatchRow) (history : List Input) (input : Input) → AwaitsEvaluation (setup_of watch c.args.actions.now) history input c.args.outcomes.now c.args.points.now
     → evaluation_of (kept_at c.args.outcomes.now) (act_at c.args.actions.now c.loop-place.place) ≡ evaluation_at (setup_of watch c.args.actions.now) c.loop-place.place (history ++ input ∷ [])
-evaluated_here c watch history input same =
-    evaluation_same (kept_at c.args.outcomes.now) (outcome_at watch (telemetry_of (history ++ input ∷ []))) same (act_at c.args.actions.now c.loop-place.place)
+evaluated_here c watch history input awaits =
+    evaluation_same (kept_at c.args.outcomes.now) (outcome_at watch (telemetry_of (history ++ input ∷ []))) awaits.outcomes (act_at c.args.actions.now c.loop-place.place)
 
 pub loop-place-preserved : goal.loop-place-preserved
 loop-place-preserved c =
@@ -61,7 +60,7 @@ loop-place-preserved c =
       few = let one = c.serve.ensures.few in let before = held.few in omega (arith, one, before);
       room = c.serve.ensures.room ∙ held.room;
       counted = λ before. c.serve.ensures.counted (held.counted before);
-      points = λ watch history input same stood.
+      points = λ watch history input awaits.
           let setup : Setup = setup_of watch c.args.actions.now in
           let row = act_at setup.actions place in
           let evaluations = evaluations_of setup place history in
@@ -72,9 +71,9 @@ loop-place-preserved c =
           half_more (IsPoint setup history (ordered_at setup input)) (IsPoint setup (history ++ input ∷ []) []) 16 (record { active = false; failing = 0 }) c.loop-place.points place c.serve.result within
           (served_is setup history input place c.serve.result
           (subst (λ (o : Option Bool). PointStands (starts_active row) row.failures (evaluations ++ option_to_list o) (settings ++ by_firing (fires_by (starts_active row) row.failures evaluations settings o)) c.serve.result)
-          (evaluated_here c watch history input same) (served (stood_here c watch history input same stood))))
-          (held.points watch history input same stood);
-      items = λ watch history input same stood.
+          (evaluated_here c watch history input awaits) (served (stood_here c watch history input awaits))))
+          (held.points watch history input awaits);
+      items = λ watch history input awaits.
           let setup : Setup = setup_of watch c.args.actions.now in
           let row = act_at setup.actions place in
           let evaluations = evaluations_of setup place history in
@@ -82,10 +81,10 @@ loop-place-preserved c =
           let given = subst (λ (r : ActRow). PointStands (starts_active row) r.failures evaluations settings old
           → c.serve.new.out ≡ adding c.loop-place.out (cond (fires_by (starts_active row) r.failures evaluations settings (evaluation_of (kept_at outcomes) r)) (firing_items c.args.now r) []))
           row_is (c.serve.ensures.items (starts_active row) evaluations settings) in
-          given_more setup history input c.args.now place c.args.out.now c.loop-place.out c.serve.new.out (held.items watch history input same stood)
+          given_more setup history input c.args.now place c.args.out.now c.loop-place.out c.serve.new.out (held.items watch history input awaits)
           (subst (λ (o : Option Bool). c.serve.new.out ≡ adding c.loop-place.out (cond (fires_by (starts_active row) row.failures evaluations settings o) (firing_items c.args.now row) []))
-          (evaluated_here c watch history input same) (given (stood_here c watch history input same stood)));
-      fired = λ watch history input count same stood counted.
+          (evaluated_here c watch history input awaits) (given (stood_here c watch history input awaits)));
+      fired = λ watch history input count awaits counted.
           let setup : Setup = setup_of watch c.args.actions.now in
           let row = act_at setup.actions place in
           let evaluations = evaluations_of setup place history in
@@ -96,27 +95,27 @@ loop-place-preserved c =
           row_is (λ here so_far. c.serve.ensures.fired (starts_active row) evaluations settings before here so_far) in
           fired_one setup history input count place c.serve.new.fired
           (subst (λ (o : Option Bool). c.serve.new.fired ≡ (before + cond (fires_by (starts_active row) row.failures evaluations settings o) 1 0) % 65536)
-          (evaluated_here c watch history input same) (noted (stood_here c watch history input same stood) (held.fired watch history input count same stood counted)));
+          (evaluated_here c watch history input awaits) (noted (stood_here c watch history input awaits) (held.fired watch history input count awaits counted)));
     }
 
 pub returns-clause-points : goal.returns-clause-points
-returns-clause-points c = λ watch history input same stood.
+returns-clause-points c = λ watch history input awaits.
     let setup : Setup = setup_of watch c.args.actions.now in
     record {
       long = c.loop-place.invariant.long;
-      each = half_whole (IsPoint setup history (ordered_at setup input)) (IsPoint setup (history ++ input ∷ []) []) 16 (record { active = false; failing = 0 }) c.loop-place.points c.loop-place.place c.loop-place-test.false (c.loop-place.invariant.points watch history input same stood);
+      each = half_whole (IsPoint setup history (ordered_at setup input)) (IsPoint setup (history ++ input ∷ []) []) 16 (record { active = false; failing = 0 }) c.loop-place.points c.loop-place.place c.loop-place-test.false (c.loop-place.invariant.points watch history input awaits);
     }
 
 pub returns-clause-items : goal.returns-clause-items
-returns-clause-items c = λ watch history input same stood.
+returns-clause-items c = λ watch history input awaits.
     let setup : Setup = setup_of watch c.args.actions.now in
     let all : c.loop-place.place ≡ 16 = omega arith in
-    c.loop-place.invariant.items watch history input same stood
+    c.loop-place.invariant.items watch history input awaits
     ∙ ap (λ (places : List ℕ). adding c.args.out.now (flat_map (point_items c.args.now c.args.actions.now) places)) (ap (fired_below setup history input) all ∙ below_all setup history input)
 
 pub returns-clause-fired : goal.returns-clause-fired
-returns-clause-fired c = λ watch history input count same stood counted.
+returns-clause-fired c = λ watch history input count awaits counted.
     let setup : Setup = setup_of watch c.args.actions.now in
     let all : c.loop-place.place ≡ 16 = omega arith in
-    c.loop-place.invariant.fired watch history input count same stood counted
+    c.loop-place.invariant.fired watch history input count awaits counted
     ∙ ap (λ (places : List ℕ). (count + length places) % 65536) (ap (fired_below setup history input) all ∙ below_all setup history input)

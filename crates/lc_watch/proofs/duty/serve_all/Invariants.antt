@@ -2,10 +2,9 @@ use Rattle.std.proofs.Common.{◌≡◌, ◌≤◌, ◌+◌, ◌*◌, ◌%◌, �
 use Rattle.std.specs.List.{AllPass, flat_map}
 use Rattle.bus_pipes.specs.Held.{adding}
 use Rattle.bus_pipes.specs.Counted.{is_item_counted}
-use Rattle.lc_watch.specs.Outcomes.{outcome_at, kept_at}
-use Rattle.lc_watch.specs.Histories.{Input, setup_of, ordered_at, telemetry_of}
+use Rattle.lc_watch.specs.Histories.{Input, setup_of, ordered_at}
 use Rattle.lc_watch.specs.Answers.{point_items}
-use Rattle.lc_watch.specs.State.{PointsStand}
+use Rattle.lc_watch.specs.State.{AwaitsEvaluation}
 use Rattle.lc_watch.specs.declared.watchpoints.WatchRow.{WatchRow}
 use Rattle.lc_watch.proofs.Halves.{Half}
 use Rattle.lc_watch.proofs.Serving.{IsPoint, fired_below}
@@ -18,13 +17,10 @@ invariant-loop-place l = record {
   few : length l.out.items ≤ length l.fn.out.items + 2 * l.place;
   room : l.out.room ≡ l.fn.out.room;
   counted : AllPass is_item_counted l.fn.out.items → AllPass is_item_counted l.out.items;
-  points : (watch : List WatchRow) (history : List Input) (input : Input) → ((k : ℕ) → kept_at l.outcomes k ≡ outcome_at watch (telemetry_of (history ++ input ∷ [])) k)
-      → PointsStand (setup_of watch l.actions) history (ordered_at (setup_of watch l.actions) input) l.fn.points
+  points : (watch : List WatchRow) (history : List Input) (input : Input) → AwaitsEvaluation (setup_of watch l.actions) history input l.outcomes l.fn.points
       → Half (IsPoint (setup_of watch l.actions) history (ordered_at (setup_of watch l.actions) input)) (IsPoint (setup_of watch l.actions) (history ++ input ∷ []) []) 16 l.place (record { active = false; failing = 0 }) l.points;
-  items : (watch : List WatchRow) (history : List Input) (input : Input) → ((k : ℕ) → kept_at l.outcomes k ≡ outcome_at watch (telemetry_of (history ++ input ∷ [])) k)
-      → PointsStand (setup_of watch l.actions) history (ordered_at (setup_of watch l.actions) input) l.fn.points
+  items : (watch : List WatchRow) (history : List Input) (input : Input) → AwaitsEvaluation (setup_of watch l.actions) history input l.outcomes l.fn.points
       → l.out ≡ adding l.fn.out (flat_map (point_items l.now l.actions) (fired_below (setup_of watch l.actions) history input l.place));
-  fired : (watch : List WatchRow) (history : List Input) (input : Input) (count : ℕ) → ((k : ℕ) → kept_at l.outcomes k ≡ outcome_at watch (telemetry_of (history ++ input ∷ [])) k)
-      → PointsStand (setup_of watch l.actions) history (ordered_at (setup_of watch l.actions) input) l.fn.points → l.fn.fired ≡ count % 65536
+  fired : (watch : List WatchRow) (history : List Input) (input : Input) (count : ℕ) → AwaitsEvaluation (setup_of watch l.actions) history input l.outcomes l.fn.points → l.fn.fired ≡ count % 65536
       → l.fired ≡ (count + length (fired_below (setup_of watch l.actions) history input l.place)) % 65536;
 }
