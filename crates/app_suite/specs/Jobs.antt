@@ -37,17 +37,17 @@ pub record Operates (loads : List (ℕ × List ℕ)) (held : Bool) (time : ℕ) 
 
 -- what the wakeup of an application leaves in its scratch, by what the wakeups of the frame read
 abbrev pub Leaves : Job → Seen → Left → Type 0
-Leaves names.Hs s left = Gives (λ t. s.tables.hs ≡ t.now.hs) hs_stands hs_gives hs_most s.hs.held (hs_reads s.time s.hs.commands s.events s.counters) s.hs.state.value left.stays left.hs.value left.out.items
-Leaves names.Cs s left = Gives (λ t. cs_tables s.tables ≡ cs_tables t.now) cs_stands cs_gives cs_most s.cs.held (cs_reads s.time s.cs.commands s.memory) s.cs.state.value left.stays left.cs.value left.out.items
+Leaves names.Hs s left = Gives (λ t. s.tables.hs ≡ t.now.hs) hs_stands hs_gives hs_most s.hs.held (hs_reads s.time s.hs.commands.value s.events s.counters) s.hs.state.value left.stays left.hs.value left.out.items
+Leaves names.Cs s left = Gives (λ t. cs_tables s.tables ≡ cs_tables t.now) cs_stands cs_gives cs_most s.cs.held (cs_reads s.time s.cs.commands.value s.memory) s.cs.state.value left.stays left.cs.value left.out.items
 Leaves names.Sc s left =
-    Gives (λ t. s.tables.sc ≡ t.now.sc) sc_stands sc_gives sc_most s.sc.held (sc_reads s.time s.sc.commands) s.sc.state.value left.stays left.sc.value left.out.items × ScIsReady s.tables.sc (next_of left.stays left.sc.value s.sc.state.value)
+    Gives (λ t. s.tables.sc ≡ t.now.sc) sc_stands sc_gives sc_most s.sc.held (sc_reads s.time s.sc.commands.value) s.sc.state.value left.stays left.sc.value left.out.items × ScIsReady s.tables.sc (next_of left.stays left.sc.value s.sc.state.value)
 Leaves names.Mm s left =
-    Gives {Setup = TableSet} (λ t. Unit {0}) mm_stands mm_gives mm_most s.mm.held (mm_reads (loads_of s.files) s.time s.mm.commands s.memory) s.mm.state.value left.stays left.mm.value left.out.items
-    × Operates (loads_of s.files) s.mm.held s.time s.mm.commands s.memory left.ops.value
+    Gives {Setup = TableSet} (λ t. Unit {0}) mm_stands mm_gives mm_most s.mm.held (mm_reads (loads_of s.files) s.time s.mm.commands.value s.memory) s.mm.state.value left.stays left.mm.value left.out.items
+    × Operates (loads_of s.files) s.mm.held s.time s.mm.commands.value s.memory left.ops.value
 Leaves names.Md s left =
-    Gives {Setup = Active} (λ t. Unit {0}) md_stands md_gives md_most s.md.held (md_reads s.time s.md.commands s.memory) s.md.state.value left.stays left.md.value left.out.items
+    Gives {Setup = Active} (λ t. Unit {0}) md_stands md_gives md_most s.md.held (md_reads s.time s.md.commands.value s.memory) s.md.state.value left.stays left.md.value left.out.items
     × AllGiven (regions_of s.memory.areas) (next_of left.stays left.md.value s.md.state.value)
-Leaves names.Lc s left = Gives (λ t. lc_setup s.tables ≡ t) lc_stands lc_gives lc_most s.lc.held (lc_reads s.time s.lc.commands s.telemetry) s.lc.state.value left.stays left.lc.value left.out.items
+Leaves names.Lc s left = Gives (λ t. lc_setup s.tables ≡ t) lc_stands lc_gives lc_most s.lc.held (lc_reads s.time s.lc.commands.value s.telemetry) s.lc.state.value left.stays left.lc.value left.out.items
 
 -- the result of a job is one that the wakeup leaves, which reads what the scene shows
 abbrev pub IsLeftRight : List Wakeup → List Left → ℕ → Type 0

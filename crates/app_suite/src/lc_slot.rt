@@ -97,7 +97,7 @@ impl LcSlot {
         ensures there { self.new.there ≡ self.old.there }
         ensures state { self.new.slot.state ≡ self.old.slot.state }
         ensures takes { HasTaken (not bus.old.watched) bus.old.lc self.new.slot.held
-            self.new.slot.commands self.new.slot.out.items }
+            self.new.slot.commands.value self.new.slot.out.items }
         ensures telemetry { not bus.old.watched ≡ false
             → self.new.telemetry.items ≡ bus.old.lc_tlm }
         ensures pipes { bus.new ≡ without_limits bus.old }

@@ -23,10 +23,10 @@ pub const LIST_ROOM: u32 = 1168;
 pub struct Slot<S> {
     pub state: Box<S>,
     pub held: bool,
-    pub commands: Batch,
+    pub commands: Box<Batch>,
     pub out: Outbox,
     ghost roomy: { out.room ≡ LIST_ROOM },
-    ghost few: { length commands ≤ 16 },
+    ghost few: { length commands.value ≤ 16 },
 }
 
 impl<S> Slot<S> {
@@ -44,7 +44,7 @@ impl<S> Slot<S> {
         Ok(Slot {
             state: Box::new(alloc, state)?,
             held,
-            commands: Batch::new(),
+            commands: Box::new(alloc, Batch::new())?,
             out: Outbox::open(alloc, LIST_ROOM)?,
         })
     }
@@ -64,8 +64,8 @@ impl<S> Slot<S> {
     pub fn take(&mut self, bus: &mut Bus, pipe: PipeName, held: bool)
         requires { depth_of pipe ≤ 16 }
         ensures state { self.new.state ≡ self.old.state }
-        ensures takes { HasTaken held (packets_in pipe bus.old) self.new.held self.new.commands
-            self.new.out.items }
+        ensures takes { HasTaken held (packets_in pipe bus.old) self.new.held
+            self.new.commands.value self.new.out.items }
         ensures pipes { bus.new ≡ taken pipe held bus.old }
     {
         self.held = held;
@@ -95,12 +95,13 @@ impl<S> Slot<S> {
         requires clear { S.is_clear beside.old }
         ensures wakes { (setup : S.Setup) → S.belongs setup reads.now
             → IsWoken (S.stands setup) (S.items setup) self.now.held
-            (S.input reads.now self.now.commands) self.now.state.value
+            (S.input reads.now self.now.commands.value) self.now.state.value
             (next_of stays.new next.new.value self.now.state.value) out.new.items }
         ensures can { S.can_step reads.now (next_of stays.new next.new.value self.now.state.value) }
         ensures sendable { AreSendable S.most out.new.items }
         ensures held { self.now.held ≡ true → S.is_clear beside.new }
-        ensures fills { self.now.held ≡ false → S.fills reads.now self.now.commands beside.new }
+        ensures fills { self.now.held ≡ false
+            → S.fills reads.now self.now.commands.value beside.new }
         ensures room { out.new.room ≡ out.old.room }
     {
         *stays = true;
@@ -118,9 +119,10 @@ impl<S> Slot<S> {
         S: Application<X>,
         ensures woken { (setup : S.Setup) → result ≡ true → S.belongs setup reads.now
             → IsWoken (S.stands setup) (S.items setup) self.now.held
-            (S.input reads.now self.now.commands) self.now.state.value self.now.state.value [] }
+            (S.input reads.now self.now.commands.value) self.now.state.value
+            self.now.state.value [] }
         ensures fills { (beside : X) → result ≡ true → self.now.held ≡ false → S.is_clear beside
-            → S.fills reads.now self.now.commands beside }
+            → S.fills reads.now self.now.commands.value beside }
         ensures here { result ≡ false → self.now.held ≡ false }
     {
         if self.held {
@@ -146,13 +148,14 @@ impl<S> Slot<S> {
         requires clear { S.is_clear beside.old }
         ensures state { (setup : S.Setup) (history : List S.Input) → S.belongs setup reads.now
             → S.stands setup history self.now.state.value
-            → S.stands setup (history ++ S.input reads.now self.now.commands ∷ []) next.new.value }
+            → S.stands setup (history ++ S.input reads.now self.now.commands.value ∷ [])
+            next.new.value }
         ensures items { (setup : S.Setup) (history : List S.Input) → S.belongs setup reads.now
             → S.stands setup history self.now.state.value
-            → out.new.items ≡ S.items setup history (S.input reads.now self.now.commands) }
+            → out.new.items ≡ S.items setup history (S.input reads.now self.now.commands.value) }
         ensures can { S.can_step reads.now next.new.value }
         ensures sendable { AreSendable S.most out.new.items }
-        ensures fills { S.fills reads.now self.now.commands beside.new }
+        ensures fills { S.fills reads.now self.now.commands.value beside.new }
         ensures room { out.new.room ≡ out.old.room }
     {
         **next = *self.state;

@@ -48,98 +48,98 @@ module _ (setup : Setup) (s : State) (frame : Frame) (start took stepped : Bench
   stand : AppsStand took.apps s
   stand = apps_kept start.apps took.apps s takes.apps apps
 
-  hs_took : HasTaken (is_held names.Hs frame) s.pipes.hs took.apps.hs.held took.apps.hs.commands took.apps.hs.out.items
-  hs_took = subst (λ (p : Pipes). HasTaken (is_held names.Hs frame) p.hs took.apps.hs.held took.apps.hs.commands took.apps.hs.out.items) pipes takes.takes.hs
+  hs_took : HasTaken (is_held names.Hs frame) s.pipes.hs took.apps.hs.held took.apps.hs.commands.value took.apps.hs.out.items
+  hs_took = subst (λ (p : Pipes). HasTaken (is_held names.Hs frame) p.hs took.apps.hs.held took.apps.hs.commands.value took.apps.hs.out.items) pipes takes.takes.hs
 
-  cs_took : HasTaken (is_held names.Cs frame) s.pipes.cs took.apps.cs.held took.apps.cs.commands took.apps.cs.out.items
-  cs_took = subst (λ (p : Pipes). HasTaken (is_held names.Cs frame) p.cs took.apps.cs.held took.apps.cs.commands took.apps.cs.out.items) pipes takes.takes.cs
+  cs_took : HasTaken (is_held names.Cs frame) s.pipes.cs took.apps.cs.held took.apps.cs.commands.value took.apps.cs.out.items
+  cs_took = subst (λ (p : Pipes). HasTaken (is_held names.Cs frame) p.cs took.apps.cs.held took.apps.cs.commands.value took.apps.cs.out.items) pipes takes.takes.cs
 
-  sc_took : HasTaken (is_held names.Sc frame) s.pipes.sc took.apps.sc.held took.apps.sc.commands took.apps.sc.out.items
-  sc_took = subst (λ (p : Pipes). HasTaken (is_held names.Sc frame) p.sc took.apps.sc.held took.apps.sc.commands took.apps.sc.out.items) pipes takes.takes.sc
+  sc_took : HasTaken (is_held names.Sc frame) s.pipes.sc took.apps.sc.held took.apps.sc.commands.value took.apps.sc.out.items
+  sc_took = subst (λ (p : Pipes). HasTaken (is_held names.Sc frame) p.sc took.apps.sc.held took.apps.sc.commands.value took.apps.sc.out.items) pipes takes.takes.sc
 
-  mm_took : HasTaken (is_held names.Mm frame) s.pipes.mm took.apps.mm.held took.apps.mm.commands took.apps.mm.out.items
-  mm_took = subst (λ (p : Pipes). HasTaken (is_held names.Mm frame) p.mm took.apps.mm.held took.apps.mm.commands took.apps.mm.out.items) pipes takes.takes.mm
+  mm_took : HasTaken (is_held names.Mm frame) s.pipes.mm took.apps.mm.held took.apps.mm.commands.value took.apps.mm.out.items
+  mm_took = subst (λ (p : Pipes). HasTaken (is_held names.Mm frame) p.mm took.apps.mm.held took.apps.mm.commands.value took.apps.mm.out.items) pipes takes.takes.mm
 
-  md_took : HasTaken (is_held names.Md frame) s.pipes.md took.apps.md.held took.apps.md.commands took.apps.md.out.items
-  md_took = subst (λ (p : Pipes). HasTaken (is_held names.Md frame) p.md took.apps.md.held took.apps.md.commands took.apps.md.out.items) pipes takes.takes.md
+  md_took : HasTaken (is_held names.Md frame) s.pipes.md took.apps.md.held took.apps.md.commands.value took.apps.md.out.items
+  md_took = subst (λ (p : Pipes). HasTaken (is_held names.Md frame) p.md took.apps.md.held took.apps.md.commands.value took.apps.md.out.items) pipes takes.takes.md
 
-  lc_took : HasTaken (is_away s) s.pipes.lc took.apps.lc.slot.held took.apps.lc.slot.commands took.apps.lc.slot.out.items
-  lc_took = subst (λ (p : Pipes). HasTaken (not p.watched) p.lc took.apps.lc.slot.held took.apps.lc.slot.commands took.apps.lc.slot.out.items) pipes takes.takes.lc
+  lc_took : HasTaken (is_away s) s.pipes.lc took.apps.lc.slot.held took.apps.lc.slot.commands.value took.apps.lc.slot.out.items
+  lc_took = subst (λ (p : Pipes). HasTaken (not p.watched) p.lc took.apps.lc.slot.held took.apps.lc.slot.commands.value took.apps.lc.slot.out.items) pipes takes.takes.lc
 
-  hs_woken : IsWoken (hs_stands (active_in s)) (hs_gives (active_in s)) took.apps.hs.held (hs_reads (time_at setup s) took.apps.hs.commands s.pipes.hs_ev frame.counters) took.apps.hs.state.value stepped.apps.hs.state.value stepped.apps.hs.out.items
+  hs_woken : IsWoken (hs_stands (active_in s)) (hs_gives (active_in s)) took.apps.hs.held (hs_reads (time_at setup s) took.apps.hs.commands.value s.pipes.hs_ev frame.counters) took.apps.hs.state.value stepped.apps.hs.state.value stepped.apps.hs.out.items
   hs_woken =
-      seen_by (hs_stands (active_in s)) (hs_gives (active_in s)) (λ events. hs_reads (time_at setup s) took.apps.hs.commands events frame.counters) (is_held names.Hs frame) took.apps.hs.held took.apps.events s.pipes.hs_ev took.apps.hs.state.value
+      seen_by (hs_stands (active_in s)) (hs_gives (active_in s)) (λ events. hs_reads (time_at setup s) took.apps.hs.commands.value events frame.counters) (is_held names.Hs frame) took.apps.hs.held took.apps.events s.pipes.hs_ev took.apps.hs.state.value
       stepped.apps.hs.state.value stepped.apps.hs.out.items hs_took.same (λ free. takes.takes.events free ∙ ap (λ (p : Pipes). p.hs_ev) pipes)
-      (subst (λ (n : ℕ). IsWoken (hs_stands (active_in s)) (hs_gives (active_in s)) took.apps.hs.held (hs_reads n took.apps.hs.commands took.apps.events frame.counters) took.apps.hs.state.value stepped.apps.hs.state.value stepped.apps.hs.out.items) same_time
+      (subst (λ (n : ℕ). IsWoken (hs_stands (active_in s)) (hs_gives (active_in s)) took.apps.hs.held (hs_reads n took.apps.hs.commands.value took.apps.events frame.counters) took.apps.hs.state.value stepped.apps.hs.state.value stepped.apps.hs.out.items) same_time
       (steps.woken.hs (active_in s) (ap (λ (t : TableSet). t.hs) (sym same_tables))))
 
-  cs_woken : IsWoken (cs_stands (active_in s)) (cs_gives (active_in s)) took.apps.cs.held (cs_reads (time_at setup s) took.apps.cs.commands (image_at s frame)) took.apps.cs.state.value stepped.apps.cs.state.value stepped.apps.cs.out.items
+  cs_woken : IsWoken (cs_stands (active_in s)) (cs_gives (active_in s)) took.apps.cs.held (cs_reads (time_at setup s) took.apps.cs.commands.value (image_at s frame)) took.apps.cs.state.value stepped.apps.cs.state.value stepped.apps.cs.out.items
   cs_woken =
-      of_both (λ (n : ℕ) (m : Memory). IsWoken (cs_stands (active_in s)) (cs_gives (active_in s)) took.apps.cs.held (cs_reads n took.apps.cs.commands m) took.apps.cs.state.value stepped.apps.cs.state.value stepped.apps.cs.out.items) _ _ _ _ same_time same_image
+      of_both (λ (n : ℕ) (m : Memory). IsWoken (cs_stands (active_in s)) (cs_gives (active_in s)) took.apps.cs.held (cs_reads n took.apps.cs.commands.value m) took.apps.cs.state.value stepped.apps.cs.state.value stepped.apps.cs.out.items) _ _ _ _ same_time same_image
       (steps.woken.cs (active_in s) (ap cs_tables (sym same_tables)))
 
-  sc_woken : IsWoken (sc_stands (active_in s)) (sc_gives (active_in s)) took.apps.sc.held (sc_reads (time_at setup s) took.apps.sc.commands) took.apps.sc.state.value stepped.apps.sc.state.value stepped.apps.sc.out.items
+  sc_woken : IsWoken (sc_stands (active_in s)) (sc_gives (active_in s)) took.apps.sc.held (sc_reads (time_at setup s) took.apps.sc.commands.value) took.apps.sc.state.value stepped.apps.sc.state.value stepped.apps.sc.out.items
   sc_woken =
-      subst (λ (n : ℕ). IsWoken (sc_stands (active_in s)) (sc_gives (active_in s)) took.apps.sc.held (sc_reads n took.apps.sc.commands) took.apps.sc.state.value stepped.apps.sc.state.value stepped.apps.sc.out.items) same_time
+      subst (λ (n : ℕ). IsWoken (sc_stands (active_in s)) (sc_gives (active_in s)) took.apps.sc.held (sc_reads n took.apps.sc.commands.value) took.apps.sc.state.value stepped.apps.sc.state.value stepped.apps.sc.out.items) same_time
       (steps.woken.sc (active_in s) (ap (λ (t : TableSet). t.sc) (sym same_tables)))
 
-  mm_woken : IsWoken (mm_stands s.tables) (mm_gives s.tables) took.apps.mm.held (mm_reads (loads_of setup.files) (time_at setup s) took.apps.mm.commands (image_at s frame)) took.apps.mm.state.value stepped.apps.mm.state.value stepped.apps.mm.out.items
+  mm_woken : IsWoken (mm_stands s.tables) (mm_gives s.tables) took.apps.mm.held (mm_reads (loads_of setup.files) (time_at setup s) took.apps.mm.commands.value (image_at s frame)) took.apps.mm.state.value stepped.apps.mm.state.value stepped.apps.mm.out.items
   mm_woken =
-      subst (λ (loads : List (ℕ × List ℕ)). IsWoken (mm_stands s.tables) (mm_gives s.tables) took.apps.mm.held (mm_reads loads (time_at setup s) took.apps.mm.commands (image_at s frame)) took.apps.mm.state.value stepped.apps.mm.state.value stepped.apps.mm.out.items) same_loads
-      (moved (λ (t : TableSet) (n : ℕ) (m : Memory). IsWoken (mm_stands t) (mm_gives t) took.apps.mm.held (mm_reads (loads_in took) n took.apps.mm.commands m) took.apps.mm.state.value stepped.apps.mm.state.value stepped.apps.mm.out.items)
+      subst (λ (loads : List (ℕ × List ℕ)). IsWoken (mm_stands s.tables) (mm_gives s.tables) took.apps.mm.held (mm_reads loads (time_at setup s) took.apps.mm.commands.value (image_at s frame)) took.apps.mm.state.value stepped.apps.mm.state.value stepped.apps.mm.out.items) same_loads
+      (moved (λ (t : TableSet) (n : ℕ) (m : Memory). IsWoken (mm_stands t) (mm_gives t) took.apps.mm.held (mm_reads (loads_in took) n took.apps.mm.commands.value m) took.apps.mm.state.value stepped.apps.mm.state.value stepped.apps.mm.out.items)
       took.tables.set s.tables (time_of took) (time_at setup s) took.memory.ram (image_at s frame) same_tables same_time same_image (steps.woken.mm took.tables.set))
 
-  md_woken : IsWoken (md_stands (active_in s)) (md_gives (active_in s)) took.apps.md.held (md_reads (time_at setup s) took.apps.md.commands (image_at s frame)) took.apps.md.state.value stepped.apps.md.state.value stepped.apps.md.out.items
-  md_woken = moved (λ (t : TableSet) (n : ℕ) (m : Memory). IsWoken (md_stands (active_in s)) (md_gives (active_in s)) took.apps.md.held (md_reads n took.apps.md.commands m) took.apps.md.state.value stepped.apps.md.state.value stepped.apps.md.out.items)
+  md_woken : IsWoken (md_stands (active_in s)) (md_gives (active_in s)) took.apps.md.held (md_reads (time_at setup s) took.apps.md.commands.value (image_at s frame)) took.apps.md.state.value stepped.apps.md.state.value stepped.apps.md.out.items
+  md_woken = moved (λ (t : TableSet) (n : ℕ) (m : Memory). IsWoken (md_stands (active_in s)) (md_gives (active_in s)) took.apps.md.held (md_reads n took.apps.md.commands.value m) took.apps.md.state.value stepped.apps.md.state.value stepped.apps.md.out.items)
       took.tables.set s.tables (time_of took) (time_at setup s) took.memory.ram (image_at s frame) same_tables same_time same_image (steps.woken.md (active_in s))
 
-  lc_woken : IsWoken (lc_stands (lc_setup s.tables)) (lc_gives (lc_setup s.tables)) took.apps.lc.slot.held (lc_reads (time_at setup s) took.apps.lc.slot.commands s.pipes.lc_tlm) took.apps.lc.slot.state.value stepped.apps.lc.slot.state.value stepped.apps.lc.slot.out.items
+  lc_woken : IsWoken (lc_stands (lc_setup s.tables)) (lc_gives (lc_setup s.tables)) took.apps.lc.slot.held (lc_reads (time_at setup s) took.apps.lc.slot.commands.value s.pipes.lc_tlm) took.apps.lc.slot.state.value stepped.apps.lc.slot.state.value stepped.apps.lc.slot.out.items
   lc_woken =
-      seen_by (lc_stands (lc_setup s.tables)) (lc_gives (lc_setup s.tables)) (λ telemetry. lc_reads (time_at setup s) took.apps.lc.slot.commands telemetry) (is_away s) took.apps.lc.slot.held took.apps.lc.telemetry.items s.pipes.lc_tlm took.apps.lc.slot.state.value
+      seen_by (lc_stands (lc_setup s.tables)) (lc_gives (lc_setup s.tables)) (λ telemetry. lc_reads (time_at setup s) took.apps.lc.slot.commands.value telemetry) (is_away s) took.apps.lc.slot.held took.apps.lc.telemetry.items s.pipes.lc_tlm took.apps.lc.slot.state.value
       stepped.apps.lc.slot.state.value stepped.apps.lc.slot.out.items lc_took.same (λ free. takes.takes.telemetry (ap (λ (p : Pipes). not p.watched) pipes ∙ free) ∙ ap (λ (p : Pipes). p.lc_tlm) pipes)
-      (of_both (λ (t : TableSet) (n : ℕ). IsWoken (lc_stands (lc_setup t)) (lc_gives (lc_setup t)) took.apps.lc.slot.held (lc_reads n took.apps.lc.slot.commands took.apps.lc.telemetry.items) took.apps.lc.slot.state.value stepped.apps.lc.slot.state.value stepped.apps.lc.slot.out.items) _ _ _ _ same_tables same_time
+      (of_both (λ (t : TableSet) (n : ℕ). IsWoken (lc_stands (lc_setup t)) (lc_gives (lc_setup t)) took.apps.lc.slot.held (lc_reads n took.apps.lc.slot.commands.value took.apps.lc.telemetry.items) took.apps.lc.slot.state.value stepped.apps.lc.slot.state.value stepped.apps.lc.slot.out.items) _ _ _ _ same_tables same_time
       steps.woken.lc)
 
   pub apps_after : AppsStand stepped.apps (after_wakeups setup s frame)
   unfolding after_wakeups hs_input_at cs_input_at sc_input_at mm_input_at md_input_at lc_input_at
   apps_after = record {
-    hs = woken_state (hs_stands (active_in s)) (hs_gives (active_in s)) (λ commands. hs_reads (time_at setup s) commands s.pipes.hs_ev frame.counters) _ took.apps.hs.held s.pipes.hs took.apps.hs.commands took.apps.hs.out.items stepped.apps.hs.out.items took.apps.hs.state.value
+    hs = woken_state (hs_stands (active_in s)) (hs_gives (active_in s)) (λ commands. hs_reads (time_at setup s) commands s.pipes.hs_ev frame.counters) _ took.apps.hs.held s.pipes.hs took.apps.hs.commands.value took.apps.hs.out.items stepped.apps.hs.out.items took.apps.hs.state.value
         stepped.apps.hs.state.value s.hs hs_took hs_woken stand.hs;
-    cs = woken_state (cs_stands (active_in s)) (cs_gives (active_in s)) (λ commands. cs_reads (time_at setup s) commands (image_at s frame)) _ took.apps.cs.held s.pipes.cs took.apps.cs.commands took.apps.cs.out.items stepped.apps.cs.out.items took.apps.cs.state.value
+    cs = woken_state (cs_stands (active_in s)) (cs_gives (active_in s)) (λ commands. cs_reads (time_at setup s) commands (image_at s frame)) _ took.apps.cs.held s.pipes.cs took.apps.cs.commands.value took.apps.cs.out.items stepped.apps.cs.out.items took.apps.cs.state.value
         stepped.apps.cs.state.value s.cs cs_took cs_woken stand.cs;
-    sc = woken_state (sc_stands (active_in s)) (sc_gives (active_in s)) (λ commands. sc_reads (time_at setup s) commands) _ took.apps.sc.held s.pipes.sc took.apps.sc.commands took.apps.sc.out.items stepped.apps.sc.out.items took.apps.sc.state.value
+    sc = woken_state (sc_stands (active_in s)) (sc_gives (active_in s)) (λ commands. sc_reads (time_at setup s) commands) _ took.apps.sc.held s.pipes.sc took.apps.sc.commands.value took.apps.sc.out.items stepped.apps.sc.out.items took.apps.sc.state.value
         stepped.apps.sc.state.value s.sc sc_took sc_woken stand.sc;
-    mm = woken_state (mm_stands s.tables) (mm_gives s.tables) (λ commands. mm_reads (loads_of setup.files) (time_at setup s) commands (image_at s frame)) _ took.apps.mm.held s.pipes.mm took.apps.mm.commands took.apps.mm.out.items stepped.apps.mm.out.items took.apps.mm.state.value
+    mm = woken_state (mm_stands s.tables) (mm_gives s.tables) (λ commands. mm_reads (loads_of setup.files) (time_at setup s) commands (image_at s frame)) _ took.apps.mm.held s.pipes.mm took.apps.mm.commands.value took.apps.mm.out.items stepped.apps.mm.out.items took.apps.mm.state.value
         stepped.apps.mm.state.value s.mm mm_took mm_woken stand.mm;
-    md = woken_state (md_stands (active_in s)) (md_gives (active_in s)) (λ commands. md_reads (time_at setup s) commands (image_at s frame)) _ took.apps.md.held s.pipes.md took.apps.md.commands took.apps.md.out.items stepped.apps.md.out.items took.apps.md.state.value
+    md = woken_state (md_stands (active_in s)) (md_gives (active_in s)) (λ commands. md_reads (time_at setup s) commands (image_at s frame)) _ took.apps.md.held s.pipes.md took.apps.md.commands.value took.apps.md.out.items stepped.apps.md.out.items took.apps.md.state.value
         stepped.apps.md.state.value s.md md_took md_woken stand.md;
-    lc = woken_state (lc_stands (lc_setup s.tables)) (lc_gives (lc_setup s.tables)) (λ commands. lc_reads (time_at setup s) commands s.pipes.lc_tlm) _ took.apps.lc.slot.held s.pipes.lc took.apps.lc.slot.commands took.apps.lc.slot.out.items stepped.apps.lc.slot.out.items
+    lc = woken_state (lc_stands (lc_setup s.tables)) (lc_gives (lc_setup s.tables)) (λ commands. lc_reads (time_at setup s) commands s.pipes.lc_tlm) _ took.apps.lc.slot.held s.pipes.lc took.apps.lc.slot.commands.value took.apps.lc.slot.out.items stepped.apps.lc.slot.out.items
         took.apps.lc.slot.state.value stepped.apps.lc.slot.state.value s.lc lc_took lc_woken stand.lc;
   }
 
   pub items_after : table_events setup s frame.activations ∷ given_in stepped.apps ≡ items_at setup s frame
   unfolding items_at hs_input_at cs_input_at sc_input_at mm_input_at md_input_at lc_input_at
   items_after =
-      let hs = woken_items (hs_stands (active_in s)) (hs_gives (active_in s)) (λ commands. hs_reads (time_at setup s) commands s.pipes.hs_ev frame.counters) _ took.apps.hs.held s.pipes.hs took.apps.hs.commands took.apps.hs.out.items stepped.apps.hs.out.items
+      let hs = woken_items (hs_stands (active_in s)) (hs_gives (active_in s)) (λ commands. hs_reads (time_at setup s) commands s.pipes.hs_ev frame.counters) _ took.apps.hs.held s.pipes.hs took.apps.hs.commands.value took.apps.hs.out.items stepped.apps.hs.out.items
       took.apps.hs.state.value stepped.apps.hs.state.value s.hs hs_took hs_woken stand.hs in
-      let cs = woken_items (cs_stands (active_in s)) (cs_gives (active_in s)) (λ commands. cs_reads (time_at setup s) commands (image_at s frame)) _ took.apps.cs.held s.pipes.cs took.apps.cs.commands took.apps.cs.out.items stepped.apps.cs.out.items
+      let cs = woken_items (cs_stands (active_in s)) (cs_gives (active_in s)) (λ commands. cs_reads (time_at setup s) commands (image_at s frame)) _ took.apps.cs.held s.pipes.cs took.apps.cs.commands.value took.apps.cs.out.items stepped.apps.cs.out.items
       took.apps.cs.state.value stepped.apps.cs.state.value s.cs cs_took cs_woken stand.cs in
-      let sc = woken_items (sc_stands (active_in s)) (sc_gives (active_in s)) (λ commands. sc_reads (time_at setup s) commands) _ took.apps.sc.held s.pipes.sc took.apps.sc.commands took.apps.sc.out.items stepped.apps.sc.out.items
+      let sc = woken_items (sc_stands (active_in s)) (sc_gives (active_in s)) (λ commands. sc_reads (time_at setup s) commands) _ took.apps.sc.held s.pipes.sc took.apps.sc.commands.value took.apps.sc.out.items stepped.apps.sc.out.items
       took.apps.sc.state.value stepped.apps.sc.state.value s.sc sc_took sc_woken stand.sc in
-      let mm = woken_items (mm_stands s.tables) (mm_gives s.tables) (λ commands. mm_reads (loads_of setup.files) (time_at setup s) commands (image_at s frame)) _ took.apps.mm.held s.pipes.mm took.apps.mm.commands took.apps.mm.out.items stepped.apps.mm.out.items
+      let mm = woken_items (mm_stands s.tables) (mm_gives s.tables) (λ commands. mm_reads (loads_of setup.files) (time_at setup s) commands (image_at s frame)) _ took.apps.mm.held s.pipes.mm took.apps.mm.commands.value took.apps.mm.out.items stepped.apps.mm.out.items
       took.apps.mm.state.value stepped.apps.mm.state.value s.mm mm_took mm_woken stand.mm in
-      let md = woken_items (md_stands (active_in s)) (md_gives (active_in s)) (λ commands. md_reads (time_at setup s) commands (image_at s frame)) _ took.apps.md.held s.pipes.md took.apps.md.commands took.apps.md.out.items stepped.apps.md.out.items
+      let md = woken_items (md_stands (active_in s)) (md_gives (active_in s)) (λ commands. md_reads (time_at setup s) commands (image_at s frame)) _ took.apps.md.held s.pipes.md took.apps.md.commands.value took.apps.md.out.items stepped.apps.md.out.items
       took.apps.md.state.value stepped.apps.md.state.value s.md md_took md_woken stand.md in
-      let lc = woken_items (lc_stands (lc_setup s.tables)) (lc_gives (lc_setup s.tables)) (λ commands. lc_reads (time_at setup s) commands s.pipes.lc_tlm) _ took.apps.lc.slot.held s.pipes.lc took.apps.lc.slot.commands took.apps.lc.slot.out.items stepped.apps.lc.slot.out.items
+      let lc = woken_items (lc_stands (lc_setup s.tables)) (lc_gives (lc_setup s.tables)) (λ commands. lc_reads (time_at setup s) commands s.pipes.lc_tlm) _ took.apps.lc.slot.held s.pipes.lc took.apps.lc.slot.commands.value took.apps.lc.slot.out.items stepped.apps.lc.slot.out.items
       took.apps.lc.slot.state.value stepped.apps.lc.slot.state.value s.lc lc_took lc_woken stand.lc in
       rw (hs, cs, sc, mm, md, lc) refl
 
   pub operations_after : stepped.memory.ops.value ≡ operations_at setup s frame
   unfolding operations_at mm_input_at
   operations_after =
-      woken_beside (λ commands. mm_operations (mm_reads (loads_of setup.files) (time_at setup s) commands (image_at s frame))) _ took.apps.mm.held s.pipes.mm took.apps.mm.commands took.apps.mm.out.items stepped.memory.ops.value mm_took
-      (subst (λ (loads : List (ℕ × List ℕ)). stepped.memory.ops.value ≡ unless took.apps.mm.held (mm_operations (mm_reads loads (time_at setup s) took.apps.mm.commands (image_at s frame)))) same_loads
-      (moved (λ (t : TableSet) (n : ℕ) (m : Memory). stepped.memory.ops.value ≡ unless took.apps.mm.held (mm_operations (mm_reads (loads_in took) n took.apps.mm.commands m))) took.tables.set s.tables (time_of took) (time_at setup s) took.memory.ram (image_at s frame) same_tables
+      woken_beside (λ commands. mm_operations (mm_reads (loads_of setup.files) (time_at setup s) commands (image_at s frame))) _ took.apps.mm.held s.pipes.mm took.apps.mm.commands.value took.apps.mm.out.items stepped.memory.ops.value mm_took
+      (subst (λ (loads : List (ℕ × List ℕ)). stepped.memory.ops.value ≡ unless took.apps.mm.held (mm_operations (mm_reads loads (time_at setup s) took.apps.mm.commands.value (image_at s frame)))) same_loads
+      (moved (λ (t : TableSet) (n : ℕ) (m : Memory). stepped.memory.ops.value ≡ unless took.apps.mm.held (mm_operations (mm_reads (loads_in took) n took.apps.mm.commands.value m))) took.tables.set s.tables (time_of took) (time_at setup s) took.memory.ram (image_at s frame) same_tables
       same_time same_image steps.woken.operations))
 
   -- what the pipes hold then

@@ -84,7 +84,7 @@ module _ (counters : List Counter) (old middle new : Bench) (woken : AreWoken co
   same_there = sym (ap (λ (l : LcSlot). l.there) woken.slots.lc)
 
   lc_woken : (there : Bool) → middle.apps.lc.there ≡ there
-      → IsWoken (lc_stands (lc_setup old.tables.set)) (lc_gives (lc_setup old.tables.set)) old.apps.lc.slot.held (lc_reads (time_of old) old.apps.lc.slot.commands old.apps.lc.telemetry.items) old.apps.lc.slot.state.value new.apps.lc.slot.state.value new.apps.lc.slot.out.items
+      → IsWoken (lc_stands (lc_setup old.tables.set)) (lc_gives (lc_setup old.tables.set)) old.apps.lc.slot.held (lc_reads (time_of old) old.apps.lc.slot.commands.value old.apps.lc.telemetry.items) old.apps.lc.slot.state.value new.apps.lc.slot.state.value new.apps.lc.slot.out.items
   lc_woken true is =
       let lc = takes is in
       taken_woken _ _ _ _ _ _ _ _ _ _ _ _ _ (woken.left.lc (same_there ∙ is) lc.0 lc.1) (ap (λ (l : LcSlot). l.slot.state.value) woken.slots.lc) lc.2.0 lc.2.1 _ refl

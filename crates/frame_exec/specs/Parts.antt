@@ -85,25 +85,25 @@ pub record AreClear (a : Applications) : Type 0 where
 -- each application took what its pipes held, unless it was held, and LC where its pipes are there; and gave nothing yet
 pub record TakeAll (held : List App) (pipes : Pipes) (old new : Applications) : Type 0 where
   pub told : new.activations ≡ old.activations
-  pub hs : HasTaken (list_any (is_same names.Hs) held) pipes.hs new.hs.held new.hs.commands new.hs.out.items
+  pub hs : HasTaken (list_any (is_same names.Hs) held) pipes.hs new.hs.held new.hs.commands.value new.hs.out.items
   pub events : list_any (is_same names.Hs) held ≡ false → new.events ≡ pipes.hs_ev
-  pub cs : HasTaken (list_any (is_same names.Cs) held) pipes.cs new.cs.held new.cs.commands new.cs.out.items
-  pub sc : HasTaken (list_any (is_same names.Sc) held) pipes.sc new.sc.held new.sc.commands new.sc.out.items
-  pub mm : HasTaken (list_any (is_same names.Mm) held) pipes.mm new.mm.held new.mm.commands new.mm.out.items
-  pub md : HasTaken (list_any (is_same names.Md) held) pipes.md new.md.held new.md.commands new.md.out.items
-  pub lc : HasTaken (not pipes.watched) pipes.lc new.lc.slot.held new.lc.slot.commands new.lc.slot.out.items
+  pub cs : HasTaken (list_any (is_same names.Cs) held) pipes.cs new.cs.held new.cs.commands.value new.cs.out.items
+  pub sc : HasTaken (list_any (is_same names.Sc) held) pipes.sc new.sc.held new.sc.commands.value new.sc.out.items
+  pub mm : HasTaken (list_any (is_same names.Mm) held) pipes.mm new.mm.held new.mm.commands.value new.mm.out.items
+  pub md : HasTaken (list_any (is_same names.Md) held) pipes.md new.md.held new.md.commands.value new.md.out.items
+  pub lc : HasTaken (not pipes.watched) pipes.lc new.lc.slot.held new.lc.slot.commands.value new.lc.slot.out.items
   pub telemetry : not pipes.watched ≡ false → new.lc.telemetry.items ≡ pipes.lc_tlm
 
 -- The applications were woken on what the wakeups of a frame read, unless they were held: their next states, their items, and MM's
 -- operations.
 pub record StepAll (s : Seen) (new : Applications) (ops : List MemOp) : Type 0 where
-  pub hs : (tables : Active) → tables.now.hs ≡ s.tables.hs → IsWoken (hs_stands tables) (hs_gives tables) s.hs.held (hs_reads s.time s.hs.commands s.events s.counters) s.hs.state.value new.hs.state.value new.hs.out.items
-  pub cs : (tables : Active) → cs_tables tables.now ≡ cs_tables s.tables → IsWoken (cs_stands tables) (cs_gives tables) s.cs.held (cs_reads s.time s.cs.commands s.memory) s.cs.state.value new.cs.state.value new.cs.out.items
-  pub sc : (tables : Active) → tables.now.sc ≡ s.tables.sc → IsWoken (sc_stands tables) (sc_gives tables) s.sc.held (sc_reads s.time s.sc.commands) s.sc.state.value new.sc.state.value new.sc.out.items
-  pub mm : (tables : TableSet) → IsWoken (mm_stands tables) (mm_gives tables) s.mm.held (mm_reads (loads_of s.files) s.time s.mm.commands s.memory) s.mm.state.value new.mm.state.value new.mm.out.items
-  pub md : (tables : Active) → IsWoken (md_stands tables) (md_gives tables) s.md.held (md_reads s.time s.md.commands s.memory) s.md.state.value new.md.state.value new.md.out.items
-  pub lc : IsWoken (lc_stands (lc_setup s.tables)) (lc_gives (lc_setup s.tables)) s.lc.held (lc_reads s.time s.lc.commands s.telemetry) s.lc.state.value new.lc.slot.state.value new.lc.slot.out.items
-  pub operations : ops ≡ unless s.mm.held (mm_operations (mm_reads (loads_of s.files) s.time s.mm.commands s.memory))
+  pub hs : (tables : Active) → tables.now.hs ≡ s.tables.hs → IsWoken (hs_stands tables) (hs_gives tables) s.hs.held (hs_reads s.time s.hs.commands.value s.events s.counters) s.hs.state.value new.hs.state.value new.hs.out.items
+  pub cs : (tables : Active) → cs_tables tables.now ≡ cs_tables s.tables → IsWoken (cs_stands tables) (cs_gives tables) s.cs.held (cs_reads s.time s.cs.commands.value s.memory) s.cs.state.value new.cs.state.value new.cs.out.items
+  pub sc : (tables : Active) → tables.now.sc ≡ s.tables.sc → IsWoken (sc_stands tables) (sc_gives tables) s.sc.held (sc_reads s.time s.sc.commands.value) s.sc.state.value new.sc.state.value new.sc.out.items
+  pub mm : (tables : TableSet) → IsWoken (mm_stands tables) (mm_gives tables) s.mm.held (mm_reads (loads_of s.files) s.time s.mm.commands.value s.memory) s.mm.state.value new.mm.state.value new.mm.out.items
+  pub md : (tables : Active) → IsWoken (md_stands tables) (md_gives tables) s.md.held (md_reads s.time s.md.commands.value s.memory) s.md.state.value new.md.state.value new.md.out.items
+  pub lc : IsWoken (lc_stands (lc_setup s.tables)) (lc_gives (lc_setup s.tables)) s.lc.held (lc_reads s.time s.lc.commands.value s.telemetry) s.lc.state.value new.lc.slot.state.value new.lc.slot.out.items
+  pub operations : ops ≡ unless s.mm.held (mm_operations (mm_reads (loads_of s.files) s.time s.mm.commands.value s.memory))
 
 -- what was taken over is the result of a job
 abbrev pub IsTaken : Applications → ℕ → (Left → Type 0) → Type 0

@@ -16,9 +16,9 @@ pub(crate) fn wake_in_place<S: Application<X>, X>(
 ) -> bool
     requires woken { (setup : S.Setup) → rests ≡ true → S.belongs setup reads.now
         → IsWoken (S.stands setup) (S.items setup) slot.old.held
-        (S.input reads.now slot.old.commands) slot.old.state.value slot.old.state.value [] }
+        (S.input reads.now slot.old.commands.value) slot.old.state.value slot.old.state.value [] }
     requires fills { (other : X) → rests ≡ true → slot.old.held ≡ false → S.is_clear other
-        → S.fills reads.now slot.old.commands other }
+        → S.fills reads.now slot.old.commands.value other }
     requires here { rests ≡ false → slot.old.held ≡ false }
     requires room { S.most ≤ LIST_ROOM }
     requires empty { slot.old.out.items ≡ [] }
@@ -26,12 +26,13 @@ pub(crate) fn wake_in_place<S: Application<X>, X>(
     requires clear { S.is_clear beside.old }
     ensures woken { (setup : S.Setup) → S.belongs setup reads.now
         → IsWoken (S.stands setup) (S.items setup) slot.old.held
-        (S.input reads.now slot.old.commands) slot.old.state.value slot.new.state.value
+        (S.input reads.now slot.old.commands.value) slot.old.state.value slot.new.state.value
         slot.new.out.items }
     ensures can { S.can_step reads.now slot.new.state.value }
     ensures sendable { AreSendable S.most slot.new.out.items }
     ensures held { slot.old.held ≡ true → S.is_clear beside.new }
-    ensures fills { slot.old.held ≡ false → S.fills reads.now slot.old.commands beside.new }
+    ensures fills { slot.old.held ≡ false
+        → S.fills reads.now slot.old.commands.value beside.new }
     ensures none { result ≡ true → slot.new.out.items ≡ [] }
     ensures same { slot.new.held ≡ slot.old.held }
     ensures nothing { slot.old.held ≡ true → slot.new.out.items ≡ [] }

@@ -38,16 +38,16 @@ returns-clause-steps g c =
       told = refl;
       woken = record {
         hs = λ tables same. c.wake_in_place-hs.ensures.woken tables (sym same);
-        cs = λ tables same. subst (λ (m : Memory). IsWoken (cs_stands tables) (cs_gives tables) b.apps.cs.held (cs_reads time b.apps.cs.commands m) b.apps.cs.state.value cs.state.value cs.out.items) is
+        cs = λ tables same. subst (λ (m : Memory). IsWoken (cs_stands tables) (cs_gives tables) b.apps.cs.held (cs_reads time b.apps.cs.commands.value m) b.apps.cs.state.value cs.state.value cs.out.items) is
             (c.wake_in_place-cs.ensures.woken tables (sym same));
         sc = λ tables same. c.wake_in_place-sc.ensures.woken tables (sym same);
-        mm = λ tables. subst (λ (m : Memory). IsWoken (mm_stands tables) (mm_gives tables) b.apps.mm.held (mm_reads (loads_in b) time b.apps.mm.commands m) b.apps.mm.state.value mm.state.value mm.out.items) is
+        mm = λ tables. subst (λ (m : Memory). IsWoken (mm_stands tables) (mm_gives tables) b.apps.mm.held (mm_reads (loads_in b) time b.apps.mm.commands.value m) b.apps.mm.state.value mm.state.value mm.out.items) is
             (c.wake_in_place-mm.ensures.woken tables tt);
-        md = λ tables. subst (λ (m : Memory). IsWoken (md_stands tables) (md_gives tables) b.apps.md.held (md_reads time b.apps.md.commands m) b.apps.md.state.value md.state.value md.out.items) is
+        md = λ tables. subst (λ (m : Memory). IsWoken (md_stands tables) (md_gives tables) b.apps.md.held (md_reads time b.apps.md.commands.value m) b.apps.md.state.value md.state.value md.out.items) is
             (c.wake_in_place-md.ensures.woken tables tt);
         lc = c.wake_in_place-lc.ensures.woken (lc_setup b.tables.set) refl;
-        operations = left_unless b.apps.mm.held c.wake_in_place-mm.new.beside (mm_operations (mm_reads (loads_in b) time b.apps.mm.commands b.memory.ram)) c.wake_in_place-mm.ensures.held
-            (λ here. (c.wake_in_place-mm.ensures.fills here).0 ∙ ap (λ (m : Memory). mm_operations (mm_reads (loads_in b) time b.apps.mm.commands m)) is);
+        operations = left_unless b.apps.mm.held c.wake_in_place-mm.new.beside (mm_operations (mm_reads (loads_in b) time b.apps.mm.commands.value b.memory.ram)) c.wake_in_place-mm.ensures.held
+            (λ here. (c.wake_in_place-mm.ensures.fills here).0 ∙ ap (λ (m : Memory). mm_operations (mm_reads (loads_in b) time b.apps.mm.commands.value m)) is);
       };
       wires = refl;
       memory = refl;
@@ -56,7 +56,7 @@ returns-clause-steps g c =
 pub returns-clause-can_send : goal.returns-clause-can_send
 returns-clause-can_send g c =
     let b = c.args.self.now in
-    let left = operates (loads_in b) b.apps.mm.held (b.epoch + b.number) b.apps.mm.commands (seen c.window.result) c.wake_in_place-mm.new.beside c.wake_in_place-mm.ensures.held c.wake_in_place-mm.ensures.fills in
+    let left = operates (loads_in b) b.apps.mm.held (b.epoch + b.number) b.apps.mm.commands.value (seen c.window.result) c.wake_in_place-mm.new.beside c.wake_in_place-mm.ensures.held c.wake_in_place-mm.ensures.fills in
     record {
       apps = record {
         hs = c.wake_in_place-hs.ensures.sendable;
@@ -97,16 +97,16 @@ returns-then-all_rest-clause-steps g c =
       told = refl;
       woken = record {
         hs = λ tables same. rested _ _ _ _ _ _ clear.apps.hs (c.rests-hs_rests.ensures.woken tables all.0 (sym same));
-        cs = λ tables same. rested _ _ _ _ _ _ clear.apps.cs (subst (λ (m : Memory). IsWoken (cs_stands tables) (cs_gives tables) b.apps.cs.held (cs_reads time b.apps.cs.commands m) b.apps.cs.state.value b.apps.cs.state.value []) is
+        cs = λ tables same. rested _ _ _ _ _ _ clear.apps.cs (subst (λ (m : Memory). IsWoken (cs_stands tables) (cs_gives tables) b.apps.cs.held (cs_reads time b.apps.cs.commands.value m) b.apps.cs.state.value b.apps.cs.state.value []) is
             (c.rests-cs_rests.ensures.woken tables all.1 (sym same)));
         sc = λ tables same. rested _ _ _ _ _ _ clear.apps.sc (c.rests-sc_rests.ensures.woken tables all.2 (sym same));
-        mm = λ tables. rested _ _ _ _ _ _ clear.apps.mm (subst (λ (m : Memory). IsWoken (mm_stands tables) (mm_gives tables) b.apps.mm.held (mm_reads (loads_in b) time b.apps.mm.commands m) b.apps.mm.state.value b.apps.mm.state.value []) is
+        mm = λ tables. rested _ _ _ _ _ _ clear.apps.mm (subst (λ (m : Memory). IsWoken (mm_stands tables) (mm_gives tables) b.apps.mm.held (mm_reads (loads_in b) time b.apps.mm.commands.value m) b.apps.mm.state.value b.apps.mm.state.value []) is
             (c.rests-mm_rests.ensures.woken tables all.3 tt));
-        md = λ tables. rested _ _ _ _ _ _ clear.apps.md (subst (λ (m : Memory). IsWoken (md_stands tables) (md_gives tables) b.apps.md.held (md_reads time b.apps.md.commands m) b.apps.md.state.value b.apps.md.state.value []) is
+        md = λ tables. rested _ _ _ _ _ _ clear.apps.md (subst (λ (m : Memory). IsWoken (md_stands tables) (md_gives tables) b.apps.md.held (md_reads time b.apps.md.commands.value m) b.apps.md.state.value b.apps.md.state.value []) is
             (c.rests-md_rests.ensures.woken tables all.4 tt));
         lc = rested _ _ _ _ _ _ clear.apps.lc (c.rests-lc_rests.ensures.woken (lc_setup b.tables.set) all.5 refl);
-        operations = left_unless b.apps.mm.held b.memory.ops.value (mm_operations (mm_reads (loads_in b) time b.apps.mm.commands b.memory.ram)) (λ held. clear.operations)
-            (λ here. (c.rests-mm_rests.ensures.fills b.memory.ops.value all.3 here clear.operations).0 ∙ ap (λ (m : Memory). mm_operations (mm_reads (loads_in b) time b.apps.mm.commands m)) is);
+        operations = left_unless b.apps.mm.held b.memory.ops.value (mm_operations (mm_reads (loads_in b) time b.apps.mm.commands.value b.memory.ram)) (λ held. clear.operations)
+            (λ here. (c.rests-mm_rests.ensures.fills b.memory.ops.value all.3 here clear.operations).0 ∙ ap (λ (m : Memory). mm_operations (mm_reads (loads_in b) time b.apps.mm.commands.value m)) is);
       };
       wires = refl;
       memory = refl;
@@ -117,7 +117,7 @@ returns-then-all_rest-clause-can_send g c =
     let b = c.args.self.now in
     let clear = c.requires.clear in
     let all = six_parts c.rests-hs_rests.result c.rests-cs_rests.result c.rests-sc_rests.result c.rests-mm_rests.result c.rests-md_rests.result c.rests-lc_rests.result c.if-all_rest.true in
-    let left = operates (loads_in b) b.apps.mm.held (b.epoch + b.number) b.apps.mm.commands (seen c.window.result) b.memory.ops.value (λ held. clear.operations) (λ here. c.rests-mm_rests.ensures.fills b.memory.ops.value all.3 here clear.operations) in
+    let left = operates (loads_in b) b.apps.mm.held (b.epoch + b.number) b.apps.mm.commands.value (seen c.window.result) b.memory.ops.value (λ held. clear.operations) (λ here. c.rests-mm_rests.ensures.fills b.memory.ops.value all.3 here clear.operations) in
     record {
       apps = record {
         hs = none_sendable _ _ clear.apps.hs;
