@@ -135,5 +135,8 @@ fn is_matched(packet: &Packet, entry: &EventEntry) -> bool
     ensures { result ≡ is_matched packet.now entry.now }
 {
     let bytes = packet.bytes();
-    is_same(&bytes[12..32], entry.name.bytes()) && be16(bytes, 32) == entry.id
+    if be16(bytes, 32) != entry.id {
+        return false;
+    }
+    is_same(&bytes[12..32], entry.name.bytes())
 }
