@@ -18,7 +18,7 @@ use Rattle.hs_monitors.specs.Orders.{orders_of, is_on, is_listening}
 use Rattle.hs_monitors.specs.Watches.{watch_of, watch_at}
 use Rattle.hs_monitors.specs.Monitors.{places_of}
 use Rattle.hs_monitors.specs.Attempts.{past_of}
-use Rattle.hs_monitors.specs.Entries.{EntriesStand}
+use Rattle.hs_monitors.specs.Entries.{KeptStands}
 use Rattle.hs_monitors.specs.State.{Stands, activation_of}
 use Rattle.hs_monitors.specs.declared.instructions.Instruction.{Instruction}
 use Rattle.hs_monitors.specs.declared.state.Hs.{Hs}
@@ -31,7 +31,7 @@ module _ (setup : Setup) (history : List HsEntry) (a : Activation) (old new : Hs
   orders_same = ap (λ (orders : List Instruction). orders ++ []) (sym (orders_activated history a))
 
   -- by the places and what is kept of the application monitors
-  activated_by : new.duty.places ≡ places_of (apps_after setup (history ++ Activated a ∷ [])) → EntriesStand (apps_after setup (history ++ Activated a ∷ [])) (λ (k : ℕ). watch_at (history ++ Activated a ∷ []) []) new.duty.kept
+  activated_by : new.duty.places ≡ places_of (apps_after setup (history ++ Activated a ∷ [])) → KeptStands (apps_after setup (history ++ Activated a ∷ [])) (watch_at (history ++ Activated a ∷ []) []) new.duty.kept
       → Stands setup (history ++ Activated a ∷ []) new
   unfolding Stands
   activated_by places kept = record {
@@ -56,7 +56,7 @@ activates tables kind named x a is here given = same (sym (sym (ap (λ (k : Tabl
 
 -- other application monitors
 pub apps_activated : (setup : Setup) (history : List HsEntry) (rows : List AppRow) (a : Activation) (old new : Hs) → a ≡ Apps rows → new.counts ≡ old.counts → new.duty.monitoring ≡ old.duty.monitoring
-    → new.duty.listening ≡ old.duty.listening → new.duty.actions ≡ old.duty.actions → new.duty.places ≡ places_of rows → EntriesStand rows (λ (k : ℕ). []) new.duty.kept
+    → new.duty.listening ≡ old.duty.listening → new.duty.actions ≡ old.duty.actions → new.duty.places ≡ places_of rows → KeptStands rows [] new.duty.kept
     → Stands setup history old → Stands setup (history ++ Activated a ∷ []) new
 apps_activated setup history rows a old new is counts monitoring listening actions places kept stood =
     let apps : rows ≡ apps_after setup (history ++ Activated a ∷ []) = sym (in_force_activated apps_in setup.tables.apps history a ∙ ap (λ (x : Activation). replaced_by (apps_in x) (apps_after setup history)) is) in

@@ -29,7 +29,7 @@ use Rattle.hs_monitors.specs.Monitors.{row_at, is_entry, places_of, attempt_wher
 use Rattle.hs_monitors.specs.Events.{event_attempts}
 use Rattle.hs_monitors.specs.Attempts.{by_monitors, past_of, past_in}
 use Rattle.hs_monitors.specs.Step.{hs_heard, turn_of, hs_answers, hs_items}
-use Rattle.hs_monitors.specs.Entries.{EntriesStand}
+use Rattle.hs_monitors.specs.Entries.{KeptStands}
 use Rattle.hs_monitors.specs.State.{Stands, are_idle, is_idle_on}
 use Rattle.hs_monitors.specs.declared.instructions.Instruction.{Instruction}
 use Rattle.hs_monitors.specs.declared.state.Hs.{Hs}
@@ -119,8 +119,8 @@ module _ (setup : Setup) (history : List HsEntry) (input : Input) (quiet : input
   orders_next = sym (orders_woken history input ∙ ap (λ (orders : List Instruction). orders_of history ++ orders) unordered)
 
   -- what is kept of the entries, of which none is checked
-  kept_next : (hs : Hs) → EntriesStand (apps_after setup history) (λ (k : ℕ). watch_at history []) hs.duty.kept
-      → EntriesStand (apps_after setup (history ++ Woken input ∷ [])) (λ (k : ℕ). watch_at (history ++ Woken input ∷ []) []) hs.duty.kept
+  kept_next : (hs : Hs) → KeptStands (apps_after setup history) (watch_at history []) hs.duty.kept
+      → KeptStands (apps_after setup (history ++ Woken input ∷ [])) (watch_at (history ++ Woken input ∷ []) []) hs.duty.kept
   kept_next hs stood = elim (off_or_none (is_on (orders_of history)) (places_of (apps_after setup history)) halves.0) [
     | inl off ↦
         let same : watch_at history [] ≡ watch_at (history ++ Woken input ∷ []) [] =
@@ -131,7 +131,12 @@ module _ (setup : Setup) (history : List HsEntry) (input : Input) (quiet : input
         entries_as (apps_after setup history) (apps_after setup (history ++ Woken input ∷ [])) (watch_at history []) (watch_at (history ++ Woken input ∷ []) []) hs.duty.kept (sym (apps_woken setup history input)) same stood
     | inr none ↦
         entries_as (apps_after setup history) (apps_after setup (history ++ Woken input ∷ [])) (watch_at (history ++ Woken input ∷ []) []) (watch_at (history ++ Woken input ∷ []) []) hs.duty.kept (sym (apps_woken setup history input)) refl
-        (record { each = λ k e within some. absurd (no_entry (entry_of (row_at (apps_after setup history) k)) e (none_used (apps_after setup history) k none) some) })
+        (record {
+          whole = stood.whole;
+          each = λ k e within some. absurd (no_entry (entry_of (row_at (apps_after setup history) k)) e (none_used (apps_after setup history) k none) some);
+          least = stood.least;
+          within = stood.within;
+        })
   ]
 
   pub idle_stands : (hs : Hs) → Stands setup history hs → Stands setup (history ++ Woken input ∷ []) hs

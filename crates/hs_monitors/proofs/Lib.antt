@@ -6,6 +6,7 @@ pub mod Checks
 pub mod Places
 pub mod Rests
 pub mod Performing
+pub mod Passing
 pub mod Following
 pub mod Obeying
 pub mod Waking

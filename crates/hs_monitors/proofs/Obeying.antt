@@ -16,17 +16,17 @@ use Rattle.hs_monitors.specs.Orders.{orders_of, monitor_in, listen_in, refreshes
 use Rattle.hs_monitors.specs.Watches.{watch_at}
 use Rattle.hs_monitors.specs.Monitors.{places_of}
 use Rattle.hs_monitors.specs.Attempts.{past_of, past_in}
-use Rattle.hs_monitors.specs.Entries.{EntriesStand}
+use Rattle.hs_monitors.specs.Entries.{KeptStands}
 use Rattle.hs_monitors.specs.State.{DutyStands}
 use Rattle.hs_monitors.specs.declared.instructions.Instruction.{Instruction}
-use Rattle.hs_monitors.specs.declared.watches.Watched.{Watched}
+use Rattle.hs_monitors.specs.declared.kept.Kept.{Kept}
 use Rattle.hs_monitors.specs.declared.duty.Duty.{Duty}
 use Rattle.hs_monitors.proofs.Following.{on_more, listening_more, watch_ordered, watch_unordered, watch_none, orders_none, past_none, past_unordered, past_ordered}
 
 -- entries that stand, on equal rows and equal checks
-pub entries_as : (rows other : List AppRow) (checks more : List (List Counter)) (kept : List Watched) → rows ≡ other → checks ≡ more → EntriesStand rows (λ (k : ℕ). checks) kept → EntriesStand other (λ (k : ℕ). more) kept
+pub entries_as : (rows other : List AppRow) (checks more : List (List Counter)) (kept : Kept) → rows ≡ other → checks ≡ more → KeptStands rows checks kept → KeptStands other more kept
 entries_as rows other checks more kept same_rows same_checks stood =
-    subst (λ (cs : List (List Counter)). EntriesStand other (λ (k : ℕ). cs) kept) same_checks (subst (λ (xs : List AppRow). EntriesStand xs (λ (k : ℕ). checks) kept) same_rows stood)
+    subst (λ (cs : List (List Counter)). KeptStands other cs kept) same_checks (subst (λ (xs : List AppRow). KeptStands xs checks kept) same_rows stood)
 
 -- both monitorings are on at the start
 on_first : is_on [] ≡ true
@@ -38,7 +38,7 @@ unfolding is_listening last_or
 listening_first = refl
 
 -- before the first wakeup
-pub starts_stand : (tables : HsTables) (made limit : ℕ) (m : Duty) → m.monitoring ≡ true → m.listening ≡ true → m.places ≡ places_of tables.apps → EntriesStand tables.apps (λ (k : ℕ). []) m.kept
+pub starts_stand : (tables : HsTables) (made limit : ℕ) (m : Duty) → m.monitoring ≡ true → m.listening ≡ true → m.places ≡ places_of tables.apps → KeptStands tables.apps [] m.kept
     → ((acts : List ActRow) → ActionsStand acts (past_from made limit) m.actions) → DutyStands (setup_of tables made limit) [] [] (past_of (setup_of tables made limit) []) m
 starts_stand tables made limit m monitoring listening places kept actions =
     let setup = setup_of tables made limit in
@@ -61,20 +61,20 @@ module _ (setup : Setup) (history : List HsEntry) where
     monitoring = monitoring ∙ stood.monitoring;
     listening = listening ∙ stood.listening;
     places = places ∙ stood.places;
-    kept = subst (λ (ws : List Watched). EntriesStand (apps_after setup history) (λ (k : ℕ). watch_at history []) ws) (sym kept) stood.kept;
+    kept = subst (λ (ws : Kept). KeptStands (apps_after setup history) (watch_at history []) ws) (sym kept) stood.kept;
     actions = subst (λ (p : Past). ActionsStand setup.tables.acts p new.actions) (sym (past_unordered setup history)) (actions setup.tables.acts (past_of setup history) stood.actions);
   }
 
   -- one order more, by what it makes of each part
   pub obeyed : (orders : List Instruction) (o : Instruction) (old new : Duty) → new.monitoring ≡ unwrap_or (monitor_in o) old.monitoring → new.listening ≡ unwrap_or (listen_in o) old.listening → new.places ≡ old.places
-      → EntriesStand (apps_after setup history) (λ (k : ℕ). cond (refreshes o) [] (watch_at history orders)) new.kept
+      → KeptStands (apps_after setup history) (cond (refreshes o) [] (watch_at history orders)) new.kept
       → ActionsStand setup.tables.acts (with_more (past_in setup history orders) (by_order o)) new.actions
       → DutyStands setup history orders (past_in setup history orders) old → DutyStands setup history (orders ++ o ∷ []) (past_in setup history (orders ++ o ∷ [])) new
   obeyed orders o old new monitoring listening places kept actions stood = record {
     monitoring = monitoring ∙ ap (unwrap_or (monitor_in o)) stood.monitoring ∙ sym (on_more (orders_of history) orders o);
     listening = listening ∙ ap (unwrap_or (listen_in o)) stood.listening ∙ sym (listening_more (orders_of history) orders o);
     places = places ∙ stood.places;
-    kept = subst (λ (cs : List (List Counter)). EntriesStand (apps_after setup history) (λ (k : ℕ). cs) new.kept) (sym (watch_ordered history orders o)) kept;
+    kept = subst (λ (cs : List (List Counter)). KeptStands (apps_after setup history) cs new.kept) (sym (watch_ordered history orders o)) kept;
     actions = subst (λ (p : Past). ActionsStand setup.tables.acts p new.actions) (sym (past_ordered setup history orders o)) actions;
   }
 

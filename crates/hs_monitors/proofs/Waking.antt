@@ -27,9 +27,9 @@ use Rattle.hs_monitors.specs.Monitors.{places_of, app_attempt}
 use Rattle.hs_monitors.specs.Events.{event_attempts}
 use Rattle.hs_monitors.specs.Attempts.{by_monitors, past_of, past_in}
 use Rattle.hs_monitors.specs.Step.{turn_of, hs_answers, hs_items}
-use Rattle.hs_monitors.specs.Entries.{EntriesStand}
+use Rattle.hs_monitors.specs.Entries.{KeptStands}
 use Rattle.hs_monitors.specs.State.{DutyStands}
-use Rattle.hs_monitors.specs.declared.watches.Watched.{Watched}
+use Rattle.hs_monitors.specs.declared.kept.Kept.{Kept}
 use Rattle.hs_monitors.specs.declared.duty.Duty.{Duty}
 use Rattle.hs_monitors.proofs.Following.{orders_woken, watch_woken, watch_unordered, past_woken}
 use Rattle.hs_monitors.proofs.Obeying.{entries_as}
@@ -68,7 +68,7 @@ pub record Wakes (setup : Setup) (history : List HsEntry) (input : Input) (befor
   pub monitoring : after.monitoring ≡ before.monitoring
   pub listening : after.listening ≡ before.listening
   pub places : after.places ≡ before.places
-  pub kept : EntriesStand (apps_after setup history) (λ (k : ℕ). cond before.monitoring (watch_at history (ordered_at input) ++ input.seen.counters ∷ []) (watch_at history (ordered_at input))) after.kept
+  pub kept : KeptStands (apps_after setup history) (cond before.monitoring (watch_at history (ordered_at input) ++ input.seen.counters ∷ []) (watch_at history (ordered_at input))) after.kept
   pub performs : Performs setup.tables.acts input.time (attempted before.monitoring before.listening (watch_at history (ordered_at input)) input.seen.counters (apps_after setup history) (tables_after setup history).events input.seen.events) before.actions after.actions mid end
 
 module _ (setup : Setup) (history : List HsEntry) (input : Input) (before after : Duty) (mid end : Held Out) (wakes : Wakes setup history input before after mid end) where
@@ -116,13 +116,13 @@ performs_on setup history tables time on listening still checks counters packets
     (subst (λ (b : Bool). Performs tables.acts time (λ (k : ℕ). cond b (flat_map (event_attempts k tables.events) packets) []) middle new between after) same second))
 
 -- what is kept, on them
-pub kept_on : (setup : Setup) (history : List HsEntry) (tables : HsTables) (checks : List (List Counter)) (kept : List Watched) → tables ≡ tables_after setup history
-    → EntriesStand (apps_after setup history) (λ (k : ℕ). checks) kept → EntriesStand tables.apps (λ (k : ℕ). checks) kept
-kept_on setup history tables checks kept in_force stood = subst (λ (t : HsTables). EntriesStand t.apps (λ (k : ℕ). checks) kept) (sym in_force) stood
+pub kept_on : (setup : Setup) (history : List HsEntry) (tables : HsTables) (checks : List (List Counter)) (kept : Kept) → tables ≡ tables_after setup history
+    → KeptStands (apps_after setup history) checks kept → KeptStands tables.apps checks kept
+kept_on setup history tables checks kept in_force stood = subst (λ (t : HsTables). KeptStands t.apps checks kept) (sym in_force) stood
 
-pub kept_in_force : (setup : Setup) (history : List HsEntry) (tables : HsTables) (checks : List (List Counter)) (kept : List Watched) → tables ≡ tables_after setup history
-    → EntriesStand tables.apps (λ (k : ℕ). checks) kept → EntriesStand (apps_after setup history) (λ (k : ℕ). checks) kept
-kept_in_force setup history tables checks kept in_force stood = subst (λ (t : HsTables). EntriesStand t.apps (λ (k : ℕ). checks) kept) in_force stood
+pub kept_in_force : (setup : Setup) (history : List HsEntry) (tables : HsTables) (checks : List (List Counter)) (kept : Kept) → tables ≡ tables_after setup history
+    → KeptStands tables.apps checks kept → KeptStands (apps_after setup history) checks kept
+kept_in_force setup history tables checks kept in_force stood = subst (λ (t : HsTables). KeptStands t.apps checks kept) in_force stood
 
 pub places_on : (setup : Setup) (history : List HsEntry) (tables : HsTables) (places : ℕ) → tables ≡ tables_after setup history → places ≡ places_of (apps_after setup history) → places ≡ places_of tables.apps
 places_on setup history tables places in_force is = is ∙ sym (ap (λ (t : HsTables). places_of t.apps) in_force)

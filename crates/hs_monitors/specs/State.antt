@@ -13,7 +13,7 @@ use Rattle.hs_monitors.specs.Watches.{watch_at}
 use Rattle.hs_monitors.specs.Monitors.{places_of}
 use Rattle.hs_monitors.specs.Attempts.{past_of}
 use Rattle.hs_monitors.specs.Step.{hs_heard}
-use Rattle.hs_monitors.specs.Entries.{EntriesStand}
+use Rattle.hs_monitors.specs.Entries.{KeptStands}
 use Rattle.hs_monitors.specs.declared.instructions.Instruction.{Instruction}
 use Rattle.hs_monitors.specs.declared.duty.Duty.{Duty}
 use Rattle.hs_monitors.specs.declared.state.Hs.{Hs}
@@ -23,7 +23,7 @@ pub record DutyStands (setup : Setup) (history : List HsEntry) (orders : List In
   pub monitoring : duty.monitoring ≡ is_on (orders_of history ++ orders)
   pub listening : duty.listening ≡ is_listening (orders_of history ++ orders)
   pub places : duty.places ≡ places_of (apps_after setup history)
-  pub kept : EntriesStand (apps_after setup history) (λ place. watch_at history orders) duty.kept
+  pub kept : KeptStands (apps_after setup history) (watch_at history orders) duty.kept
   pub actions : ActionsStand setup.tables.acts past duty.actions
 
 -- The state stands for what it was set up with and a history.

@@ -42,10 +42,11 @@ fn places_with(apps: &AppMon, place: u32, places: u8) -> u8
 
 /// What is kept of all entries before the first check of a watch.
 pub(crate) fn begin_all(apps: &AppMon) -> [Watched; PLACES]
-    ensures { EntriesStand apps.now (λ place. []) result }
+    ensures stands { EntriesStand apps.now (λ place. []) result }
+    ensures whole { length apps.now ≡ 32 }
 {
     let mut kept = [Watched::UNUSED; PLACES];
-    for place in 0..PLACES as u32 {
+    for place in 0..apps.len() {
         kept[place as usize] = begin(apps, place);
     }
     kept

@@ -10,15 +10,15 @@ ghost use Rattle.hs_monitors.specs.Monitors.{places_of, app_attempt};
 ghost use Rattle.hs_monitors.specs.Events.{event_attempts};
 ghost use Rattle.hs_monitors.specs.Attempts.{past_of, past_in};
 ghost use Rattle.hs_monitors.specs.Housekeeping.{watching_bits};
-ghost use Rattle.hs_monitors.specs.Entries.{EntriesStand};
+ghost use Rattle.hs_monitors.specs.Entries.{KeptStands};
 ghost use Rattle.hs_monitors.specs.State.{DutyStands, are_idle};
 ghost use Rattle.hs_monitors.specs.declared.instructions.Instruction.{Instruction};
 
-use crate::apps::{PLACES, begin_all, check_all, places_in};
+use crate::apps::places_in;
 use crate::events::hear_all;
 use crate::housekeeping::{Shown, watching_bits};
 use crate::instructions::Instruction;
-use crate::watches::Watched;
+use crate::kept::Kept;
 use bus_pipes::Outbox;
 use hs_actions::Actions;
 use hs_tables::{AppMon, HsTables};
@@ -31,7 +31,7 @@ pub(crate) struct Duty {
     monitoring: bool,
     listening: bool,
     places: u8,
-    kept: [Watched; PLACES],
+    kept: Kept,
     pub(crate) actions: Actions,
 }
 
@@ -45,7 +45,7 @@ impl Duty {
             monitoring: true,
             listening: true,
             places: places_in(&tables.apps),
-            kept: begin_all(&tables.apps),
+            kept: Kept::begun(&tables.apps),
             actions: Actions::start(made, max),
         }
     }
@@ -83,14 +83,14 @@ impl Duty {
         ensures places { self.new.places ≡ self.old.places }
         ensures actions { self.new.actions ≡ self.old.actions }
         ensures kept { (checks : List (List Counter))
-            → EntriesStand apps.now (λ place. checks) self.old.kept
-            → EntriesStand apps.now (λ place. if on then [] else checks) self.new.kept }
+            → KeptStands apps.now checks self.old.kept
+            → KeptStands apps.now (if on then [] else checks) self.new.kept }
     {
         self.monitoring = on;
         if !on {
             return;
         }
-        self.kept = begin_all(apps);
+        self.kept = Kept::begun(apps);
     }
 
     /// Takes another table of application monitors: their watch begins anew.
@@ -99,10 +99,10 @@ impl Duty {
         ensures listening { self.new.listening ≡ self.old.listening }
         ensures places { self.new.places ≡ places_of apps.now }
         ensures actions { self.new.actions ≡ self.old.actions }
-        ensures kept { EntriesStand apps.now (λ place. []) self.new.kept }
+        ensures kept { KeptStands apps.now [] self.new.kept }
     {
         self.places = places_in(apps);
-        self.kept = begin_all(apps);
+        self.kept = Kept::begun(apps);
     }
 
     /// Checks the application monitors, where application monitoring is on.
@@ -117,12 +117,12 @@ impl Duty {
         ensures same { (self.new.monitoring ≡ self.old.monitoring)
             × (self.new.listening ≡ self.old.listening) × (self.new.places ≡ self.old.places) }
         ensures kept { (checks : List (List Counter)) → self.old.places ≡ places_of tables.now.apps
-            → EntriesStand tables.now.apps (λ place. checks) self.old.kept
-            → EntriesStand tables.now.apps (λ place. if self.old.monitoring then checks
+            → KeptStands tables.now.apps checks self.old.kept
+            → KeptStands tables.now.apps (if self.old.monitoring then checks
             ++ counters.now ∷ [] else checks) self.new.kept }
         ensures performs { (checks : List (List Counter))
             → self.old.places ≡ places_of tables.now.apps
-            → EntriesStand tables.now.apps (λ place. checks) self.old.kept
+            → KeptStands tables.now.apps checks self.old.kept
             → Performs tables.now.acts now (λ k. if self.old.monitoring
             then flat_map (app_attempt k (checks ++ counters.now ∷ [])) tables.now.apps
             else []) self.old.actions self.new.actions out.old out.new }
@@ -134,15 +134,8 @@ impl Duty {
         if !self.monitoring {
             return;
         }
-        check_all(
-            tables,
-            self.places,
-            &mut self.kept,
-            counters,
-            now,
-            &mut self.actions,
-            out,
-        );
+        self.kept
+            .check(tables, self.places, counters, now, &mut self.actions, out);
     }
 
     /// Compares the packets of the event pipe, at most 32, with the event monitors, where event monitoring is on.
@@ -177,13 +170,13 @@ impl Duty {
         ensures monitoring { result.monitoring ≡ self.now.monitoring }
         ensures listening { result.listening ≡ self.now.listening }
         ensures watching { (checks : List (List Counter))
-            → EntriesStand apps.now (λ place. checks) self.now.kept
+            → KeptStands apps.now checks self.now.kept
             → result.watching ≡ watching_bits apps.now checks }
     {
         Shown {
             monitoring: self.monitoring,
             listening: self.listening,
-            watching: watching_bits(apps, &self.kept),
+            watching: watching_bits(apps, &self.kept.settled()),
         }
     }
 

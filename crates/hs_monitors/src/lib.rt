@@ -7,6 +7,7 @@ mod events;
 mod housekeeping;
 mod input;
 mod instructions;
+mod kept;
 pub mod laws;
 mod messages;
 mod state;

@@ -1,11 +1,11 @@
 //! What is kept of an application monitor, and its checks.
-ghost use Rattle.std.specs.Prelude.{◌≡◌, ◌<◌, List, [], ◌∷◌, ◌++◌};
+ghost use Rattle.std.specs.Prelude.{◌≡◌, ◌<◌, ◌≤◌, List, [], ◌∷◌, ◌++◌, length};
 ghost use Rattle.packet_forms.specs.declared.name.Counter.{Counter};
 ghost use Rattle.hs_monitors.specs.Acting.{is_same, counter_in, changes, acts_now};
-ghost use Rattle.hs_monitors.specs.Entries.{EntryStands};
+ghost use Rattle.hs_monitors.specs.Entries.{EntryStands, later};
 
 use hs_tables::AppEntry;
-use packet_forms::{Counter, Name};
+use packet_forms::{Counter, Name, be32};
 
 /// The last counter that an entry saw, and how many unchanged checks in a row are left until it acts, 0 once it acted.
 #[derive(Clone, Copy, Debug, PartialEq, Eq)]
@@ -34,6 +34,16 @@ impl Watched {
     {
         let countdown = entry.cycles;
         Watched { last: 0, countdown }
+    }
+
+    /// What is kept once so many checks are taken off the countdown.
+    pub(crate) fn later(self, passed: u16) -> Watched
+        ensures { result ≡ later passed self }
+    {
+        Watched {
+            last: self.last,
+            countdown: self.countdown.saturating_sub(passed),
+        }
     }
 
     /// Checks the entry by the counters of a frame: a counter of its name that isn't the last one begins the countdown anew, and any other
@@ -82,11 +92,18 @@ pub(crate) fn counter_in(counters: &[Counter], name: &Name) -> Option<u32>
     None
 }
 
-/// Whether these are the bytes of one name.
+/// Whether these are the bytes of one name. Names that differ mostly do so in the first eight bytes, so these are compared first.
 #[tactic(auto, unfolding(crate::specs::Acting::is_same))]
 #[inline(always)]
 pub(crate) fn is_same(name: &[u8], other: &[u8]) -> bool
+    requires { (8 ≤ length name.now) × (8 ≤ length other.now) }
     ensures { result ≡ is_same name.now other.now }
 {
+    if be32(name, 0) != be32(other, 0) {
+        return false;
+    }
+    if be32(name, 4) != be32(other, 4) {
+        return false;
+    }
     *name == *other
 }

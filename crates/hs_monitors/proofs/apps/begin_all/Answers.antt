@@ -11,5 +11,5 @@ loop-place-preserved c =
       each = begun_more c.args.apps.now c.loop-place.kept c.loop-place.place c.begin.result (omega arith) held.each c.begin.ensures;
     }
 
-pub returns : goal.returns
-returns c = record { each = λ k e within is. c.loop-place.invariant.each k e (omega arith) is }
+pub returns-clause-stands : goal.returns-clause-stands
+returns-clause-stands c = record { each = λ k e within is. c.loop-place.invariant.each k e (omega arith) is }

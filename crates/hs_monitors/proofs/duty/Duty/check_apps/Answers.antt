@@ -13,4 +13,7 @@ returns-then-not-self-clause-performs c = λ checks places stood.
     (λ k. ap (λ (b : Bool). cond b (flat_map (app_attempt k (checks ++ c.args.counters.now ∷ [])) c.args.tables.now.apps) []) c.if-not-self.true)
 
 pub returns-clause-kept : goal.returns-clause-kept
-returns-clause-kept c = λ checks places stood. rw c.if-not-self.false (c.check_all.ensures.stands checks places stood)
+returns-clause-kept c = λ checks places stood. rw c.if-not-self.false (c.check.ensures.stands checks places stood)
+
+pub returns-clause-performs : goal.returns-clause-performs
+returns-clause-performs c = λ checks places stood. rw c.if-not-self.false (c.check.ensures.performs checks places stood)

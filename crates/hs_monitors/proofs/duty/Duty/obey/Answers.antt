@@ -4,7 +4,7 @@ use Rattle.hs_actions.specs.State.{ActionsStand}
 use Rattle.hs_actions.specs.declared.state.Actions.{Actions}
 use Rattle.hs_monitors.specs.Watches.{watch_at}
 use Rattle.hs_monitors.specs.Attempts.{past_in}
-use Rattle.hs_monitors.specs.Entries.{EntriesStand}
+use Rattle.hs_monitors.specs.Entries.{KeptStands}
 use Rattle.hs_monitors.specs.declared.instructions.Instruction.TheVariants.{Plain, Monitor, Listen, Clear, Limit}
 use Rattle.hs_monitors.proofs.Obeying.{obeyed, actions_left}
 use Rattle.hs_monitors.proofs.duty.Duty.obey.Goals as goal
@@ -22,8 +22,8 @@ returns-in-Monitor c = λ setup history orders apps stood.
     let on = c.in-Monitor.on in
     rw c.in-Monitor.is (
     obeyed setup history orders (Monitor on) self new c.monitor.ensures.monitoring c.monitor.ensures.listening c.monitor.ensures.places
-    (subst (λ (rows : List AppRow). EntriesStand rows (λ (k : ℕ). cond on [] checks) new.kept) apps
-    (c.monitor.ensures.kept checks (subst (λ (rows : List AppRow). EntriesStand rows (λ (k : ℕ). checks) self.kept) (sym apps) stood.kept)))
+    (subst (λ (rows : List AppRow). KeptStands rows (cond on [] checks) new.kept) apps
+    (c.monitor.ensures.kept checks (subst (λ (rows : List AppRow). KeptStands rows checks self.kept) (sym apps) stood.kept)))
     (actions_left setup history orders new.actions (subst (λ (a : Actions). ActionsStand setup.tables.acts (past_in setup history orders) a) (sym c.monitor.ensures.actions) stood.actions))
     stood)
 

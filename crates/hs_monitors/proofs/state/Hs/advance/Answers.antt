@@ -4,9 +4,9 @@ use Rattle.hs_monitors.specs.Histories.{Input, HsEntry, Setup, input_of, apps_af
 use Rattle.hs_monitors.specs.Orders.{ordered_at}
 use Rattle.hs_monitors.specs.Watches.{watch_at}
 use Rattle.hs_monitors.specs.Step.{turn_of}
-use Rattle.hs_monitors.specs.Entries.{EntriesStand}
+use Rattle.hs_monitors.specs.Entries.{KeptStands}
 use Rattle.hs_monitors.specs.State.{Stands}
-use Rattle.hs_monitors.specs.declared.watches.Watched.{Watched}
+use Rattle.hs_monitors.specs.declared.kept.Kept.{Kept}
 use Rattle.hs_monitors.proofs.Following.{heard_woken}
 use Rattle.hs_monitors.proofs.Waking.{Wakes, woken_stand, woken_items, performs_on, kept_on, kept_in_force, places_on}
 use Rattle.hs_monitors.proofs.state.Hs.advance.Goals as goal
@@ -33,7 +33,7 @@ waking c setup history in_force stood =
       listening = c.hear_events.ensures.same.1 ∙ same.1;
       places = c.hear_events.ensures.same.2 ∙ same.2;
       kept =
-          subst (λ (ws : List Watched). EntriesStand (apps_after setup history) (λ (k : ℕ). cond before.monitoring (checks ++ counters ∷ []) checks) ws) (sym c.hear_events.ensures.same.3)
+          subst (λ (ws : Kept). KeptStands (apps_after setup history) (cond before.monitoring (checks ++ counters ∷ []) checks) ws) (sym c.hear_events.ensures.same.3)
           (kept_in_force setup history tables (cond before.monitoring (checks ++ counters ∷ []) checks) middle.kept in_force (c.check_apps.ensures.kept checks places kept));
       performs =
           performs_on setup history tables c.args.now before.monitoring before.listening middle.listening checks counters c.args.input.now.events.now before.actions middle.actions c.hear_events.new.self.actions
