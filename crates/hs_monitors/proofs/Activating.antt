@@ -1,5 +1,5 @@
 -- The state once a table became active.
-use Rattle.std.proofs.Common.{◌≡◌, ℕ, List, [], ◌∷◌, ◌++◌, Option, Some, None, refl, sym, ap, subst, ◌∙◌}
+use Rattle.std.proofs.Common.{◌≡◌, List, [], ◌∷◌, ◌++◌, Option, Some, None, refl, sym, ap, subst, ◌∙◌}
 use Rattle.histories.specs.Entries.{replaced_by}
 use Rattle.histories.specs.Entries.Entry.{Activated}
 use Rattle.histories.proofs.Entries.{in_force_activated}

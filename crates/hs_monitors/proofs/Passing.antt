@@ -1,6 +1,6 @@
 -- What is kept of all entries, at a check in which no countdown ends, and at one more entry.
-use Rattle.std.proofs.Common.{◌≡◌, ◌≢◌, ℕ, zero, suc, ◌+◌, ◌-◌, ◌<◌, ◌≤◌, true, false, List, [], ◌∷◌, ◌++◌, length, set, inl, inr, None, Some, refl, sym, ap, subst, ◌∙◌, arith, ne_eqb}
-use Rattle.std.specs.Prelude.{◌==◌}
+use Rattle.std.proofs.Common.{◌≡◌, ◌≢◌, ℕ, suc, ◌+◌, ◌-◌, ◌<◌, ◌≤◌, true, false, List, [], ◌∷◌, ◌++◌, length, set, inl, inr, Option, None, Some, refl, sym, ap, subst, ◌∙◌, arith, ne_eqb}
+use Rattle.std.specs.Prelude.{◌==◌, unwrap_or}
 use Rattle.std.specs.List.{flat_map}
 use Rattle.std.proofs.lemmas.Bool.{cases_eq, cases_lt}
 use Rattle.std.proofs.lemmas.List.{get_or-set_same, get_or-set_other}
@@ -9,12 +9,13 @@ use Rattle.hs_tables.specs.Apps.{entry_of}
 use Rattle.hs_tables.specs.declared.apps.AppRow.{AppRow}
 use Rattle.hs_tables.specs.declared.apps.AppEntry.{AppEntry}
 use Rattle.hs_actions.specs.Happenings.{Happening}
-use Rattle.hs_monitors.specs.Acting.{changes, acts_now}
-use Rattle.hs_monitors.specs.Monitors.{row_at, app_attempt}
-use Rattle.hs_monitors.specs.Entries.{EntryStands, EntriesStand, KeptStands, watched_at, later}
+use Rattle.hs_monitors.specs.Acting.{counter_in, changes, acts_now}
+use Rattle.hs_monitors.specs.Monitors.{row_at, places_of, app_attempt}
+use Rattle.hs_monitors.specs.Entries.{EntryStands, EntriesStand, KeptStands, watched_at, later, kept_with}
 use Rattle.hs_monitors.specs.declared.watches.Watched.{Watched}
 use Rattle.hs_monitors.specs.declared.kept.Kept.{Kept}
-use Rattle.hs_monitors.proofs.Checks.{rested_stands, rested_acts, unchanged_stands, unchanged_acts, counter_none}
+use Rattle.hs_monitors.proofs.Checks.{rested_stands, rested_acts, changed_stands, changed_acts, unchanged_stands, unchanged_acts, counter_none}
+use Rattle.hs_monitors.proofs.Places.{unused_behind, no_entry}
 use Rattle.hs_monitors.proofs.Performing.{row_quiet, entry_cycles}
 
 -- rows none of which attempts anything
@@ -23,48 +24,67 @@ nothing_from f [] each = refl
 nothing_from f (row ∷ rows) each = rw (each 0 (omega arith)) (nothing_from f rows (λ i within. each (suc i) (omega arith)))
 
 -- an entry whose countdown doesn't end
-module _ (e : AppEntry) (checks : List (List Counter)) (counters : List Counter) (none : (length counters == 0) ≡ true) (w : Watched) (passed least : ℕ) (some : 0 < e.cycles)
-    (stood : EntryStands e checks (later passed w)) (over : 0 < w.countdown → least ≤ w.countdown) (soon : passed + 1 < least) where
-  passes : EntryStands e (checks ++ counters ∷ []) (later (passed + 1) w)
-  passes = elim (cases_lt 0 w.countdown) [
-    | inl runs ↦
-        let far : least ≤ w.countdown = over runs in
-        unchanged_stands e checks counters (later passed w) stood some (omega arith) w.last None (counter_none counters e.name none) refl refl (w.countdown - (passed + 1)) (omega arith)
-    | inr ended ↦
-        let same : w.countdown - passed ≡ w.countdown - (passed + 1) = omega arith in
-        subst (λ (n : ℕ). EntryStands e (checks ++ counters ∷ []) (record { last = w.last; countdown = n })) same
-        (rested_stands e checks counters (later passed w) stood some (omega arith))
-  ]
+module _ (e : AppEntry) (checks : List (List Counter)) (counters : List Counter) (w : Watched) (passed : ℕ) (some : 0 < e.cycles) (stood : EntryStands e checks (later passed w)) where
+  -- it acted
+  pub over_stands : w.countdown ≡ 0 → EntryStands e (checks ++ counters ∷ []) (later (passed + 1) w)
+  over_stands ended =
+      let same : w.countdown - passed ≡ w.countdown - (passed + 1) = omega arith in
+      subst (λ (n : ℕ). EntryStands e (checks ++ counters ∷ []) (record { last = w.last; countdown = n })) same (rested_stands e checks counters (later passed w) stood some (omega arith))
 
-  rests : false ≡ acts_now e.cycles (changes e.name (checks ++ counters ∷ []))
-  rests = elim (cases_lt 0 w.countdown) [
-    | inl runs ↦
-        let far : least ≤ w.countdown = over runs in
-        let left : w.countdown - passed - 1 ≢ 0 = omega arith in
-        sym (ne_eqb (w.countdown - passed - 1) 0 left)
-        ∙ unchanged_acts e checks counters (later passed w) stood some (omega arith) w.last None (counter_none counters e.name none) refl refl (w.countdown - passed - 1) refl
+  -- it counts down, by the last counter that the check leaves
+  module _ (far : passed + 1 < w.countdown) (last : ℕ) (found : Option ℕ) (found_is : found ≡ counter_in counters e.name) (last_is : last ≡ unwrap_or found w.last) where
+    pub same_stands : last ≡ w.last → EntryStands e (checks ++ counters ∷ []) (later (passed + 1) w)
+    same_stands same =
+        subst (λ (n : ℕ). EntryStands e (checks ++ counters ∷ []) (record { last = n; countdown = w.countdown - (passed + 1) })) same
+        (unchanged_stands e checks counters (later passed w) stood some (omega arith) last found found_is last_is same (w.countdown - (passed + 1)) (omega arith))
+
+    pub other_stands : last ≢ w.last → (countdown : ℕ) → countdown ≡ e.cycles + passed + 1 → EntryStands e (checks ++ counters ∷ []) (record { last = last; countdown = countdown - (passed + 1) })
+    other_stands other countdown anew =
+        let whole : e.cycles ≡ countdown - (passed + 1) = omega arith in
+        subst (λ (n : ℕ). EntryStands e (checks ++ counters ∷ []) (record { last = last; countdown = n })) whole
+        (changed_stands e checks counters (later passed w) stood some (omega arith) last found found_is last_is other)
+
+  pub rests : (0 < w.countdown → passed + 1 < w.countdown) → false ≡ acts_now e.cycles (changes e.name (checks ++ counters ∷ []))
+  rests far = elim (cases_lt 0 w.countdown) [
+    | inl runs ↦ by_counter (far runs) (unwrap_or (counter_in counters e.name) w.last) refl
     | inr ended ↦ rested_acts e checks counters (later passed w) stood some (omega arith)
   ]
+    where
+      by_counter : passed + 1 < w.countdown → (last : ℕ) → last ≡ unwrap_or (counter_in counters e.name) w.last → false ≡ acts_now e.cycles (changes e.name (checks ++ counters ∷ []))
+      by_counter more last is = elim (cases_eq last w.last) [
+        | inl same ↦
+            let left : w.countdown - passed - 1 ≢ 0 = omega arith in
+            sym (ne_eqb (w.countdown - passed - 1) 0 left)
+            ∙ unchanged_acts e checks counters (later passed w) stood some (omega arith) last (counter_in counters e.name) refl is same (w.countdown - passed - 1) refl
+        | inr other ↦ changed_acts e checks counters (later passed w) stood some (omega arith) last (counter_in counters e.name) refl is other
+      ]
 
--- all entries
-module _ (rows : List AppRow) (checks : List (List Counter)) (counters : List Counter) (none : (length counters == 0) ≡ true) (old new : Kept) (stood : KeptStands rows checks old)
-    (soon : old.passed + 1 < old.least) (same : new.watched ≡ old.watched) (passed : new.passed ≡ old.passed + 1) (least : new.least ≡ old.least) where
-  pub kept_passes : KeptStands rows (checks ++ counters ∷ []) new
-  kept_passes = record {
-    whole = stood.whole;
-    each = λ k e within is.
-        rw (same, passed) (passes e checks counters none (watched_at old.watched k) old.passed old.least (entry_cycles (row_at rows k) e is) (stood.each k e within is) (stood.least k within) soon);
-    least = λ k within runs. rw least (subst (λ (ws : List Watched). old.least ≤ (watched_at ws k).countdown) (sym same) (stood.least k within (subst (λ (ws : List Watched). 0 < (watched_at ws k).countdown) same runs)));
-    within = rw (passed, least) soon;
-  }
+-- each countdown is over or ends later
+pub ends_later : (rows : List AppRow) (checks : List (List Counter)) (kept : Kept) → KeptStands rows checks kept → kept.passed + 1 < kept.least → (k : ℕ) → k < 32
+    → 0 < (watched_at kept.watched k).countdown → kept.passed + 1 < (watched_at kept.watched k).countdown
+ends_later rows checks kept stood soon k within runs = let most : kept.least ≤ (watched_at kept.watched k).countdown = stood.least k within runs in omega arith
+
+-- all entries, at a check without counters
+module _ (rows : List AppRow) (checks : List (List Counter)) (counters : List Counter) (none : (length counters == 0) ≡ true) (old : Kept) (stood : KeptStands rows checks old) (soon : old.passed + 1 < old.least) where
+  one_passes : (k : ℕ) (e : AppEntry) → k < 32 → entry_of (row_at rows k) ≡ Some e → EntryStands e (checks ++ counters ∷ []) (later (old.passed + 1) (watched_at old.watched k))
+  one_passes k e within is = elim (cases_lt 0 (watched_at old.watched k).countdown) [
+    | inl runs ↦
+        same_stands e checks counters (watched_at old.watched k) old.passed (entry_cycles (row_at rows k) e is) (stood.each k e within is) (ends_later rows checks old stood soon k within runs)
+        (watched_at old.watched k).last None (counter_none counters e.name none) refl refl
+    | inr ended ↦ over_stands e checks counters (watched_at old.watched k) old.passed (entry_cycles (row_at rows k) e is) (stood.each k e within is) (omega arith)
+  ]
+
+  pub kept_passes : KeptStands rows (checks ++ counters ∷ []) (kept_with old.watched (old.passed + 1) old.least)
+  kept_passes = record { whole = stood.whole; each = one_passes; least = stood.least; within = soon }
 
 -- none attempts anything
-pub none_acts : (rows : List AppRow) (checks : List (List Counter)) (counters : List Counter) → (length counters == 0) ≡ true → (kept : Kept) → KeptStands rows checks kept → kept.passed + 1 < kept.least → (k : ℕ)
+pub none_acts : (rows : List AppRow) (checks : List (List Counter)) (counters : List Counter) (kept : Kept) → KeptStands rows checks kept → kept.passed + 1 < kept.least → (k : ℕ)
     → flat_map (app_attempt k (checks ++ counters ∷ [])) rows ≡ []
-none_acts rows checks counters none kept stood soon k =
+none_acts rows checks counters kept stood soon k =
     nothing_from (app_attempt k (checks ++ counters ∷ [])) rows
-    (λ i within. row_quiet (row_at rows i) (checks ++ counters ∷ []) k
-    (λ e is. rests e checks counters none (watched_at kept.watched i) kept.passed kept.least (entry_cycles (row_at rows i) e is) (stood.each i e (omega (arith, within, stood.whole)) is) (stood.least i (omega (arith, within, stood.whole))) soon))
+    (λ i inside. let within : i < 32 = omega (arith, inside, stood.whole) in
+    row_quiet (row_at rows i) (checks ++ counters ∷ []) k
+    (λ e is. rests e checks counters (watched_at kept.watched i) kept.passed (entry_cycles (row_at rows i) e is) (stood.each i e within is) (ends_later rows checks kept stood soon i within)))
 
 -- a property of each place below one, and of that one
 pub set_more : (P : ℕ → Watched → Type 0) (kept : List Watched) (i : ℕ) (w : Watched) → i < length kept → ((k : ℕ) → k < i → P k (watched_at kept k)) → P i w → (k : ℕ) → k < i + 1 → P k (watched_at (set kept i w) k)
@@ -99,3 +119,33 @@ just_kept rows checks watched least whole stood some fewest = record {
   least = fewest;
   within = some;
 }
+
+-- a place behind one that is set
+pub set_rest : (kept old : List Watched) (i : ℕ) (w : Watched) → ((k : ℕ) → i ≤ k → watched_at kept k ≡ watched_at old k) → (k : ℕ) → i + 1 ≤ k → watched_at (set kept i w) k ≡ watched_at old k
+set_rest kept old i w before k past =
+    let apart : k ≢ i = omega arith in
+    get_or-set_other kept i k w (record { last = 0; countdown = 0 }) apart ∙ before k (omega arith)
+
+-- once all used entries are looked at
+module _ (rows : List AppRow) (checks : List (List Counter)) (more : List Counter) (old new : List Watched) (passed least fewest i : ℕ) (stood : KeptStands rows checks (kept_with old passed least)) (past : places_of rows ≤ i)
+    (done : (k : ℕ) (e : AppEntry) → k < i → entry_of (row_at rows k) ≡ Some e → EntryStands e (checks ++ more ∷ []) (later (passed + 1) (watched_at new k)))
+    (low : (k : ℕ) → k < i → 0 < (watched_at new k).countdown → fewest ≤ (watched_at new k).countdown) (rest : (k : ℕ) → i ≤ k → watched_at new k ≡ watched_at old k) (fewer : fewest ≤ least) (within_all : passed + 1 < fewest) where
+  low_all : (k : ℕ) → k < 32 → 0 < (watched_at new k).countdown → fewest ≤ (watched_at new k).countdown
+  low_all k within runs = elim (cases_lt k i) [
+    | inl below ↦ low k below runs
+    | inr over ↦
+        let same : (watched_at new k).countdown ≡ (watched_at old k).countdown = ap (λ (w : Watched). w.countdown) (rest k over) in
+        let most : least ≤ (watched_at old k).countdown = stood.least k within (omega arith) in
+        omega arith
+  ]
+
+  pub renewed_stand : KeptStands rows (checks ++ more ∷ []) (kept_with new (passed + 1) fewest)
+  renewed_stand = record {
+    whole = stood.whole;
+    each = λ k e within is. elim (cases_lt k i) [
+      | inl below ↦ done k e below is
+      | inr over ↦ absurd (no_entry (entry_of (row_at rows k)) e (unused_behind rows k (omega arith)) is)
+    ];
+    least = low_all;
+    within = within_all;
+  }

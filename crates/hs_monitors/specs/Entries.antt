@@ -26,8 +26,12 @@ pub record EntriesStand (rows : List AppRow) (checks : ℕ → List (List Counte
 abbrev pub later : ℕ → Watched → Watched
 later passed w = record { last = w.last; countdown = w.countdown - passed }
 
+-- What is kept of all entries, by its parts.
+abbrev pub kept_with : List Watched → ℕ → ℕ → Kept
+kept_with watched passed least = record { watched = watched; passed = passed; least = least }
+
 -- What is kept of all entries stands for some checks: that of each does once the passed checks are taken off, and no countdown that
--- isn't over was less than the least, which is more than the passed checks.
+-- isn't over is less than the least, which is more than the passed checks.
 pub record KeptStands (rows : List AppRow) (checks : List (List Counter)) (kept : Kept) : Type 0 where
   pub whole : length rows ≡ 32
   pub each : (k : ℕ) (e : AppEntry) → k < 32 → entry_of (row_at rows k) ≡ Some e → EntryStands e checks (later kept.passed (watched_at kept.watched k))

@@ -1,22 +1,24 @@
 //! What is kept of all application monitors together, and their checks.
-ghost use Rattle.std.specs.Prelude.{◌≡◌, ℕ, ◌+◌, ◌<◌, ◌≤◌, List, [], ◌∷◌, ◌++◌, length};
+ghost use Rattle.std.specs.Prelude.{◌≡◌, ℕ, ◌+◌, ◌<◌, ◌≤◌, List, [], ◌∷◌, ◌++◌, length, Some};
 ghost use Rattle.std.specs.List.{flat_map, AllPass};
 ghost use Rattle.bus_pipes.specs.Counted.{is_item_counted};
 ghost use Rattle.packet_forms.specs.declared.name.Counter.{Counter};
+ghost use Rattle.hs_tables.specs.Apps.{entry_of};
 ghost use Rattle.hs_tables.specs.declared.apps.AppRow.{AppRow};
+ghost use Rattle.hs_tables.specs.declared.apps.AppEntry.{AppEntry};
 ghost use Rattle.hs_actions.specs.Performs.{Performs};
-ghost use Rattle.hs_monitors.specs.Monitors.{places_of, app_attempt};
-ghost use Rattle.hs_monitors.specs.Entries.{EntriesStand, KeptStands, watched_at, later};
+ghost use Rattle.hs_monitors.specs.Monitors.{row_at, places_of, app_attempt};
+ghost use Rattle.hs_monitors.specs.Entries.{EntryStands, EntriesStand, KeptStands, watched_at, later, kept_with};
 
 use crate::apps::{PLACES, begin_all, check_all};
-use crate::watches::Watched;
+use crate::watches::{Watched, counter_in};
 use bus_pipes::Outbox;
 use hs_actions::Actions;
-use hs_tables::{AppMon, HsTables};
+use hs_tables::{AppEntry, AppMon, HsTables};
 use packet_forms::Counter;
 
-/// What is kept of all entries: what was kept of each some checks ago, how many checks passed since then, all of them without counters,
-/// and the least countdown that was left then. So a check in which no countdown can end takes none of them down.
+/// What is kept of all entries: how many checks passed since the countdowns were taken down, what is kept of each entry, with a countdown
+/// that is as many too high, and a number that no countdown is below but one that is over. So a check in which none can end takes none down.
 #[derive(Clone, Copy, Debug, PartialEq, Eq)]
 pub(crate) struct Kept {
     watched: [Watched; PLACES],
@@ -62,11 +64,34 @@ impl Kept {
         ensures few { length out.new.items ≤ length out.old.items + 64 }
         ensures room { out.new.room ≡ out.old.room }
     {
-        if counters.is_empty() && u32::from(self.passed) + 1 < u32::from(self.least) {
-            self.passed += 1;
+        if self.passed as u32 + 1 < self.least as u32 {
+            self.pass(&tables.apps, places, counters);
             return;
         }
         self.check_each(tables, places, counters, now, actions, out);
+    }
+
+    /// A check in which no countdown ends: those of entries whose counters changed begin anew.
+    #[inline(always)]
+    fn pass(&mut self, apps: &AppMon, places: u8, counters: &[Counter])
+        requires { self.old.passed + 1 < self.old.least }
+        ensures { (checks : List (List Counter)) → places ≡ places_of apps.now
+            → KeptStands apps.now checks self.old
+            → KeptStands apps.now (checks ++ counters.now ∷ []) self.new }
+    {
+        let passed = self.passed;
+        self.passed = passed + 1;
+        if counters.is_empty() {
+            return;
+        }
+        self.least = renew_all(
+            apps,
+            places,
+            &mut self.watched,
+            counters,
+            passed,
+            self.least,
+        );
     }
 
     /// Checks all entries one by one.
@@ -112,6 +137,70 @@ impl Kept {
     }
 }
 
+/// Begins the countdowns of all entries whose counters changed anew, in a check behind those that passed. Gives a number that no countdown
+/// is below.
+fn renew_all(
+    apps: &AppMon,
+    places: u8,
+    watched: &mut [Watched; PLACES],
+    counters: &[Counter],
+    passed: u16,
+    least: u16,
+) -> u16
+    requires { passed + 1 < least }
+    ensures { (checks : List (List Counter)) → places ≡ places_of apps.now
+        → KeptStands apps.now checks (kept_with watched.old passed least)
+        → KeptStands apps.now (checks ++ counters.now
+        ∷ []) (kept_with watched.new (passed + 1) result) }
+{
+    let mut fewest = least;
+    let end = u32::from(places).min(apps.len());
+    for place in 0..end {
+        let one = renew(apps, place, watched[place as usize], counters, passed);
+        watched[place as usize] = one;
+        fewest = least_with(fewest, one.countdown);
+    }
+    fewest
+}
+
+/// Begins the countdown of the entry in a place anew, where its counter changed and it didn't act.
+fn renew(apps: &AppMon, place: u32, watched: Watched, counters: &[Counter], passed: u16) -> Watched
+    requires { place < 32 }
+    ensures stands { (checks : List (List Counter)) (e : AppEntry)
+        → entry_of (row_at apps.now place) ≡ Some e
+        → (0 < watched.countdown → passed + 1 < watched.countdown)
+        → EntryStands e checks (later passed watched)
+        → EntryStands e (checks ++ counters.now ∷ []) (later (passed + 1) result) }
+    ensures far { (0 < watched.countdown → passed + 1 < watched.countdown)
+        → 0 < result.countdown → passed + 1 < result.countdown }
+{
+    if watched.countdown == 0 {
+        return watched;
+    }
+    match apps.entry(place + 1) {
+        None => watched,
+        Some(entry) => renewed(&entry, watched, counters, passed),
+    }
+}
+
+/// What is kept of an entry whose countdown begins anew where its counter changed.
+fn renewed(entry: &AppEntry, watched: Watched, counters: &[Counter], passed: u16) -> Watched
+    requires cycles { 0 < entry.now.cycles }
+    ensures stands { (checks : List (List Counter)) → passed + 1 < watched.countdown
+        → EntryStands entry.now checks (later passed watched)
+        → EntryStands entry.now (checks ++ counters.now ∷ []) (later (passed + 1) result) }
+    ensures far { passed + 1 < watched.countdown → passed + 1 < result.countdown }
+{
+    let last = counter_in(counters, &entry.name).unwrap_or(watched.last);
+    if last == watched.last {
+        return watched;
+    }
+    Watched {
+        last,
+        countdown: entry.cycles as u32 + passed as u32 + 1,
+    }
+}
+
 /// The least countdown of those that aren't 0, and 65,535 where all are.
 fn least_of(watched: &[Watched; PLACES]) -> u16
     ensures some { 0 < result }
@@ -126,14 +215,15 @@ fn least_of(watched: &[Watched; PLACES]) -> u16
 }
 
 /// The least countdown, once one countdown more was looked at.
-fn least_with(least: u16, countdown: u16) -> u16
+fn least_with(least: u16, countdown: u32) -> u16
     requires { 0 < least }
     ensures some { 0 < result }
     ensures before { result ≤ least }
     ensures here { 0 < countdown → result ≤ countdown }
+    ensures above { (n : ℕ) → n < least → (0 < countdown → n < countdown) → n < result }
 {
-    if countdown == 0 {
+    if countdown == 0 || countdown >= least as u32 {
         return least;
     }
-    least.min(countdown)
+    countdown as u16
 }

@@ -11,7 +11,7 @@ use packet_forms::{Counter, Name, be32};
 #[derive(Clone, Copy, Debug, PartialEq, Eq)]
 pub(crate) struct Watched {
     pub(crate) last: u32,
-    pub(crate) countdown: u16,
+    pub(crate) countdown: u32,
 }
 
 /// What a check leaves, and whether the entry acts at it.
@@ -32,7 +32,7 @@ impl Watched {
     pub(crate) fn begun(entry: &AppEntry) -> Watched
         ensures { EntryStands entry.now [] result }
     {
-        let countdown = entry.cycles;
+        let countdown = entry.cycles as u32;
         Watched { last: 0, countdown }
     }
 
@@ -42,7 +42,7 @@ impl Watched {
     {
         Watched {
             last: self.last,
-            countdown: self.countdown.saturating_sub(passed),
+            countdown: self.countdown.saturating_sub(passed as u32),
         }
     }
 
@@ -67,7 +67,7 @@ impl Watched {
             return Checked {
                 watched: Watched {
                     last,
-                    countdown: entry.cycles,
+                    countdown: entry.cycles as u32,
                 },
                 acts: false,
             };

@@ -1,4 +1,4 @@
-use Rattle.std.proofs.Common.{List, ℕ, [], refl, sym, subst, cond}
+use Rattle.std.proofs.Common.{List, [], refl, sym, subst, cond}
 use Rattle.hs_tables.specs.declared.apps.AppRow.{AppRow}
 use Rattle.hs_actions.specs.State.{ActionsStand}
 use Rattle.hs_actions.specs.declared.state.Actions.{Actions}

@@ -1,4 +1,4 @@
-use Rattle.std.proofs.Common.{◌≡◌, ◌++◌, ◌∷◌, [], List, ℕ, cond, refl, sym, ap, subst, ◌∙◌}
+use Rattle.std.proofs.Common.{◌≡◌, ◌++◌, ◌∷◌, [], List, cond, refl, sym, ap, subst, ◌∙◌}
 use Rattle.commands.specs.Counting.{counts_of}
 use Rattle.hs_monitors.specs.Histories.{Input, HsEntry, Setup, input_of, apps_after, tables_after}
 use Rattle.hs_monitors.specs.Orders.{ordered_at}
