@@ -1,4 +1,5 @@
 pub mod Soonest
+pub mod Keys
 pub mod Changes
 pub mod Nexts
 pub mod Ordering

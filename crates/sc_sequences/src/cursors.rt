@@ -1,6 +1,6 @@
 //! Where each sequence stands, and which comes next.
-ghost use Rattle.std.specs.Prelude.{◌≡◌, ◌+◌, ◌<◌, ℕ, List, Option, None, false, length, slice_set, replicate, IfSome};
-ghost use Rattle.sc_sequences.specs.Cursors.{next_times, time_in, SoonestOf};
+ghost use Rattle.std.specs.Prelude.{◌≡◌, ◌*◌, ◌<◌, ℕ, List, Option, None, false, length, slice_set, replicate, IfSome};
+ghost use Rattle.sc_sequences.specs.Cursors.{next_times, key_of, due_of, lowest_from, lowest_each, AreSmall};
 ghost use Rattle.sc_sequences.specs.Turns.{soonest, place_due};
 
 use crate::kept::KeptCursor;
@@ -9,6 +9,14 @@ use std::marker::Model;
 /// How many sequences there are: two absolute and 64 relative ones. Absolute sequence n stands in place n - 1, relative sequence n in place
 /// n + 1.
 pub(crate) const PLACES: usize = 66;
+
+/// How many places a group has, and how many groups there are.
+const GROUP: usize = 6;
+
+const GROUPS: usize = 11;
+
+/// The key of a sequence that doesn't run: over all others.
+const NO_KEY: u64 = u64::MAX;
 
 /// Where a sequence stands.
 #[derive(Clone, Copy, Debug, PartialEq, Eq)]
@@ -28,16 +36,18 @@ pub(crate) struct Due {
     pub(crate) place: u8,
 }
 
-/// The cursors of all sequences, seen as their list. Which comes next is kept, so that a wakeup in which none is due asks for one time.
+/// The cursors of all sequences, seen as their list. Which comes next is kept, so that a wakeup in which none is due asks for one time. The
+/// lowest key of each group of places is kept too, so that a change of one cursor asks for the times of its group alone.
 #[derive(Clone, Copy, Debug, PartialEq, Eq)]
 pub(crate) struct Cursors {
     all: [KeptCursor; PLACES],
+    lowest: [u64; GROUPS],
     due: Option<Due>,
 }
 
 impl Model for Cursors {
     ghost use Rattle.std.specs.Prelude.{◌≡◌, List, length};
-    ghost use Rattle.sc_sequences.specs.Cursors.{next_times};
+    ghost use Rattle.sc_sequences.specs.Cursors.{next_times, lowest_each, AreSmall};
     ghost use Rattle.sc_sequences.specs.Turns.{soonest};
     ghost use Rattle.sc_sequences.specs.declared.cursors.Cursor.{Cursor};
 
@@ -45,9 +55,14 @@ impl Model for Cursors {
 
     ghost view = { λ c. c.all };
 
-    ghost invariant = { λ c. (length c.all ≡ 66) × (c.due ≡ soonest (next_times c.all)) };
+    ghost invariant = { λ c. (length c.all ≡ 66) × AreSmall (next_times c.all)
+        × (c.lowest ≡ lowest_each (next_times c.all)) × (c.due ≡ soonest (next_times c.all)) };
 
-    ghost inverse = { λ all. record { all = all; due = soonest (next_times all) } };
+    ghost inverse = { λ all. record {
+      all = all;
+      lowest = lowest_each (next_times all);
+      due = soonest (next_times all);
+    } };
 }
 
 impl Cursors {
@@ -57,10 +72,10 @@ impl Cursors {
     pub(crate) fn waiting() -> Cursors
         ensures { result ≡ replicate 66 (record { next = None; at = 0; enabled = false }) }
     {
-        let all = [KeptCursor::waiting(); PLACES];
         Cursors {
-            all,
-            due: soonest(&all),
+            all: [KeptCursor::waiting(); PLACES],
+            lowest: [NO_KEY; GROUPS],
+            due: None,
         }
     }
 
@@ -84,7 +99,9 @@ impl Cursors {
         ensures { self.new ≡ slice_set self.old place cursor }
     {
         self.all[place] = KeptCursor::of(cursor);
-        self.due = soonest(&self.all);
+        let group = place / GROUP;
+        self.lowest[group] = lowest_in(&self.all, group);
+        self.due = soonest(&self.lowest);
     }
 
     /// The place of the command that leaves next, where one is due.
@@ -102,32 +119,55 @@ impl Cursors {
     }
 }
 
-/// The soonest of the times of these cursors, the first where several have it.
-fn soonest(all: &[KeptCursor]) -> Option<Due>
-    requires { length all.now ≡ 66 }
-    ensures { result ≡ soonest (next_times all.now) }
+/// The lowest key of a group of places.
+fn lowest_in(all: &[KeptCursor], group: usize) -> u64
+    requires all { length all.now ≡ 66 }
+    requires group { group < 11 }
+    ensures { result ≡ lowest_from (next_times all.now) (6 * group) 6 }
 {
-    let mut best = None;
-    for place in 0..PLACES as u8 {
-        let kept = all[usize::from(place)];
-        best = sooner(best, kept.next(), place);
+    let mut lowest = NO_KEY;
+    for k in 0..GROUP {
+        let place = GROUP * group + k;
+        lowest = lowest.min(key_of(all[place].next(), place));
     }
-    best
+    lowest
 }
 
-/// The soonest with the time of one place more: where both times are equal the earlier place stays.
-fn sooner(best: Option<Due>, next: Option<u64>, place: u8) -> Option<Due>
-    ensures { (times : List (Option ℕ)) → time_in times place ≡ next → SoonestOf times place best
-        → SoonestOf times (place + 1) result }
+/// The soonest command by the lowest keys of all groups.
+fn soonest(lowest: &[u64]) -> Option<Due>
+    requires { length lowest.now ≡ 11 }
+    ensures { (times : List (Option ℕ)) → length times ≡ 66 → AreSmall times
+        → lowest.now ≡ lowest_each times → result ≡ soonest times }
 {
-    let Some(time) = next else {
-        return best;
-    };
-    let Some(due) = best else {
-        return Some(Due { time, place });
-    };
-    if time < due.time {
-        return Some(Due { time, place });
+    let mut first = NO_KEY;
+    for group in 0..GROUPS {
+        first = first.min(lowest[group]);
     }
-    best
+    due_of(first)
+}
+
+/// A time and its place in one number: the earlier time has the lower one, and of equal times the earlier place.
+#[inline(always)]
+fn key_of(next: Option<u64>, place: usize) -> u64
+    requires place { place < 66 }
+    requires time { IfSome next (λ time. time < 8589934592) }
+    ensures { result ≡ key_of place next }
+{
+    match next {
+        None => NO_KEY,
+        Some(time) => 128 * time + place as u64,
+    }
+}
+
+/// The time and the place of a key.
+fn due_of(key: u64) -> Option<Due>
+    ensures { result ≡ due_of key }
+{
+    if key == NO_KEY {
+        return None;
+    }
+    Some(Due {
+        time: key / 128,
+        place: (key % 128) as u8,
+    })
 }

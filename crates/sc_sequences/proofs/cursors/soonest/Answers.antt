@@ -1,20 +1,17 @@
-use Rattle.std.proofs.Common.{◌≡◌, ℕ, None, ap, sym, ◌∙◌, arith}
-use Rattle.std.proofs.lemmas.List.{length-map, get_or-map}
-use Rattle.sc_sequences.specs.Cursors.{next_times, time_in}
-use Rattle.sc_sequences.specs.declared.cursors.Cursor.{Cursor}
-use Rattle.sc_sequences.proofs.Soonest.{soonest_is}
+use Rattle.std.proofs.Common.{◌≡◌, ◌*◌, sym, ap, ◌∙◌, arith}
+use Rattle.sc_sequences.specs.Cursors.{due_of, lowest_from}
+use Rattle.sc_sequences.proofs.Keys.{lowest_none, group_more, due_is_soonest}
 use Rattle.sc_sequences.proofs.cursors.soonest.Goals as goal
 
-pub loop-place-preserved : goal.loop-place-preserved
-loop-place-preserved c =
-    let all = c.args.all.now in
-    let at : c.from.result ≡ c.loop-place.place = c.from.ensures in
-    c.sooner-best.ensures (next_times all)
-    (ap (λ (k : ℕ). time_in (next_times all) k) (sym at) ∙ get_or-map (λ (k : Cursor). k.next) all c.from.result c.index-all-from.result None (omega arith) ∙ ap (λ (k : Cursor). k.next) (sym c.index-all-from.is) ∙ sym c.next.ensures.next)
-    c.loop-place.invariant
+pub loop-group-init : goal.loop-group-init
+loop-group-init c = λ times are. sym (lowest_none times 0)
+
+pub loop-group-preserved : goal.loop-group-preserved
+loop-group-preserved c = λ times are.
+    c.min-first.ensures ∙ group_more times c.args.lowest.now c.loop-group.group c.loop-group.first _ (omega arith) are (c.loop-group.invariant times are)
 
 pub returns : goal.returns
-returns c =
-    let all = c.args.all.now in
-    let long = length-map all (λ (k : Cursor). k.next) in
-    soonest_is (next_times all) c.loop-place.place c.loop-place.best (omega arith) c.loop-place.invariant
+returns c = λ times whole small are.
+    c.due_of.ensures
+    ∙ ap due_of (c.loop-group.invariant times are ∙ ap (lowest_from times 0) (let all : 6 * c.loop-group.group ≡ 66 = omega arith in all))
+    ∙ due_is_soonest times whole small

@@ -1,6 +1,7 @@
-use Rattle.sc_sequences.specs.Cursors.{next_times, SoonestOf}
+use Rattle.std.proofs.Common.{◌≡◌, ◌*◌, ℕ, List, Option}
+use Rattle.sc_sequences.specs.Cursors.{lowest_from, lowest_each}
 use Rattle.sc_sequences.proofs.cursors.soonest.Given as goal
 
--- the soonest of the times so far
-abbrev pub invariant-loop-place : goal.invariant-loop-place
-invariant-loop-place l = SoonestOf (next_times l.all) l.place l.best
+-- the lowest key of the groups so far
+abbrev pub invariant-loop-group : goal.invariant-loop-group
+invariant-loop-group l = (times : List (Option ℕ)) → l.lowest ≡ lowest_each times → l.first ≡ lowest_from times 0 (6 * l.group)
