@@ -1,5 +1,6 @@
 //! What watchpoints make of packets.
-ghost use Rattle.std.specs.Prelude.{◌≡◌, ◌≤◌, ◌+◌, ◌++◌, List, ℕ, length, true};
+ghost use Rattle.std.specs.Prelude.{◌≡◌, ◌≤◌, ◌+◌, ◌++◌, List, ℕ, length, true, nat_le, slice_index, if◌then◌else◌, Some, None};
+ghost use Rattle.packet_forms.specs.Numbers.{be16_at, be32_at};
 ghost use Rattle.lc_watch.specs.Watchpoints.{is_used};
 ghost use Rattle.lc_watch.specs.Housekeeping.{code_of, codes_of};
 ghost use Rattle.lc_watch.specs.Outcomes.{size_of, value_at, compares, holds, reading, outcome_of, OutcomesStand};
@@ -70,41 +71,69 @@ fn last_outcome(row: &WatchRow, telemetry: &[Packet], before: Outcome) -> Outcom
 fn reading(row: &WatchRow, bytes: &[u8]) -> Outcome
     ensures { result ≡ reading row.now bytes.now }
 {
-    let at = row.offset as usize;
-    if at + size_of(row.kind) > bytes.len() {
+    let Some(value) = value_in(row.kind, bytes, row.offset) else {
         return Outcome::Outside;
-    }
-    let value = value_at(row.kind, bytes, at) & row.mask;
-    if holds(row.operator, value, row.limit) {
+    };
+    let compared = value & row.mask;
+    if holds(row.operator, compared, row.limit) {
         Outcome::Tripped
     } else {
         Outcome::Clear
     }
 }
 
-/// How many bytes a value of a type has.
-fn size_of(kind: u16) -> usize
-    ensures size { result ≡ size_of kind }
-    ensures small { result ≤ 4 }
+/// The number that the bytes of a value are; none where they don't all lie in the packet.
+#[inline(always)]
+fn value_in(kind: u16, bytes: &[u8], at: u16) -> Option<u32>
+    ensures { result ≡ (if nat_le (at + size_of kind) (length bytes.now)
+        then Some (value_at kind bytes.now at) else None) }
 {
     if kind == 1 {
-        return 1;
-    }
-    if kind == 2 { 2 } else { 4 }
-}
-
-/// The number that the bytes of a value are.
-fn value_at(kind: u16, bytes: &[u8], at: usize) -> u32
-    requires { at + size_of kind ≤ length bytes.now }
-    ensures { result ≡ value_at kind bytes.now at }
-{
-    if kind == 1 {
-        return u32::from(bytes[at]);
+        return byte_in(bytes, at);
     }
     if kind == 2 {
-        return u32::from(be16(bytes, at));
+        return half_in(bytes, at);
     }
-    be32(bytes, at)
+    word_in(bytes, at)
+}
+
+/// The byte in a place of a packet.
+#[inline(always)]
+fn byte_in(bytes: &[u8], at: u16) -> Option<u32>
+    ensures { result ≡ (if nat_le (at + 1) (length bytes.now) then Some (slice_index bytes.now at)
+        else None) }
+{
+    let from = at as usize;
+    if from + 1 > bytes.len() {
+        return None;
+    }
+    Some(u32::from(bytes[from]))
+}
+
+/// The number of two bytes from a place of a packet on.
+#[inline(always)]
+fn half_in(bytes: &[u8], at: u16) -> Option<u32>
+    ensures { result ≡ (if nat_le (at + 2) (length bytes.now) then Some (be16_at bytes.now at)
+        else None) }
+{
+    let from = at as usize;
+    if from + 2 > bytes.len() {
+        return None;
+    }
+    Some(u32::from(be16(bytes, from)))
+}
+
+/// The number of four bytes from a place of a packet on.
+#[inline(always)]
+fn word_in(bytes: &[u8], at: u16) -> Option<u32>
+    ensures { result ≡ (if nat_le (at + 4) (length bytes.now) then Some (be32_at bytes.now at)
+        else None) }
+{
+    let from = at as usize;
+    if from + 4 > bytes.len() {
+        return None;
+    }
+    Some(be32(bytes, from))
 }
 
 /// Whether a value stands in this relation to a limit.
