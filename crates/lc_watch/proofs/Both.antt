@@ -1,5 +1,5 @@
 -- Tests that both hold.
-use Rattle.std.proofs.Common.{◌≡◌, Bool, true, false, not, ◌&&◌, refl}
+use Rattle.std.proofs.Common.{◌≡◌, Bool, true, false, not, ◌&&◌, ◌||◌, refl}
 
 pub and_yes : (t : Bool) → (t && true) ≡ t
 and_yes true = refl
@@ -12,6 +12,10 @@ and_no false = refl
 pub both_true : (a b : Bool) → (a && b) ≡ true → (a ≡ true) × (b ≡ true)
 both_true true b is = (refl, is)
 both_true false b is = cc
+
+pub neither : (a b : Bool) → (a || b) ≡ false → (a ≡ false) × (b ≡ false)
+neither true b is = cc
+neither false b is = (refl, is)
 
 -- what a test says that is turned round
 pub off_by_not : (b : Bool) → not b ≡ true → b ≡ false

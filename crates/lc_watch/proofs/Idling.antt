@@ -99,6 +99,7 @@ module _ (setup : Setup) (history : List Input) (input : Input) (unused : uses_a
         fired =
             stood.duty.fired
             ∙ sym (fired_more setup history input ∙ ap (λ (places : List ℕ). (length (fired_of setup history) + length places) % 65536) none_fired ∙ (let same : (length (fired_of setup history) + 0) % 65536 ≡ length (fired_of setup history) % 65536 = omega arith in same));
+        calm = stood.duty.calm;
       };
       uses = stood.uses;
     }

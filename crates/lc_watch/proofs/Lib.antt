@@ -8,6 +8,7 @@ pub mod Taking
 pub mod Rows
 pub mod Following
 pub mod Serving
+pub mod Calming
 pub mod Showing
 pub mod Idling
 pub mod Stepping

@@ -1,5 +1,5 @@
 -- When an actionpoint fires, by the list of its evaluations. True is an evaluation that fails.
-use Rattle.std.specs.Prelude.{◌≡◌, ℕ, ◌-◌, min, Bool, false, not, ◌&&◌, nat_le, if◌then◌else◌, List, [], ◌∷◌, ◌++◌, length, drop, Option, Some, None}
+use Rattle.std.specs.Prelude.{◌≡◌, ◌<◌, ℕ, ◌-◌, min, Bool, false, not, ◌&&◌, nat_le, if◌then◌else◌, List, [], ◌∷◌, ◌++◌, length, drop, Option, Some, None}
 use Rattle.std.specs.List.{after_last, list_all, flat_map}
 use Rattle.histories.specs.Words.{last_or, decided}
 use Rattle.lc_watch.specs.declared.points.Point.{Point}
@@ -52,3 +52,7 @@ failing_of n evaluations = min n (failing_since evaluations)
 pub record PointStands (start : Bool) (n : ℕ) (evaluations settings : List Bool) (p : Point) : Type 0 where
   pub active : p.active ≡ last_or start settings
   pub failing : p.failing ≡ failing_of n evaluations
+
+-- An evaluation, where there is one, leaves a point as it is: it passes, and no failure in a row is kept.
+abbrev pub IsCalm : Option Bool → ℕ → Point → Type 0
+IsCalm evaluation n p = (fails : Bool) → evaluation ≡ Some fails → (fails ≡ false) × (0 < n) × (p.failing ≡ 0)

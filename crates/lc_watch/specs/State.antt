@@ -1,9 +1,9 @@
 -- When a state of LC stands for its tables and a history, and when it has nothing to do.
-use Rattle.std.specs.Prelude.{◌≡◌, ◌<◌, ℕ, ◌==◌, Bool, not, ◌&&◌, List, [], ◌∷◌, ◌++◌, length, false, slice_index_or}
+use Rattle.std.specs.Prelude.{◌≡◌, ◌<◌, ℕ, ◌==◌, Bool, not, ◌&&◌, List, [], ◌∷◌, ◌++◌, length, true, false, slice_index_or}
 use Rattle.commands.specs.Counting.{counts_of}
 use Rattle.lc_watch.specs.Outcomes.{outcome_at, kept_at, OutcomesStand}
-use Rattle.lc_watch.specs.Actionpoints.{act_at, uses_any}
-use Rattle.lc_watch.specs.Failing.{PointStands}
+use Rattle.lc_watch.specs.Actionpoints.{act_at, evaluation_of, uses_any}
+use Rattle.lc_watch.specs.Failing.{PointStands, IsCalm}
 use Rattle.lc_watch.specs.Histories.{Input, Setup, setup_of, ordered_at, switches_in, telemetry_of, evaluations_of}
 use Rattle.lc_watch.specs.Firing.{starts_active, settings_of, fired_count}
 use Rattle.lc_watch.specs.Step.{lc_heard}
@@ -25,10 +25,15 @@ pub record PointsStand (setup : Setup) (history : List Input) (orders : List Ins
   pub each : (k : ℕ) → k < 16
       → PointStands (starts_active (act_at setup.actions k)) (act_at setup.actions k).failures (evaluations_of setup k history) (settings_of setup k history ++ switches_in k orders) (point_at points k)
 
+-- The evaluation of each actionpoint by these outcomes leaves what is kept of it as it is.
+abbrev pub AreCalm : (ℕ → Outcome) → List ActRow → List Point → Type 0
+AreCalm outcome actions points = (k : ℕ) → k < 16 → IsCalm (evaluation_of outcome (act_at actions k)) (act_at actions k).failures (point_at points k)
+
 pub record DutyStands (setup : Setup) (history : List Input) (orders : List Instruction) (duty : Duty) : Type 0 where
   pub outcomes : OutcomesStand setup.watch (telemetry_of history) duty.outcomes
   pub points : PointsStand setup history orders duty.points
   pub fired : duty.fired ≡ fired_count setup history
+  pub calm : duty.calm ≡ true → AreCalm (kept_at duty.outcomes) setup.actions duty.points
 
 -- What is kept as a wakeup's actionpoints are to be evaluated: of the watchpoints what its telemetry made of them, of the actionpoints
 -- what the history and the wakeup's commands did.
@@ -42,6 +47,7 @@ pub record HasTaken (setup : Setup) (history : List Input) (input : Input) (duty
   pub outcomes : OutcomesStand setup.watch (telemetry_of (history ++ input ∷ [])) duty.outcomes
   pub points : PointsStand setup history (ordered_at setup input) duty.points
   pub fired : duty.fired ≡ fired_count setup history
+  pub calm : duty.calm ≡ true → AreCalm (kept_at duty.outcomes) setup.actions duty.points
 
 -- The state stands for the tables and a history.
 pub record StandsFor (setup : Setup) (history : List Input) (lc : Lc) : Type 0 where

@@ -1,16 +1,16 @@
 //! What commands of LC change beside its counts, and what its telemetry leaves.
-ghost use Rattle.std.specs.Prelude.{◌≡◌, ◌≤◌, ◌+◌, ◌%◌, ◌++◌, ℕ, List, [], ◌∷◌, length};
+ghost use Rattle.std.specs.Prelude.{◌≡◌, ◌≤◌, ◌+◌, ◌%◌, ◌++◌, ℕ, true, List, [], ◌∷◌, length};
 ghost use Rattle.std.specs.List.{AllPass, flat_map};
 ghost use Rattle.bus_pipes.specs.Held.{adding};
 ghost use Rattle.bus_pipes.specs.Counted.{is_item_counted};
 ghost use Rattle.lc_watch.specs.declared.watchpoints.WatchRow.{WatchRow};
-ghost use Rattle.lc_watch.specs.Outcomes.{outcome_at, OutcomesStand};
+ghost use Rattle.lc_watch.specs.Outcomes.{outcome_at, kept_at, OutcomesStand};
 ghost use Rattle.lc_watch.specs.Instructions.{NamesPoint};
 ghost use Rattle.lc_watch.specs.Histories.{Input, Setup, setup_of};
 ghost use Rattle.lc_watch.specs.Firing.{is_active, fired_at};
 ghost use Rattle.lc_watch.specs.Housekeeping.{results_of, active_bits};
 ghost use Rattle.lc_watch.specs.Answers.{point_items};
-ghost use Rattle.lc_watch.specs.State.{PointsStand, DutyStands, HasTaken, AwaitsEvaluation};
+ghost use Rattle.lc_watch.specs.State.{PointsStand, DutyStands, HasTaken, AwaitsEvaluation, AreCalm};
 ghost use Rattle.lc_watch.specs.declared.instructions.Instruction.{Instruction};
 
 use crate::actionpoints::{ACTIONPOINTS, Adt};
@@ -22,12 +22,14 @@ use bus_pipes::Outbox;
 use histories::bits_of;
 use packet_forms::Packet;
 
-/// What LC has to do beside answering: the outcomes of the watchpoints, what is kept of the actionpoints, and the firings modulo 65,536.
+/// What LC has to do beside answering: the outcomes of the watchpoints, what is kept of the actionpoints, the firings modulo 65,536, and
+/// whether all actionpoints are known to be calm: their evaluation by these outcomes changes nothing.
 #[derive(Clone, Copy, Debug, PartialEq, Eq)]
 pub(crate) struct Duty {
     pub(crate) outcomes: [Outcome; WATCHPOINTS],
     pub(crate) points: [Point; ACTIONPOINTS],
     pub(crate) fired: u16,
+    pub(crate) calm: bool,
 }
 
 impl Duty {
@@ -39,6 +41,7 @@ impl Duty {
             outcomes: [Outcome::Unseen; WATCHPOINTS],
             points: begin_all(actions),
             fired: 0,
+            calm: false,
         }
     }
 
@@ -54,6 +57,7 @@ impl Duty {
             Instruction::Switch { number, on } => {
                 let place = *number as usize - 1;
                 self.points[place] = self.points[place].set(*on);
+                self.calm = false;
             }
         }
     }
@@ -65,12 +69,16 @@ impl Duty {
             → OutcomesStand watch.now (before ++ telemetry.now) self.new.outcomes }
         ensures points { self.new.points ≡ self.old.points }
         ensures fired { self.new.fired ≡ self.old.fired }
+        ensures calm { self.new.calm ≡ true → (self.old.calm ≡ true)
+            × (self.new.outcomes ≡ self.old.outcomes) }
         ensures whole { length watch.now ≡ 32 }
     {
-        take_telemetry(&mut self.outcomes, watch.rows(), telemetry);
+        let changed = take_telemetry(&mut self.outcomes, watch.rows(), telemetry);
+        self.calm = self.calm & !changed;
     }
 
-    /// Evaluates the actionpoints in table order, and puts what those give that fire behind the items.
+    /// Evaluates the actionpoints in table order, and puts what those give that fire behind the items. Where all are calm there is nothing
+    /// to do.
     pub(crate) fn fire(&mut self, actions: &Adt, now: u32, out: &mut Outbox)
         requires room { length out.old.items + 32 ≤ out.old.room }
         ensures stands { (watch : List WatchRow) (history : List Input) (input : Input)
@@ -85,7 +93,10 @@ impl Duty {
         ensures few { length out.new.items ≤ length out.old.items + 32 }
         ensures room { out.new.room ≡ out.old.room }
     {
-        serve_all(
+        if self.calm {
+            return;
+        }
+        self.calm = serve_all(
             &mut self.points,
             actions,
             &self.outcomes,
@@ -130,7 +141,7 @@ fn begin_all(actions: &Adt) -> [Point; ACTIONPOINTS]
     points
 }
 
-/// Evaluates all actionpoints.
+/// Evaluates all actionpoints. Answers whether all are calm.
 fn serve_all(
     points: &mut [Point; ACTIONPOINTS],
     actions: &Adt,
@@ -138,7 +149,7 @@ fn serve_all(
     fired: &mut u16,
     now: u32,
     out: &mut Outbox,
-)
+) -> bool
     requires room { length out.old.items + 32 ≤ out.old.room }
     ensures points { (watch : List WatchRow) (history : List Input) (input : Input)
         → AwaitsEvaluation (setup_of watch actions.now) history input outcomes.now points.old
@@ -152,12 +163,17 @@ fn serve_all(
         → fired.old ≡ count % 65536
         → fired.new ≡ (count + length (fired_at
         (setup_of watch actions.now) history input)) % 65536 }
+    ensures calm { result ≡ true → AreCalm (kept_at outcomes.now) actions.now points.new }
     ensures counted { AllPass is_item_counted out.old.items
         → AllPass is_item_counted out.new.items }
     ensures few { length out.new.items ≤ length out.old.items + 32 }
     ensures room { out.new.room ≡ out.old.room }
 {
+    let mut calm = true;
     for place in 0..ACTIONPOINTS {
-        points[place] = serve(points[place], actions.row(place), outcomes, fired, now, out);
+        let served = serve(points[place], actions.row(place), outcomes, fired, now, out);
+        points[place] = served.point;
+        calm = calm & served.calm;
     }
+    calm
 }

@@ -1,5 +1,5 @@
 //! What watchpoints make of packets.
-ghost use Rattle.std.specs.Prelude.{◌≡◌, ◌≤◌, ◌+◌, ◌++◌, List, ℕ, length, true, nat_le, slice_index, if◌then◌else◌, Some, None};
+ghost use Rattle.std.specs.Prelude.{◌≡◌, ◌≤◌, ◌+◌, ◌++◌, List, ℕ, length, true, false, nat_le, slice_index, if◌then◌else◌, Some, None};
 ghost use Rattle.packet_forms.specs.Numbers.{be16_at, be32_at};
 ghost use Rattle.lc_watch.specs.Watchpoints.{is_used};
 ghost use Rattle.lc_watch.specs.Housekeeping.{code_of, codes_of};
@@ -21,21 +21,34 @@ pub(crate) enum Outcome {
     Outside,
 }
 
-/// Takes these packets in order: of each watchpoint the last of its id counts.
+/// Takes these packets in order: of each watchpoint the last of its id counts. Answers whether an outcome isn't what it was.
 pub(crate) fn take_telemetry(
     outcomes: &mut [Outcome; WATCHPOINTS],
     rows: &[WatchRow; WATCHPOINTS],
     telemetry: &[Packet],
-)
-    ensures { (before : List (List ℕ)) → OutcomesStand rows.now before outcomes.old
+) -> bool
+    ensures outcomes { (before : List (List ℕ)) → OutcomesStand rows.now before outcomes.old
         → OutcomesStand rows.now (before ++ telemetry.now) outcomes.new }
+    ensures unchanged { result ≡ false → outcomes.new ≡ outcomes.old }
 {
+    let mut changed = false;
     if telemetry.is_empty() {
-        return;
+        return changed;
     }
     for place in 0..WATCHPOINTS {
-        outcomes[place] = outcome_after(&rows[place], telemetry, outcomes[place]);
+        let next = outcome_after(&rows[place], telemetry, outcomes[place]);
+        changed = changed | differs(next, outcomes[place]);
+        outcomes[place] = next;
     }
+    changed
+}
+
+/// Whether two outcomes aren't the same.
+#[inline(always)]
+fn differs(one: Outcome, other: Outcome) -> bool
+    ensures { result ≡ false → one ≡ other }
+{
+    one != other
 }
 
 /// The outcome of a watchpoint after these packets.

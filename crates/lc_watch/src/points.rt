@@ -1,11 +1,11 @@
 //! What is kept of actionpoints, and their firings.
-ghost use Rattle.std.specs.Prelude.{◌≡◌, ◌<◌, ◌≤◌, ◌+◌, ◌%◌, ◌++◌, ℕ, Bool, if◌then◌else◌, List, [], ◌∷◌, length, option_to_list, Some};
+ghost use Rattle.std.specs.Prelude.{◌≡◌, ◌<◌, ◌≤◌, ◌+◌, ◌%◌, ◌++◌, ℕ, Bool, true, if◌then◌else◌, List, [], ◌∷◌, length, option_to_list, Some};
 ghost use Rattle.std.specs.List.{AllPass};
 ghost use Rattle.bus_pipes.specs.Held.{adding};
 ghost use Rattle.bus_pipes.specs.Counted.{is_item_counted};
 ghost use Rattle.lc_watch.specs.Outcomes.{kept_at};
 ghost use Rattle.lc_watch.specs.Actionpoints.{AbleWhereUsed, evaluation_of};
-ghost use Rattle.lc_watch.specs.Failing.{fires_by, by_firing, PointStands};
+ghost use Rattle.lc_watch.specs.Failing.{fires_by, by_firing, PointStands, IsCalm};
 ghost use Rattle.lc_watch.specs.Firing.{starts_active};
 ghost use Rattle.lc_watch.specs.Answers.{firing_items};
 
@@ -23,11 +23,12 @@ pub(crate) struct Point {
     pub(crate) failing: u16,
 }
 
-/// What an evaluation leaves, and whether the actionpoint fires at it.
+/// What an evaluation leaves, whether the actionpoint fires at it, and whether it is calm: such an evaluation once more changes nothing.
 #[derive(Clone, Copy, Debug, PartialEq, Eq)]
 pub(crate) struct Judged {
     pub(crate) point: Point,
     pub(crate) fires: bool,
+    pub(crate) calm: bool,
 }
 
 impl Point {
@@ -70,11 +71,13 @@ impl Point {
         ensures fires { (start : Bool) (evaluations settings : List Bool)
             → PointStands start failures evaluations settings self
             → result.fires ≡ fires_by start failures evaluations settings evaluation }
+        ensures calm { result.calm ≡ true → IsCalm evaluation failures result.point }
     {
         let Some(fails) = evaluation else {
             return Judged {
                 point: self,
                 fires: false,
+                calm: true,
             };
         };
         if !fails {
@@ -84,6 +87,7 @@ impl Point {
                     failing: 0,
                 },
                 fires: false,
+                calm: true,
             };
         }
         if self.failing < failures - 1 {
@@ -93,6 +97,7 @@ impl Point {
                     failing: self.failing + 1,
                 },
                 fires: false,
+                calm: false,
             };
         }
         Judged {
@@ -101,6 +106,7 @@ impl Point {
                 failing: failures,
             },
             fires: self.active,
+            calm: false,
         }
     }
 }
@@ -113,7 +119,7 @@ pub(crate) fn serve(
     fired: &mut u16,
     now: u32,
     out: &mut Outbox,
-) -> Point
+) -> Judged
     requires able { AbleWhereUsed row.now }
     requires room { length out.old.items + 2 ≤ out.old.room }
     ensures stands { (start : Bool) (evaluations settings : List Bool)
@@ -121,7 +127,7 @@ pub(crate) fn serve(
         → PointStands start row.now.failures (evaluations
         ++ option_to_list (evaluation_of (kept_at outcomes.now) row.now)) (settings
         ++ by_firing (fires_by start row.now.failures evaluations settings
-        (evaluation_of (kept_at outcomes.now) row.now))) result }
+        (evaluation_of (kept_at outcomes.now) row.now))) result.point }
     ensures items { (start : Bool) (evaluations settings : List Bool)
         → PointStands start row.now.failures evaluations settings point
         → out.new ≡ adding out.old (if fires_by start row.now.failures evaluations settings
@@ -130,6 +136,8 @@ pub(crate) fn serve(
         → PointStands start row.now.failures evaluations settings point → fired.old ≡ count % 65536
         → fired.new ≡ (count + (if fires_by start row.now.failures evaluations settings
         (evaluation_of (kept_at outcomes.now) row.now) then 1 else 0)) % 65536 }
+    ensures calm { result.calm ≡ true → IsCalm (evaluation_of (kept_at outcomes.now) row.now)
+        row.now.failures result.point }
     ensures counted { AllPass is_item_counted out.old.items
         → AllPass is_item_counted out.new.items }
     ensures few { length out.new.items ≤ length out.old.items + 2 }
@@ -137,9 +145,9 @@ pub(crate) fn serve(
 {
     let judged = point.judge(row.failures, evaluation(row, outcomes));
     if !judged.fires {
-        return judged.point;
+        return judged;
     }
     *fired = fired.wrapping_add(1);
     put_firing(row.rts, now, out);
-    judged.point
+    judged
 }

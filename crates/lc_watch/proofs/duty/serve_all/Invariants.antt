@@ -1,4 +1,4 @@
-use Rattle.std.proofs.Common.{◌≡◌, ◌≤◌, ◌+◌, ◌*◌, ◌%◌, ◌++◌, ◌∷◌, [], ℕ, List, false, length}
+use Rattle.std.proofs.Common.{◌≡◌, ◌≤◌, ◌+◌, ◌*◌, ◌%◌, ◌++◌, ◌∷◌, [], ℕ, List, true, false, length}
 use Rattle.std.specs.List.{AllPass, flat_map}
 use Rattle.bus_pipes.specs.Held.{adding}
 use Rattle.bus_pipes.specs.Counted.{is_item_counted}
@@ -7,7 +7,8 @@ use Rattle.lc_watch.specs.Answers.{point_items}
 use Rattle.lc_watch.specs.State.{AwaitsEvaluation}
 use Rattle.lc_watch.specs.declared.watchpoints.WatchRow.{WatchRow}
 use Rattle.lc_watch.proofs.Halves.{Half}
-use Rattle.lc_watch.proofs.Serving.{IsPoint, fired_below}
+use Rattle.lc_watch.proofs.Serving.{IsAny, IsPoint, fired_below}
+use Rattle.lc_watch.proofs.Calming.{IsCalmAt}
 use Rattle.lc_watch.proofs.duty.serve_all.Given as goal
 
 -- the actionpoints so far are one wakeup further, and what they gave stands behind the items and is counted
@@ -16,6 +17,7 @@ invariant-loop-place l = record {
   long : length l.points ≡ 16;
   few : length l.out.items ≤ length l.fn.out.items + 2 * l.place;
   room : l.out.room ≡ l.fn.out.room;
+  calm : l.calm ≡ true → Half IsAny (IsCalmAt l.outcomes l.actions) 16 l.place (record { active = false; failing = 0 }) l.points;
   counted : AllPass is_item_counted l.fn.out.items → AllPass is_item_counted l.out.items;
   points : (watch : List WatchRow) (history : List Input) (input : Input) → AwaitsEvaluation (setup_of watch l.actions) history input l.outcomes l.fn.points
       → Half (IsPoint (setup_of watch l.actions) history (ordered_at (setup_of watch l.actions) input)) (IsPoint (setup_of watch l.actions) (history ++ input ∷ []) []) 16 l.place (record { active = false; failing = 0 }) l.points;

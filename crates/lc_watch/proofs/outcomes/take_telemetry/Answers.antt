@@ -1,20 +1,22 @@
-use Rattle.std.proofs.Common.{◌<◌, ◌++◌, ℕ, List, length, sym, ap, subst, ◌∙◌, arith, append-nil}
-use Rattle.std.proofs.lemmas.List.{length-set}
+use Rattle.std.proofs.Common.{◌<◌, ◌++◌, ℕ, List, length, set, refl, sym, ap, subst, ◌∙◌, arith, append-nil}
+use Rattle.std.proofs.lemmas.List.{length-set, set-get_or}
 use Rattle.commands.proofs.Heard.{no_packets}
 use Rattle.lc_watch.specs.Outcomes.{OutcomesStand}
 use Rattle.lc_watch.specs.declared.outcomes.Outcome.TheVariants.{Unseen}
+use Rattle.lc_watch.proofs.Both.{neither}
 use Rattle.lc_watch.proofs.Halves.{half_none, half_more, half_whole}
 use Rattle.lc_watch.proofs.Taking.{IsOutcome}
 use Rattle.lc_watch.proofs.outcomes.take_telemetry.Goals as goal
 
-pub returns-then-is_empty : goal.returns-then-is_empty
-returns-then-is_empty c = λ before stood.
+pub returns-then-is_empty-clause-outcomes : goal.returns-then-is_empty-clause-outcomes
+returns-then-is_empty-clause-outcomes c = λ before stood.
     let none = no_packets c.args.telemetry.now (sym c.is_empty.ensures ∙ c.if-is_empty.true) in
     subst (λ (seen : List (List ℕ)). OutcomesStand c.args.rows.now seen c.args.outcomes.now) (sym (ap (λ (more : List (List ℕ)). before ++ more) none ∙ append-nil before)) stood
 
 pub loop-place-init : goal.loop-place-init
 loop-place-init c = record {
   long = c.told-outcomes;
+  unchanged = λ same. refl;
   half = λ before stood. half_none (IsOutcome c.args.rows.now before) (IsOutcome c.args.rows.now (before ++ c.args.telemetry.now)) 32 Unseen c.args.outcomes.now stood.each;
 }
 
@@ -25,15 +27,18 @@ loop-place-preserved c =
     let watch = c.args.rows.now in
     let within : place < length c.loop-place.outcomes = omega (arith, held.long) in
     record {
-      long = length-set c.loop-place.outcomes place c.outcome_after.result ∙ held.long;
+      long = length-set c.loop-place.outcomes place c.outcome_after-next.result ∙ held.long;
+      unchanged = λ same.
+          let none = neither c.loop-place.changed c.differs-changed.result same in
+          ap (set c.loop-place.outcomes place) (c.differs-changed.ensures none.1) ∙ set-get_or c.loop-place.outcomes place Unseen ∙ held.unchanged none.0;
       half = λ before stood.
           let half = held.half before stood in
-          half_more (IsOutcome watch before) (IsOutcome watch (before ++ c.args.telemetry.now)) 32 Unseen c.loop-place.outcomes place c.outcome_after.result within
-          (c.outcome_after.ensures before (half.left place (omega arith) c.loop-place-test.true)) half;
+          half_more (IsOutcome watch before) (IsOutcome watch (before ++ c.args.telemetry.now)) 32 Unseen c.loop-place.outcomes place c.outcome_after-next.result within
+          (c.outcome_after-next.ensures before (half.left place (omega arith) c.loop-place-test.true)) half;
     }
 
-pub returns : goal.returns
-returns c = λ before stood. record {
+pub returns-clause-outcomes : goal.returns-clause-outcomes
+returns-clause-outcomes c = λ before stood. record {
   long = c.loop-place.invariant.long;
   each = half_whole (IsOutcome c.args.rows.now before) (IsOutcome c.args.rows.now (before ++ c.args.telemetry.now)) 32 Unseen c.loop-place.outcomes c.loop-place.place c.loop-place-test.false (c.loop-place.invariant.half before stood);
 }

@@ -1,4 +1,4 @@
-use Rattle.std.proofs.Common.{◌≡◌, ℕ, List, length}
+use Rattle.std.proofs.Common.{◌≡◌, ℕ, false, List, length}
 use Rattle.lc_watch.specs.Outcomes.{OutcomesStand}
 use Rattle.lc_watch.proofs.Taking.{HalfTaken}
 use Rattle.lc_watch.proofs.outcomes.take_telemetry.Given as goal
@@ -7,5 +7,6 @@ use Rattle.lc_watch.proofs.outcomes.take_telemetry.Given as goal
 abbrev pub invariant-loop-place : goal.invariant-loop-place
 invariant-loop-place l = record {
   long : length l.outcomes ≡ 32;
+  unchanged : l.changed ≡ false → l.outcomes ≡ l.fn.outcomes;
   half : (before : List (List ℕ)) → OutcomesStand l.rows before l.fn.outcomes → HalfTaken l.rows before l.telemetry l.place l.outcomes;
 }

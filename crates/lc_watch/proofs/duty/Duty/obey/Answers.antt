@@ -4,7 +4,7 @@ use Rattle.lc_watch.proofs.duty.Duty.obey.Goals as goal
 
 pub returns-in-Plain : goal.returns-in-Plain
 returns-in-Plain c = λ setup history orders stood.
-    rw c.in-Plain.is (record { outcomes = stood.outcomes; points = plain_ordered setup history orders c.args.self.now.points stood.points; fired = stood.fired })
+    rw c.in-Plain.is (record { outcomes = stood.outcomes; points = plain_ordered setup history orders c.args.self.now.points stood.points; fired = stood.fired; calm = stood.calm })
 
 pub returns-in-Switch : goal.returns-in-Switch
 returns-in-Switch c = λ setup history orders stood.
@@ -16,4 +16,5 @@ returns-in-Switch c = λ setup history orders stood.
       outcomes = stood.outcomes;
       points = one_ordered setup history orders c.args.self.now.points number (number - 1) c.in-Switch.on c.set.result (omega arith) (omega arith) c.set.ensures stood.points;
       fired = stood.fired;
+      calm = λ is. cc;
     })

@@ -11,4 +11,5 @@ returns c = λ watch. record {
   outcomes = subst (λ (telemetry : List (List ℕ)). OutcomesStand watch telemetry (replicate 32 Unseen)) (sym telemetry_none) (none_stand watch);
   points = c.begin_all.ensures watch;
   fired = sym (fired_none (setup_of watch c.args.actions.now));
+  calm = λ is. cc;
 }

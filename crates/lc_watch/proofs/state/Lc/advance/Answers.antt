@@ -24,7 +24,7 @@ taken c history stood =
     let setup : Setup = setup_of c.args.watch.now c.args.actions.now in
     let input : Input = input_of c.args.now c.args.commands.now c.args.telemetry.now in
     let at = c.handle_all.ensures.stands (turn_of setup history input) (refl, refl) stood.duty in
-    has_taken setup history input c.handle_all.new.state c.take.new.self c.take.ensures.whole at (c.take.ensures.outcomes (telemetry_of history) at.outcomes) c.take.ensures.points c.take.ensures.fired
+    has_taken setup history input c.handle_all.new.state c.take.new.self c.take.ensures.whole at (c.take.ensures.outcomes (telemetry_of history) at.outcomes) c.take.ensures.points c.take.ensures.fired c.take.ensures.calm
 
 pub returns-clause-stands : goal.returns-clause-stands
 unfolding Stands
