@@ -1,9 +1,9 @@
 //! Where each sequence stands, and which comes next.
 ghost use Rattle.std.specs.Prelude.{◌≡◌, ◌*◌, ◌<◌, ℕ, List, Option, None, false, length, slice_set, replicate, IfSome};
-ghost use Rattle.sc_sequences.specs.Cursors.{next_times, key_of, due_of, lowest_from, lowest_each, AreSmall};
+ghost use Rattle.sc_sequences.specs.Cursors.{next_times, due_of, lowest_from, lowest_each, AreSmall};
 ghost use Rattle.sc_sequences.specs.Turns.{soonest, place_due};
 
-use crate::kept::KeptCursor;
+use crate::kept::{KEYS_A_SECOND, KeptCursor, NO_KEY};
 use std::marker::Model;
 
 /// How many sequences there are: two absolute and 64 relative ones. Absolute sequence n stands in place n - 1, relative sequence n in place
@@ -14,9 +14,6 @@ pub(crate) const PLACES: usize = 66;
 const GROUP: usize = 6;
 
 const GROUPS: usize = 11;
-
-/// The key of a sequence that doesn't run: over all others.
-const NO_KEY: u64 = u64::MAX;
 
 /// Where a sequence stands.
 #[derive(Clone, Copy, Debug, PartialEq, Eq)]
@@ -128,7 +125,7 @@ fn lowest_in(all: &[KeptCursor], group: usize) -> u64
     let mut lowest = NO_KEY;
     for k in 0..GROUP {
         let place = GROUP * group + k;
-        lowest = lowest.min(key_of(all[place].next(), place));
+        lowest = lowest.min(all[place].key(place));
     }
     lowest
 }
@@ -146,19 +143,6 @@ fn soonest(lowest: &[u64]) -> Option<Due>
     due_of(first)
 }
 
-/// A time and its place in one number: the earlier time has the lower one, and of equal times the earlier place.
-#[inline(always)]
-fn key_of(next: Option<u64>, place: usize) -> u64
-    requires place { place < 66 }
-    requires time { IfSome next (λ time. time < 8589934592) }
-    ensures { result ≡ key_of place next }
-{
-    match next {
-        None => NO_KEY,
-        Some(time) => 128 * time + place as u64,
-    }
-}
-
 /// The time and the place of a key.
 fn due_of(key: u64) -> Option<Due>
     ensures { result ≡ due_of key }
@@ -167,7 +151,7 @@ fn due_of(key: u64) -> Option<Due>
         return None;
     }
     Some(Due {
-        time: key / 128,
-        place: (key % 128) as u8,
+        time: key / KEYS_A_SECOND,
+        place: (key % KEYS_A_SECOND) as u8,
     })
 }

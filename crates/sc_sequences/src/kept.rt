@@ -1,9 +1,16 @@
 //! A cursor in eight bytes.
 ghost use Rattle.std.specs.Prelude.{◌≡◌, ◌<◌, Some, None, false, IfSome};
+ghost use Rattle.sc_sequences.specs.Cursors.{key_of};
 ghost use Rattle.sc_sequences.specs.Kept.{span_of};
 
 use crate::cursors::Cursor;
 use std::marker::Model;
+
+/// How many keys a second has: one for each place of a sequence, and some over.
+pub(crate) const KEYS_A_SECOND: u64 = 128;
+
+/// The key of a sequence that doesn't run: over all others.
+pub(crate) const NO_KEY: u64 = u64::MAX;
 
 /// In which of the spans of 2^32 seconds a time lies, where there is one.
 #[derive(Clone, Copy, Debug, PartialEq, Eq)]
@@ -93,9 +100,23 @@ impl KeptCursor {
         }
     }
 
+    /// The time of the next command and the place of the sequence in one number: the earlier time has the lower one, and of equal times the
+    /// earlier place.
+    #[inline(always)]
+    pub(crate) fn key(&self, place: usize) -> u64
+        requires { place < 66 }
+        ensures { result ≡ key_of place self.now.next }
+    {
+        match self.span {
+            Span::Never => NO_KEY,
+            Span::First => KEYS_A_SECOND * u64::from(self.low) + place as u64,
+            Span::Second => KEYS_A_SECOND * (u64::from(self.low) + 4294967296) + place as u64,
+        }
+    }
+
     /// The time of the next command.
     #[inline(always)]
-    pub(crate) fn next(&self) -> Option<u64>
+    fn next(&self) -> Option<u64>
         ensures next { result ≡ self.now.next }
         ensures small { IfSome result (λ time. time < 8589934592) }
     {

@@ -12,8 +12,8 @@ pub loop-k-preserved : goal.loop-k-preserved
 loop-k-preserved c =
     let all = c.args.all.now in
     let from = 6 * c.args.group in
-    let time = c.next.ensures.next ∙ ap (λ (k : Cursor). k.next) c.index-all-place.is ∙ sym (get_or-map (λ (k : Cursor). k.next) all (from + c.loop-k.k) c.index-all-place.result None (omega arith)) in
+    let time = ap (λ (k : Cursor). k.next) c.index-all-place.is ∙ sym (get_or-map (λ (k : Cursor). k.next) all (from + c.loop-k.k) c.index-all-place.result None (omega arith)) in
     c.min-lowest.ensures
-    ∙ ap (λ (low : ℕ). min low c.key_of.result) c.loop-k.invariant
-    ∙ ap (min (lowest_from (next_times all) from c.loop-k.k)) (c.key_of.ensures ∙ ap (key_of (from + c.loop-k.k)) time)
+    ∙ ap (λ (low : ℕ). min low c.key.result) c.loop-k.invariant
+    ∙ ap (min (lowest_from (next_times all) from c.loop-k.k)) (c.key.ensures ∙ ap (key_of (from + c.loop-k.k)) time)
     ∙ sym (lowest_more (next_times all) from c.loop-k.k)
