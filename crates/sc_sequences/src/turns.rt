@@ -61,9 +61,9 @@ impl Duty {
         let packet = tables.command(place, at);
         let right = packet.checksum_ok();
         let next = next_behind(tables, place, at, right);
+        put_head(place, right, &packet, next >= tables.len(place), now, out);
         continue_at(&mut self.cursors, tables, place, next, now);
         self.count(right);
-        put_head(place, right, &packet, next >= tables.len(place), now, out);
     }
 }
 
