@@ -1,5 +1,5 @@
 -- A wakeup in which all actionpoints are calm.
-use Rattle.std.proofs.Common.{◌≡◌, ℕ, zero, suc, ◌+◌, ◌<◌, ◌≤◌, ◌%◌, Bool, true, false, ◌&&◌, List, [], ◌∷◌, ◌++◌, length, Option, Some, None, option_to_list, refl, sym, ap, subst, ◌∙◌, arith}
+use Rattle.std.proofs.Common.{◌≡◌, ℕ, zero, suc, ◌+◌, ◌-◌, ◌<◌, ◌≤◌, ◌%◌, Bool, true, false, List, [], ◌∷◌, ◌++◌, length, Option, Some, None, option_to_list, refl, sym, ap, subst, ◌∙◌, arith}
 use Rattle.std.specs.List.{flat_map}
 use Rattle.bus_pipes.specs.Held.{Held, adding}
 use Rattle.bus_pipes.specs.declared.names.Out.{Out}
@@ -15,7 +15,7 @@ use Rattle.lc_watch.specs.declared.outcomes.Outcome.{Outcome}
 use Rattle.lc_watch.specs.declared.actionpoints.ActRow.{ActRow}
 use Rattle.lc_watch.specs.declared.points.Point.{Point}
 use Rattle.lc_watch.proofs.Evaluating.{evaluation_same}
-use Rattle.lc_watch.proofs.Rows.{unseen_stands, unseen_fires, passes_stands, passes_fires}
+use Rattle.lc_watch.proofs.Rows.{unseen_stands, unseen_fires, passes_stands, passes_fires, all_stands, all_fires}
 use Rattle.lc_watch.proofs.Following.{fired_more}
 use Rattle.lc_watch.proofs.Serving.{IsPoint, served_is, fired_below, below_none, below_more, below_all}
 
@@ -27,16 +27,21 @@ IsCalmAt outcomes actions k p = IsCalm (evaluation_of (kept_at outcomes) (act_at
 abbrev IsLeft : Bool → ℕ → List Bool → List Bool → Point → Option Bool → Type 0
 IsLeft start n xs settings p o = PointStands start n (xs ++ option_to_list o) (settings ++ by_firing (fires_by start n xs settings o)) p × (fires_by start n xs settings o ≡ false)
 
-no_failure : {A : Type 0} → true ≡ false → A
-no_failure is = cc
-
 calm_by : (start : Bool) (n : ℕ) (xs settings : List Bool) (p : Point) → PointStands start n xs settings p → (o : Option Bool) → IsCalm o n p → IsLeft start n xs settings p o
 calm_by start n xs settings p stood None calm = (unseen_stands start n xs settings p stood, sym (unseen_fires start n xs settings p stood))
-calm_by start n xs settings p stood (Some true) calm = no_failure (calm true refl).0
+calm_by start n xs settings p stood (Some true) calm =
+    let kept = calm true refl in
+    let some : 0 < n = kept.0 in
+    let row : p.failing ≡ n = kept.1 in
+    let passive : p.active ≡ false = kept.2 in
+    let whole : n - 1 ≤ p.failing = omega (arith, row) in
+    let failed = all_stands start n xs settings p stood whole some in
+    (record { active = passive ∙ failed.active; failing = row ∙ failed.failing }, sym (all_fires start n xs settings p stood whole some) ∙ passive)
 calm_by start n xs settings p stood (Some false) calm =
     let kept = calm false refl in
-    let passed = passes_stands start n xs settings p stood kept.1 in
-    (record { active = passed.active; failing = kept.2 ∙ passed.failing }, sym (passes_fires start n xs settings p stood kept.1))
+    let none : p.failing ≡ 0 = kept.1 in
+    let passed = passes_stands start n xs settings p stood kept.0 in
+    (record { active = passed.active; failing = none ∙ passed.failing }, sym (passes_fires start n xs settings p stood kept.0))
 
 module _ (setup : Setup) (history : List Input) (input : Input) (outcomes : List Outcome) (points : List Point) (awaits : AwaitsEvaluation setup history input outcomes points) (calm : AreCalm (kept_at outcomes) setup.actions points) where
   left_at : (k : ℕ) → k < 16

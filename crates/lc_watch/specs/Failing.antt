@@ -53,6 +53,7 @@ pub record PointStands (start : Bool) (n : ℕ) (evaluations settings : List Boo
   pub active : p.active ≡ last_or start settings
   pub failing : p.failing ≡ failing_of n evaluations
 
--- An evaluation, where there is one, leaves a point as it is: it passes, and no failure in a row is kept.
+-- An evaluation, where there is one, leaves what is kept of an actionpoint as it is: it passes and no failure is kept, or it fails, as many
+-- as the actionpoint asks for are kept, and it is passive.
 abbrev pub IsCalm : Option Bool → ℕ → Point → Type 0
-IsCalm evaluation n p = (fails : Bool) → evaluation ≡ Some fails → (fails ≡ false) × (0 < n) × (p.failing ≡ 0)
+IsCalm evaluation n p = (fails : Bool) → evaluation ≡ Some fails → (0 < n) × (p.failing ≡ (if fails then n else 0)) × ((fails && p.active) ≡ false)

@@ -106,7 +106,7 @@ impl Point {
                 failing: failures,
             },
             fires: self.active,
-            calm: false,
+            calm: true,
         }
     }
 }

@@ -1,6 +1,6 @@
 use Rattle.std.proofs.Common.{◌++◌, Bool, option_to_list, Option, sym, ap, subst, ◌∙◌, arith}
 use Rattle.bus_pipes.proofs.Deliveries.{adding_none}
-use Rattle.lc_watch.specs.Failing.{fires_by, by_firing, PointStands}
+use Rattle.lc_watch.specs.Failing.{fires_by, by_firing, IsCalm, PointStands}
 use Rattle.lc_watch.proofs.Both.{off_by_not, on_by_not}
 use Rattle.lc_watch.proofs.Evaluating.{evaluated_used}
 use Rattle.lc_watch.proofs.points.serve.Goals as goal
@@ -44,3 +44,9 @@ returns-clause-fired c = λ start evaluations settings count stood counted.
     let n = c.args.row.now.failures in
     let fires = c.judge-judged.ensures.fires start evaluations settings stood ∙ ap (fires_by start n evaluations settings) c.evaluation.ensures in
     rw (sym fires, on_by_not c.judge-judged.result.fires c.if-not-judged.false) (omega (arith, counted))
+
+pub returns-then-not-judged-clause-calm : goal.returns-then-not-judged-clause-calm
+returns-then-not-judged-clause-calm c = λ all. subst (λ (o : Option Bool). IsCalm o c.args.row.now.failures c.judge-judged.result.point) c.evaluation.ensures (c.judge-judged.ensures.calm all)
+
+pub returns-clause-calm : goal.returns-clause-calm
+returns-clause-calm c = λ all. subst (λ (o : Option Bool). IsCalm o c.args.row.now.failures c.judge-judged.result.point) c.evaluation.ensures (c.judge-judged.ensures.calm all)
