@@ -133,6 +133,7 @@ module _ (setup : Setup) (history : List HsEntry) (input : Input) (quiet : input
         entries_as (apps_after setup history) (apps_after setup (history ++ Woken input ∷ [])) (watch_at (history ++ Woken input ∷ []) []) (watch_at (history ++ Woken input ∷ []) []) hs.duty.kept (sym (apps_woken setup history input)) refl
         (record {
           whole = stood.whole;
+          heads = stood.heads;
           each = λ k e within some. absurd (no_entry (entry_of (row_at (apps_after setup history) k)) e (none_used (apps_after setup history) k none) some);
           least = stood.least;
           within = stood.within;

@@ -1,4 +1,5 @@
 pub mod Lists
+pub mod Naming
 pub mod Finding
 pub mod Acting
 pub mod Countdowns

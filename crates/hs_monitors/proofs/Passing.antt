@@ -11,7 +11,7 @@ use Rattle.hs_tables.specs.declared.apps.AppEntry.{AppEntry}
 use Rattle.hs_actions.specs.Happenings.{Happening}
 use Rattle.hs_monitors.specs.Acting.{counter_in, changes, acts_now}
 use Rattle.hs_monitors.specs.Monitors.{row_at, places_of, app_attempt}
-use Rattle.hs_monitors.specs.Entries.{EntryStands, EntriesStand, KeptStands, watched_at, later, kept_with}
+use Rattle.hs_monitors.specs.Entries.{EntryStands, EntriesStand, HeadsStand, KeptStands, watched_at, later, kept_with}
 use Rattle.hs_monitors.specs.declared.watches.Watched.{Watched}
 use Rattle.hs_monitors.specs.declared.kept.Kept.{Kept}
 use Rattle.hs_monitors.proofs.Checks.{rested_stands, rested_acts, changed_stands, changed_acts, unchanged_stands, unchanged_acts, counter_none}
@@ -74,8 +74,8 @@ module _ (rows : List AppRow) (checks : List (List Counter)) (counters : List Co
     | inr ended ↦ over_stands e checks counters (watched_at old.watched k) old.passed (entry_cycles (row_at rows k) e is) (stood.each k e within is) (omega arith)
   ]
 
-  pub kept_passes : KeptStands rows (checks ++ counters ∷ []) (kept_with old.watched (old.passed + 1) old.least)
-  kept_passes = record { whole = stood.whole; each = one_passes; least = stood.least; within = soon }
+  pub kept_passes : KeptStands rows (checks ++ counters ∷ []) (kept_with old.heads old.watched (old.passed + 1) old.least)
+  kept_passes = record { whole = stood.whole; heads = stood.heads; each = one_passes; least = stood.least; within = soon }
 
 -- none attempts anything
 pub none_acts : (rows : List AppRow) (checks : List (List Counter)) (counters : List Counter) (kept : Kept) → KeptStands rows checks kept → kept.passed + 1 < kept.least → (k : ℕ)
@@ -109,10 +109,11 @@ least_more kept i old new before fewer here k below runs = elim (cases_eq i k) [
 ]
 
 -- where no check passed
-pub just_kept : (rows : List AppRow) (checks : List (List Counter)) (watched : List Watched) (least : ℕ) → length rows ≡ 32 → EntriesStand rows (λ (k : ℕ). checks) watched → 0 < least
-    → ((k : ℕ) → k < 32 → 0 < (watched_at watched k).countdown → least ≤ (watched_at watched k).countdown) → KeptStands rows checks (record { watched = watched; passed = 0; least = least })
-just_kept rows checks watched least whole stood some fewest = record {
+pub just_kept : (rows : List AppRow) (checks : List (List Counter)) (heads : List ℕ) (watched : List Watched) (least : ℕ) → length rows ≡ 32 → HeadsStand rows heads → EntriesStand rows (λ (k : ℕ). checks) watched → 0 < least
+    → ((k : ℕ) → k < 32 → 0 < (watched_at watched k).countdown → least ≤ (watched_at watched k).countdown) → KeptStands rows checks (kept_with heads watched 0 least)
+just_kept rows checks heads watched least whole headed stood some fewest = record {
   whole = whole;
+  heads = headed;
   each = λ k e within is.
       let same : (watched_at watched k).countdown ≡ (watched_at watched k).countdown - 0 = omega arith in
       subst (λ (n : ℕ). EntryStands e checks (record { last = (watched_at watched k).last; countdown = n })) same (stood.each k e within is);
@@ -127,7 +128,7 @@ set_rest kept old i w before k past =
     get_or-set_other kept i k w (record { last = 0; countdown = 0 }) apart ∙ before k (omega arith)
 
 -- once all used entries are looked at
-module _ (rows : List AppRow) (checks : List (List Counter)) (more : List Counter) (old new : List Watched) (passed least fewest i : ℕ) (stood : KeptStands rows checks (kept_with old passed least)) (past : places_of rows ≤ i)
+module _ (rows : List AppRow) (checks : List (List Counter)) (more : List Counter) (heads : List ℕ) (old new : List Watched) (passed least fewest i : ℕ) (stood : KeptStands rows checks (kept_with heads old passed least)) (past : places_of rows ≤ i)
     (done : (k : ℕ) (e : AppEntry) → k < i → entry_of (row_at rows k) ≡ Some e → EntryStands e (checks ++ more ∷ []) (later (passed + 1) (watched_at new k)))
     (low : (k : ℕ) → k < i → 0 < (watched_at new k).countdown → fewest ≤ (watched_at new k).countdown) (rest : (k : ℕ) → i ≤ k → watched_at new k ≡ watched_at old k) (fewer : fewest ≤ least) (within_all : passed + 1 < fewest) where
   low_all : (k : ℕ) → k < 32 → 0 < (watched_at new k).countdown → fewest ≤ (watched_at new k).countdown
@@ -139,9 +140,10 @@ module _ (rows : List AppRow) (checks : List (List Counter)) (more : List Counte
         omega arith
   ]
 
-  pub renewed_stand : KeptStands rows (checks ++ more ∷ []) (kept_with new (passed + 1) fewest)
+  pub renewed_stand : KeptStands rows (checks ++ more ∷ []) (kept_with heads new (passed + 1) fewest)
   renewed_stand = record {
     whole = stood.whole;
+    heads = stood.heads;
     each = λ k e within is. elim (cases_lt k i) [
       | inl below ↦ done k e below is
       | inr over ↦ absurd (no_entry (entry_of (row_at rows k)) e (unused_behind rows k (omega arith)) is)

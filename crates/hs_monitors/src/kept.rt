@@ -8,19 +8,21 @@ ghost use Rattle.hs_tables.specs.declared.apps.AppRow.{AppRow};
 ghost use Rattle.hs_tables.specs.declared.apps.AppEntry.{AppEntry};
 ghost use Rattle.hs_actions.specs.Performs.{Performs};
 ghost use Rattle.hs_monitors.specs.Monitors.{row_at, places_of, app_attempt};
-ghost use Rattle.hs_monitors.specs.Entries.{EntryStands, EntriesStand, KeptStands, watched_at, later, kept_with};
+ghost use Rattle.hs_monitors.specs.Entries.{EntryStands, EntriesStand, KeptStands, watched_at, head_of, later, kept_with};
 
 use crate::apps::{PLACES, begin_all, check_all};
+use crate::heads::{heads_of, is_headed};
 use crate::watches::{Watched, counter_in};
 use bus_pipes::Outbox;
 use hs_actions::Actions;
 use hs_tables::{AppEntry, AppMon, HsTables};
 use packet_forms::Counter;
 
-/// What is kept of all entries: how many checks passed since the countdowns were taken down, what is kept of each entry, with a countdown
+/// What is kept of all entries: the heads of their names, how many checks passed since the countdowns were taken down, what is kept of each entry, with a countdown
 /// that is as many too high, and a number that no countdown is below but one that is over. So a check in which none can end takes none down.
 #[derive(Clone, Copy, Debug, PartialEq, Eq)]
 pub(crate) struct Kept {
+    heads: [u32; PLACES],
     watched: [Watched; PLACES],
     passed: u16,
     least: u16,
@@ -34,6 +36,7 @@ impl Kept {
         let watched = begin_all(apps);
         let least = least_of(&watched);
         Kept {
+            heads: heads_of(apps),
             watched,
             passed: 0,
             least,
@@ -87,6 +90,7 @@ impl Kept {
         self.least = renew_all(
             apps,
             places,
+            &self.heads,
             &mut self.watched,
             counters,
             passed,
@@ -142,6 +146,7 @@ impl Kept {
 fn renew_all(
     apps: &AppMon,
     places: u8,
+    heads: &[u32; PLACES],
     watched: &mut [Watched; PLACES],
     counters: &[Counter],
     passed: u16,
@@ -149,14 +154,15 @@ fn renew_all(
 ) -> u16
     requires { passed + 1 < least }
     ensures { (checks : List (List Counter)) → places ≡ places_of apps.now
-        → KeptStands apps.now checks (kept_with watched.old passed least)
+        → KeptStands apps.now checks (kept_with heads.now watched.old passed least)
         → KeptStands apps.now (checks ++ counters.now
-        ∷ []) (kept_with watched.new (passed + 1) result) }
+        ∷ []) (kept_with heads.now watched.new (passed + 1) result) }
 {
     let mut fewest = least;
     let end = u32::from(places).min(apps.len());
     for place in 0..end {
-        let one = renew(apps, place, watched[place as usize], counters, passed);
+        let (head, before) = (heads[place as usize], watched[place as usize]);
+        let one = renew(apps, place, head, before, counters, passed);
         watched[place as usize] = one;
         fewest = least_with(fewest, one.countdown);
     }
@@ -164,10 +170,17 @@ fn renew_all(
 }
 
 /// Begins the countdown of the entry in a place anew, where its counter changed and it didn't act.
-fn renew(apps: &AppMon, place: u32, watched: Watched, counters: &[Counter], passed: u16) -> Watched
+fn renew(
+    apps: &AppMon,
+    place: u32,
+    head: u32,
+    watched: Watched,
+    counters: &[Counter],
+    passed: u16,
+) -> Watched
     requires { place < 32 }
     ensures stands { (checks : List (List Counter)) (e : AppEntry)
-        → entry_of (row_at apps.now place) ≡ Some e
+        → entry_of (row_at apps.now place) ≡ Some e → head ≡ head_of e.name
         → (0 < watched.countdown → passed + 1 < watched.countdown)
         → EntryStands e checks (later passed watched)
         → EntryStands e (checks ++ counters.now ∷ []) (later (passed + 1) result) }
@@ -175,6 +188,9 @@ fn renew(apps: &AppMon, place: u32, watched: Watched, counters: &[Counter], pass
         → 0 < result.countdown → passed + 1 < result.countdown }
 {
     if watched.countdown == 0 {
+        return watched;
+    }
+    if !is_headed(counters, head) {
         return watched;
     }
     match apps.entry(place + 1) {

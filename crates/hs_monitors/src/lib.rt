@@ -4,6 +4,7 @@
 mod apps;
 mod duty;
 mod events;
+mod heads;
 mod housekeeping;
 mod input;
 mod instructions;

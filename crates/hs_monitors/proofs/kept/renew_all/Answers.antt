@@ -45,13 +45,13 @@ loop-place-preserved c =
       above = λ checks stood.
           e.above (passed + 1) (held.above checks stood)
           (c.renew-one.ensures.far
-          (subst (λ (w : Watched). 0 < w.countdown → passed + 1 < w.countdown) (sym here) (ends_later rows checks (kept_with c.args.watched.now passed c.args.least) stood c.requires place inside)));
+          (subst (λ (w : Watched). 0 < w.countdown → passed + 1 < w.countdown) (sym here) (ends_later rows checks (kept_with c.args.heads.now c.args.watched.now passed c.args.least) stood c.requires place inside)));
       done = λ checks stood k entry below is.
           set_more (λ (j : ℕ) (w : Watched). entry_of (row_at rows j) ≡ Some entry → EntryStands entry (checks ++ counters ∷ []) (later (passed + 1) w)) kept place one (omega arith)
           (λ j before known. held.done checks stood j entry before known)
           (λ known.
-          c.renew-one.ensures.stands checks entry known
-          (subst (λ (w : Watched). 0 < w.countdown → passed + 1 < w.countdown) (sym here) (ends_later rows checks (kept_with c.args.watched.now passed c.args.least) stood c.requires place inside))
+          c.renew-one.ensures.stands checks entry known (stood.heads.each place entry inside known)
+          (subst (λ (w : Watched). 0 < w.countdown → passed + 1 < w.countdown) (sym here) (ends_later rows checks (kept_with c.args.heads.now c.args.watched.now passed c.args.least) stood c.requires place inside))
           (subst (λ (w : Watched). EntryStands entry checks (later passed w)) (sym here) (stood.each place entry inside known)))
           k below is;
     }
@@ -61,5 +61,5 @@ returns c = λ checks places stood.
     let held = c.loop-place.invariant in
     let few = places_few c.args.apps.now in
     let past : places_of c.args.apps.now ≤ c.loop-place.place = omega arith in
-    renewed_stand c.args.apps.now checks c.args.counters.now c.args.watched.now c.loop-place.watched c.args.passed c.args.least c.loop-place.fewest c.loop-place.place stood past (held.done checks stood) held.low held.rest held.fewer
+    renewed_stand c.args.apps.now checks c.args.counters.now c.args.heads.now c.args.watched.now c.loop-place.watched c.args.passed c.args.least c.loop-place.fewest c.loop-place.place stood past (held.done checks stood) held.low held.rest held.fewer
     (held.above checks stood)

@@ -14,7 +14,7 @@ invariant-loop-place l = record {
   fewer : l.fewest ≤ l.least;
   rest : (k : ℕ) → l.place ≤ k → watched_at l.watched k ≡ watched_at l.fn.watched k;
   low : (k : ℕ) → k < l.place → 0 < (watched_at l.watched k).countdown → l.fewest ≤ (watched_at l.watched k).countdown;
-  above : (checks : List (List Counter)) → KeptStands l.apps checks (kept_with l.fn.watched l.passed l.least) → l.passed + 1 < l.fewest;
-  done : (checks : List (List Counter)) → KeptStands l.apps checks (kept_with l.fn.watched l.passed l.least)
+  above : (checks : List (List Counter)) → KeptStands l.apps checks (kept_with l.heads l.fn.watched l.passed l.least) → l.passed + 1 < l.fewest;
+  done : (checks : List (List Counter)) → KeptStands l.apps checks (kept_with l.heads l.fn.watched l.passed l.least)
       → (k : ℕ) (e : AppEntry) → k < l.place → entry_of (row_at l.apps k) ≡ Some e → EntryStands e (checks ++ l.counters ∷ []) (later (l.passed + 1) (watched_at l.watched k));
 }
