@@ -18,13 +18,16 @@ use hs_actions::Actions;
 use hs_tables::{AppEntry, AppMon, HsTables};
 use packet_forms::Counter;
 
-/// What is kept of all entries: the heads of their names, how many checks passed since the countdowns were taken down, what is kept of each entry, with a countdown
-/// that is as many too high, and a number that no countdown is below but one that is over. So a check in which none can end takes none down.
+/// What is kept of all entries. A check in which no countdown can end takes none of them down and is only counted.
 #[derive(Clone, Copy, Debug, PartialEq, Eq)]
 pub(crate) struct Kept {
+    /// The heads of the entries' names.
     heads: [u32; PLACES],
+    /// What is kept of each entry, with a countdown that is too high by the checks that passed.
     watched: [Watched; PLACES],
+    /// How many checks passed since the countdowns were taken down.
     passed: u16,
+    /// No countdown is below this number but one that is over.
     least: u16,
 }
 

@@ -1,11 +1,11 @@
 //! What is kept of an application monitor, and its checks.
-ghost use Rattle.std.specs.Prelude.{◌≡◌, ◌<◌, ◌≤◌, List, [], ◌∷◌, ◌++◌, length};
+ghost use Rattle.std.specs.Prelude.{◌≡◌, ◌<◌, List, [], ◌∷◌, ◌++◌};
 ghost use Rattle.packet_forms.specs.declared.name.Counter.{Counter};
 ghost use Rattle.hs_monitors.specs.Acting.{is_same, counter_in, changes, acts_now};
 ghost use Rattle.hs_monitors.specs.Entries.{EntryStands, later};
 
 use hs_tables::AppEntry;
-use packet_forms::{Counter, Name, be32};
+use packet_forms::{Counter, Name};
 
 /// The last counter that an entry saw, and how many unchanged checks in a row are left until it acts, 0 once it acted.
 #[derive(Clone, Copy, Debug, PartialEq, Eq)]
@@ -92,18 +92,11 @@ pub(crate) fn counter_in(counters: &[Counter], name: &Name) -> Option<u32>
     None
 }
 
-/// Whether these are the bytes of one name. Names that differ mostly do so in the first eight bytes, so these are compared first.
+/// Whether these are the bytes of one name.
 #[tactic(auto, unfolding(crate::specs::Acting::is_same))]
 #[inline(always)]
 pub(crate) fn is_same(name: &[u8], other: &[u8]) -> bool
-    requires { (8 ≤ length name.now) × (8 ≤ length other.now) }
     ensures { result ≡ is_same name.now other.now }
 {
-    if be32(name, 0) != be32(other, 0) {
-        return false;
-    }
-    if be32(name, 4) != be32(other, 4) {
-        return false;
-    }
     *name == *other
 }
