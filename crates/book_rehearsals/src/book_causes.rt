@@ -1,11 +1,11 @@
 //! Why the rehearsal of a book ended, in words.
 
+use ground_files::Workspace;
 use ground_making::MOST_BYTES;
 use ground_runs::{CauseTeller, NOT_GIVEN, find_line, line_cause};
 use rehearsal::{Report, Status as End};
 use row_forms::split_word;
 use std::io;
-use std::rt::Files;
 use std::str::from_utf8;
 use table_texts::{Line, next_line};
 
@@ -95,9 +95,10 @@ impl BookTeller<'_> {
 }
 
 impl CauseTeller for BookTeller<'_> {
-    fn tell_cause<R: Files + Eprint + AllocGlobal>(
+    fn tell_cause<R: Eprint + AllocGlobal, W: Workspace>(
         &self,
         rt: &R,
+        _workspace: &mut W,
         report: &Report,
     ) -> io::Result<()> {
         let name = self.name;

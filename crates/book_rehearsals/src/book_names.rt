@@ -1,12 +1,13 @@
 //! Which names are those of books, and from when scenarios count.
 
+ghost use Rattle.std.specs.Prelude.{◌≡◌};
+
 use crate::epochs::epoch_of;
+use ground_files::Workspace;
 use ground_making::{MOST_BYTES, is_book};
 use ground_runs::{Run, can_be_read_again};
 use std::alloc::{AllocError, Global};
-use std::fs;
 use std::io::{self, Read};
-use std::rt::Files;
 use table_texts::next_line;
 
 /// How many bytes are read at once.
@@ -45,19 +46,27 @@ fn read_beginning<F: Read>(alloc: Global, text: &mut F) -> io::Result<Vec<u8>> {
 }
 
 /// The beginning of a file, up to its first line that says something; none of what is no regular file, since it couldn't be read again.
-fn beginning_of<R: Files + AllocGlobal>(rt: &R, run: &Run<'_>) -> io::Result<Option<Vec<u8>>> {
+fn beginning_of<W: Workspace>(
+    alloc: Global,
+    workspace: &mut W,
+    run: &Run<'_>,
+) -> io::Result<Option<Vec<u8>>>
+    ensures { W.held workspace.new ≡ W.held workspace.old }
+{
     let path = run.scenario;
-    if run.is_drill() || !can_be_read_again(rt, path)? {
+    if run.is_drill() || !can_be_read_again(workspace, path)? {
         return Ok(None);
     }
-    let mut file = fs::open(rt, path)?;
-    Ok(Some(read_beginning(rt.alloc(), &mut file)?))
+    let mut file = workspace.open(path)?;
+    Ok(Some(read_beginning(alloc, &mut file)?))
 }
 
 /// Whether a rehearsal's scenario is the name of a book: of a file whose first line that says something begins with `book`. Only the
 /// beginning of the file is read; of what is no regular file nothing is, since it couldn't be read again.
-pub fn names_book<R: Files + AllocGlobal>(rt: &R, run: &Run<'_>) -> bool {
-    match beginning_of(rt, run) {
+pub fn names_book<R: AllocGlobal, W: Workspace>(rt: &R, workspace: &mut W, run: &Run<'_>) -> bool
+    ensures { W.held workspace.new ≡ W.held workspace.old }
+{
+    match beginning_of(rt.alloc(), workspace, run) {
         Ok(Some(front)) => is_book(front.as_slice()),
         _ => false,
     }
@@ -65,11 +74,17 @@ pub fn names_book<R: Files + AllocGlobal>(rt: &R, run: &Run<'_>) -> bool {
 
 /// The time of frame 0 by which the lines of a rehearsal are told: that of the words, or else that of the scenario's file. None of what
 /// is no regular file.
-pub fn epoch_of_run<R: Files + AllocGlobal>(rt: &R, run: &Run<'_>) -> Option<u32> {
+pub fn epoch_of_run<R: AllocGlobal, W: Workspace>(
+    rt: &R,
+    workspace: &mut W,
+    run: &Run<'_>,
+) -> Option<u32>
+    ensures { W.held workspace.new ≡ W.held workspace.old }
+{
     if run.epoch.is_some() {
         return run.epoch;
     }
-    match beginning_of(rt, run) {
+    match beginning_of(rt.alloc(), workspace, run) {
         Ok(Some(front)) => epoch_of(front.as_slice()),
         _ => None,
     }

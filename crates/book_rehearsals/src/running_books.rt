@@ -3,15 +3,14 @@
 use crate::book_causes::BookTeller;
 use crate::epochs::epoch_of;
 use crate::shelved_books::{ShelvedBook, shelve_book};
-use ground_files::{Status, get, tell_no_memory, tell_unread};
+use ground_files::{Status, read_input, tell_no_memory, tell_unread};
 use ground_making::{MOST_BYTES, Refusal, tell_refusal};
-use ground_runs::{Rehearsal, Run, add_file, run_rehearsal};
+use ground_runs::{DraftTeller, Rehearsal, Run, add_file, run_rehearsal};
 use ground_tools::ScenarioTeller;
 use input_words::GivenFile;
 use load_books::{Book, book_forms};
 use rehearsal::Words;
 use std::alloc::{AllocError, Global};
-use std::rt::Files;
 use std::thread::Threads;
 
 /// The book that a text says on a shelf, whose names are put behind the words.
@@ -56,9 +55,10 @@ fn book_frames<'a>(
 }
 
 /// Rehearses the book that a text says.
-fn run_text<R>(rt: &R, run: &Run<'_>, text: &[u8]) -> Status
+fn run_text<R, W>(rt: &R, workspace: &mut W, run: &Run<'_>, text: &[u8]) -> Status
 where
-    R: Threads + Sync + Files + Print + Eprint + AllocGlobal,
+    R: Threads + Sync + Eprint + AllocGlobal,
+    W: DraftTeller,
 {
     let name = run.scenario;
     let Ok(front) = run.front_words(rt.alloc()) else {
@@ -86,23 +86,24 @@ where
         teller,
         frames,
     };
-    run_rehearsal(rt, &timed, what)
+    run_rehearsal(rt, workspace, &timed, what)
 }
 
 /// Rehearses the book that the words name in place of a scenario, with the files that it has. A book that is refused is told by its lines;
 /// lines of the log are told in times from the epoch of the plan, where the words have none.
-pub fn run_book<R>(rt: &R, run: &Run<'_>) -> Status
+pub fn run_book<R, W>(rt: &R, workspace: &mut W, run: &Run<'_>) -> Status
 where
-    R: Threads + Sync + Files + Input + Print + Eprint + AllocGlobal,
+    R: Threads + Sync + Eprint + AllocGlobal,
+    W: DraftTeller,
 {
     let name = run.scenario;
     if !run.files.is_empty() {
         let _told = eprintln!(rt; "{name}: a book has its files in it: no FILE stands behind it");
         return Status::WordsRefused;
     }
-    let text = match get(rt, name) {
+    let text = match read_input(rt.alloc(), workspace, name) {
         Ok(text) => text,
         Err(error) => return tell_unread(rt, name, &error),
     };
-    run_text(rt, run, text.as_slice())
+    run_text(rt, workspace, run, text.as_slice())
 }

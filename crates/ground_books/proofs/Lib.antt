@@ -1,2 +1,3 @@
 mod BuiltLemmas
 mod ManifestLemmas
+mod PlacedLemmas

@@ -5,7 +5,9 @@ use Rattle.load_books.specs.declared.fault.BookFault.{BookFault}
 use Rattle.load_books.specs.declared.fault.BookError.{BookError}
 use Rattle.load_books.specs.declared.fault.BookError.TheVariants as errors
 use Rattle.load_books.specs.Files.{FileMade}
-use Rattle.load_books.specs.Books.{BookMade}
+use Rattle.load_books.specs.declared.forms.BookForms.{BookForms}
+use Rattle.load_books.specs.Books.{BookMade, book_said}
+use Rattle.ground_checks.specs.Maps.{AreBookForms}
 use Rattle.ground_books.specs.Manifests.{ending_of, manifest_said}
 use Rattle.ground_books.specs.declared.book_files.BuiltFile.{BuiltFile}
 
@@ -34,3 +36,13 @@ abbrev pub GivesBuilt : Result BookMade BookFault → Result (Vec BuiltFile Glob
 GivesBuilt said (Ok files) = (b : BookMade) × (said ≡ Ok b) × (map built_seen files.items ≡ built_said b)
 GivesBuilt said (Err (errors.Memory e)) = Unit {0}
 GivesBuilt said (Err (errors.Book fault)) = said ≡ Err fault
+
+-- ---- the files of a text
+
+-- the files that a text says as a book, in the words of the documents
+pub record IsBuiltOf (text : List ℕ) (files : List Built) : Type 0 where
+  pub forms : BookForms
+  pub book : BookMade
+  pub are_forms : AreBookForms forms
+  pub is_said : book_said forms text ≡ Ok book
+  pub are_files : files ≡ built_said book

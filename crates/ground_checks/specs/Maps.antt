@@ -1,6 +1,13 @@
 -- The map of memory that a scenario's header says.
-use Rattle.std.specs.Prelude.{◌≡◌, ℕ, ◌<◌, Bool, true, List, [], ◌∷◌, ◌++◌, length, Option, Some, None}
+use Rattle.std.specs.Prelude.{◌≡◌, ◌⊎◌, ℕ, ◌<◌, Bool, true, List, [], ◌∷◌, ◌++◌, length, map, Option, Some, None, Ok}
 use Rattle.memory_window.specs.declared.regions.Region.{Region}
+use Rattle.telecommands.specs.declared.command.Command.{Command}
+use Rattle.telecommands.specs.Dictionary.{placed, dictionary}
+use Rattle.table_forms.specs.Layouts.{placed as placed_layouts, all_layouts}
+use Rattle.load_texts.specs.Headers.{placed_field, all_fields}
+use Rattle.load_books.specs.declared.forms.BookForms.{BookForms}
+use Rattle.load_books.specs.Books.{BookMade, book_said, is_book_text}
+use Rattle.timed_plans.specs.Checks.{scenario_said}
 use Rattle.scenario.specs.declared.reader.Reader.{Reader}
 use Rattle.scenario.specs.Standing.{Stands}
 use Rattle.scenario.specs.Texts.{Given, Head, Whole, reading}
@@ -25,3 +32,33 @@ pub record HasGiven (r : Reader) (text : List ℕ) : Type 0 where
   pub ended : closed ≡ true → rest ≡ []
   pub stands : Stands r (record { bytes = front; closed = closed }) gave
   pub some_items : 0 < length gave
+
+-- ---- the map of a scenario, a plan or a book
+
+-- the forms by which books are read: the telecommands, the layouts of tables and the fields of loads that are documented
+pub record AreBookForms (forms : BookForms) : Type 0 where
+  pub commands : map placed forms.commands.now ≡ dictionary
+  pub layouts : placed_layouts forms.layouts.now ≡ all_layouts
+  pub fields : map placed_field forms.fields.now ≡ all_fields
+
+-- the map of the scenario that a text says as a plan: its header isn't a scenario's
+pub record IsPlanMap (text : List ℕ) (regions : List Region) : Type 0 where
+  pub is_other : map_said text ≡ None
+  pub commands : List Command
+  pub scenario : List ℕ
+  pub are_listed : map placed commands ≡ dictionary
+  pub is_said : scenario_said commands text ≡ Ok scenario
+  pub is_map : map_said scenario ≡ Some regions
+
+-- the map of a book's scenario
+pub record IsBookMap (text : List ℕ) (regions : List Region) : Type 0 where
+  pub forms : BookForms
+  pub book : BookMade
+  pub are_forms : AreBookForms forms
+  pub is_book : is_book_text text ≡ true
+  pub is_said : book_said forms text ≡ Ok book
+  pub is_map : map_said book.scenario ≡ Some regions
+
+-- the map of a text: that of its header where it is a scenario, or else of what it says as a plan; and of a book that of its plan
+abbrev pub IsMapOf : List ℕ → List Region → Type 0
+IsMapOf text regions = (map_said text ≡ Some regions) ⊎ (IsPlanMap text regions ⊎ IsBookMap text regions)

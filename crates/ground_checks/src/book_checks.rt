@@ -1,6 +1,7 @@
 //! What is wrong with a book, in words.
 
-ghost use Rattle.std.specs.Prelude.{◌≡◌, ◌+◌, ◌<◌, ◌^◌, length, true};
+ghost use Rattle.std.specs.Prelude.{◌≡◌, ◌≢◌, ◌+◌, ◌<◌, ◌^◌, length, true};
+ghost use Rattle.ground_files.specs.declared.verb_status.Status.TheVariants as statuses;
 ghost use Rattle.load_books.specs.Books.{is_book_text};
 
 use crate::checking::{earlier, seen_at, tell_count};
@@ -30,7 +31,9 @@ pub(crate) fn tell_unread_book<R: Eprint + AllocGlobal>(
     name: &str,
     text: &[u8],
     error: &BookError,
-) -> Status {
+) -> Status
+    ensures { result ≢ statuses.Done }
+{
     match error {
         BookError::Memory(_) => tell_no_memory(rt),
         BookError::Book(fault) => tell_book(rt, name, text, fault),

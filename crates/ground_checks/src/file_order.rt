@@ -1,6 +1,9 @@
 //! Files in the order in which they are given: which one of a table is in force, and how `activate` and Memory Manager count them.
 
-use std::io;
+ghost use Rattle.std.specs.Prelude.{OnOk};
+ghost use Rattle.ground_checks.specs.Checked.{StaysTold};
+
+use std::io::{self, Write};
 use table_files::TableKind;
 
 /// What a file holds, as far as its headers say it.
@@ -105,31 +108,35 @@ fn standing<'a>(before: &[SeenFile<'_>], file: &SeenFile<'a>) -> &'static str {
 }
 
 /// Tells a file by its numbers.
-fn tell_place<R: Print>(
-    rt: &R,
+fn tell_place<O: Write>(
+    out: &mut O,
     before: &[SeenFile<'_>],
     file: &SeenFile<'_>,
     number: usize,
     load: u32,
-) -> io::Result<()> {
+) -> io::Result<()>
+    ensures { OnOk result (StaysTold (O.contents out.old) (O.contents out.new)) }
+{
     let (path, name) = (file.path, file.name.as_str());
     let standing = standing(before, file);
     match file.holding {
-        Holding::Table(_) => println!(rt; "{number} {path} {name}{standing}"),
-        Holding::Load => println!(rt; "{number} {path} load {load}{standing}"),
-        Holding::Unknown => println!(rt; "{number} {path}{standing}"),
+        Holding::Table(_) => writeln!(out, "{number} {path} {name}{standing}"),
+        Holding::Load => writeln!(out, "{number} {path} load {load}{standing}"),
+        Holding::Unknown => writeln!(out, "{number} {path}{standing}"),
     }
 }
 
 /// Tells how `activate` counts the files and how `mm.load_file` counts the loads, a line a file.
-pub(crate) fn tell_order<R: Print>(rt: &R, files: &[SeenFile<'_>]) -> io::Result<()> {
+pub(crate) fn tell_order<O: Write>(out: &mut O, files: &[SeenFile<'_>]) -> io::Result<()>
+    ensures { OnOk result (StaysTold (O.contents out.old) (O.contents out.new)) }
+{
     let mut loads: u32 = 0;
     'files: for place in 0..files.len() {
         let file = &files[place];
         if file.holding == Holding::Load {
             loads = loads.saturating_add(1);
         }
-        tell_place(rt, &files[..place], file, place + 1, loads)?;
+        tell_place(out, &files[..place], file, place + 1, loads)?;
     }
     Ok(())
 }

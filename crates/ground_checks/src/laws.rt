@@ -1,10 +1,13 @@
 //! Laws of the definitions, as contracts of functions that do nothing.
 
-ghost use Rattle.std.specs.Prelude.{◌≡◌, ◌↔◌, ℕ, true, List, Some, None};
+ghost use Rattle.std.specs.Prelude.{◌≡◌, ◌↔◌, ℕ, true, false, List, map, Option, Some, None};
+ghost use Rattle.std.specs.List.{AllByRecursion};
 ghost use Rattle.memory_window.specs.declared.regions.Region.{Region};
 ghost use Rattle.scenario.specs.Texts.{reading};
 ghost use Rattle.active_tables.specs.Tables.{region_fault};
 ghost use Rattle.rehearsal.specs.Outcome.{refused_read};
+ghost use Rattle.load_books.specs.Books.{is_book_text};
+ghost use Rattle.ground_checks.specs.Checked.{AreTaken};
 ghost use Rattle.ground_checks.specs.Loading.{AreLoaded, AreLoadedWith, AreFaultless};
 ghost use Rattle.ground_checks.specs.Maps.{map_said};
 
@@ -22,4 +25,11 @@ pub fn maps_are_headers()
         → map_said text ≡ Some regions
         → refused_read files (reading (record { bytes = text; closed = true })).items
         ≡ region_fault regions files }
+{}
+
+/// Files that `check` took have no fault, where they are no books.
+pub fn taken_files_are_faultless()
+    ensures { (regions : Option (List Region)) (files : List (List ℕ))
+        → AllByRecursion (λ file. is_book_text file ≡ false) files
+        → AreTaken regions (map (λ file. Some file) files) → AreFaultless regions files }
 {}

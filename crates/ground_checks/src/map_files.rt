@@ -1,19 +1,23 @@
 //! The map of memory of a scenario, a plan or a book.
 
-ghost use Rattle.std.specs.Prelude.{◌+◌, ◌<◌, ◌^◌, length};
+ghost use Rattle.std.specs.Prelude.{◌≡◌, ◌≢◌, ◌+◌, ◌<◌, ◌^◌, length, true, Some, None, option_map, IfOk, IfErr};
+ghost use Rattle.ground_files.specs.declared.verb_status.Status.TheVariants as statuses;
+ghost use Rattle.ground_files.specs.Workspaces.{Held, input_taken};
+ghost use Rattle.load_books.specs.Books.{is_book_text};
+ghost use Rattle.ground_checks.specs.Checked.{IsMapNamed, IsBookNamed};
+ghost use Rattle.ground_checks.specs.Maps.{map_said, IsPlanMap, IsBookMap, IsMapOf};
 
 use crate::book_checks::{is_book, tell_unread_book};
 use crate::map_texts::{MapFault, UNENDED, scenario_map};
 use crate::scenario_names::{Known, known_of};
 use ground_faults::key_in_plan;
-use ground_files::{Status, get, input_name, tell_no_memory, tell_unread};
+use ground_files::{Status, Workspace, input_name, read_input, tell_no_memory, tell_unread};
 use ground_runs::line_cause;
 use load_books::{book_forms, read_book};
 use memory_window::Map;
 use packet_forms::{behind, front};
 use plan_text::{PlanError, PlanFault};
 use std::alloc::{AllocError, Global};
-use std::rt::Files;
 use std::str::from_utf8;
 use telecommands::commands;
 use timed_plans::schedule_plan;
@@ -31,22 +35,27 @@ enum TextFault {
     Memory,
 }
 
-/// What a text says, unless memory ended.
-fn as_known(known: Result<Known, AllocError>) -> Result<Known, TextFault> {
-    match known {
+/// What a scenario with this map says.
+fn known_with(alloc: Global, map: Map, text: &[u8]) -> Result<Known, TextFault>
+    ensures { IfOk result (λ known. known.map ≡ map) }
+{
+    match known_of(alloc, map, text) {
         Ok(known) => Ok(known),
         Err(_) => Err(TextFault::Memory),
     }
 }
 
 /// The map of a plan, where its header isn't a scenario's: its epoch is a date. `line` and `reason` are what is wrong with it as a scenario's.
-fn plan_map(alloc: Global, text: &[u8], line: u32, reason: u8) -> Result<Known, TextFault> {
+fn plan_map(alloc: Global, text: &[u8], line: u32, reason: u8) -> Result<Known, TextFault>
+    requires { map_said text.now ≡ None }
+    ensures { IfOk result (λ known. IsPlanMap text.now known.map) }
+{
     if text.len() > MOST_TEXT {
         return Err(TextFault::Line { line, reason });
     }
     match schedule_plan(alloc, commands(), text) {
         Ok(scenario) => match scenario_map(alloc, scenario.as_slice()) {
-            Ok(map) => as_known(known_of(alloc, map, scenario.as_slice())),
+            Ok(map) => known_with(alloc, map, scenario.as_slice()),
             Err(MapFault::Line { line, reason }) => Err(TextFault::Line { line, reason }),
             Err(MapFault::Memory) => Err(TextFault::Memory),
         },
@@ -58,9 +67,11 @@ fn plan_map(alloc: Global, text: &[u8], line: u32, reason: u8) -> Result<Known, 
 }
 
 /// The map of a scenario or a plan.
-fn text_map(alloc: Global, text: &[u8]) -> Result<Known, TextFault> {
+fn text_map(alloc: Global, text: &[u8]) -> Result<Known, TextFault>
+    ensures { IfOk result (λ known. IsMapOf text.now known.map) }
+{
     match scenario_map(alloc, text) {
-        Ok(map) => as_known(known_of(alloc, map, text)),
+        Ok(map) => known_with(alloc, map, text),
         Err(MapFault::Line { line, reason }) => plan_map(alloc, text, line, reason),
         Err(MapFault::Memory) => Err(TextFault::Memory),
     }
@@ -83,7 +94,9 @@ fn line_of(text: &[u8], wanted: u32) -> &[u8] {
 }
 
 /// Tells why a line of a scenario's header is refused, and shows it.
-fn tell_line<R: Eprint>(rt: &R, name: &str, text: &[u8], line: u32, reason: u8) -> Status {
+fn tell_line<R: Eprint>(rt: &R, name: &str, text: &[u8], line: u32, reason: u8) -> Status
+    ensures { result ≡ statuses.ScenarioRefused }
+{
     if reason == UNENDED {
         let _told = eprintln!(rt;
             "{name}: line {line}: the text ends before the line `start`, so that it has no map of memory"
@@ -100,7 +113,9 @@ fn tell_line<R: Eprint>(rt: &R, name: &str, text: &[u8], line: u32, reason: u8) 
 }
 
 /// Tells why a scenario or a plan gives no map.
-fn tell_text<R: Eprint>(rt: &R, name: &str, text: &[u8], fault: TextFault) -> Status {
+fn tell_text<R: Eprint>(rt: &R, name: &str, text: &[u8], fault: TextFault) -> Status
+    ensures { (result ≢ statuses.Done) × (result ≢ statuses.FileRefused) }
+{
     match fault {
         TextFault::Plan(fault) => {
             let _told = match key_in_plan(text, &fault) {
@@ -116,7 +131,10 @@ fn tell_text<R: Eprint>(rt: &R, name: &str, text: &[u8], fault: TextFault) -> St
 
 /// The map of a book's plan, or the status, once it was told why there is none.
 fn book_map<R: Eprint + AllocGlobal>(rt: &R, name: &str, text: &[u8]) -> Result<Known, Status>
-    requires { 1 + length text.now < 2 ^ 32 }
+    requires short { 1 + length text.now < 2 ^ 32 }
+    requires book { is_book_text text.now ≡ true }
+    ensures known { IfOk result (λ known. IsBookMap text.now known.map) }
+    ensures status { IfErr result (λ status. status ≢ statuses.Done) }
 {
     let book = match read_book(rt.alloc(), &book_forms(), text) {
         Ok(book) => book,
@@ -135,12 +153,21 @@ fn book_map<R: Eprint + AllocGlobal>(rt: &R, name: &str, text: &[u8]) -> Result<
 }
 
 /// The map of memory of a scenario, a plan or a book and the names that it knows, or the status, once it was told why there is none.
-pub(crate) fn read_map<R: Files + Input + Eprint + AllocGlobal>(
+pub(crate) fn read_map<R: Eprint + AllocGlobal, W: Workspace>(
     rt: &R,
+    workspace: &mut W,
     path: &str,
-) -> Result<Known, Status> {
+) -> Result<Known, Status>
+    ensures held { W.held workspace.new ≡ option_map (input_taken path.now)
+        (W.held workspace.old) }
+    ensures known { IfOk result (λ known. (before : Held) → W.held workspace.old ≡ Some before
+        → IsMapNamed path.now before known.map) }
+    ensures status { IfErr result (λ status. status ≢ statuses.Done) }
+    ensures refused { IfErr result (λ status. status ≡ statuses.FileRefused
+        → (before : Held) → W.held workspace.old ≡ Some before → IsBookNamed path.now before) }
+{
     let name = input_name(path);
-    let text = match get(rt, path) {
+    let text = match read_input(rt.alloc(), workspace, path) {
         Ok(text) => text,
         Err(error) => return Err(tell_unread(rt, name, &error)),
     };

@@ -1,6 +1,6 @@
 //! The map of memory that a scenario's header says.
 
-ghost use Rattle.std.specs.Prelude.{◌≡◌, [], false, Some, IfOk, OnOk};
+ghost use Rattle.std.specs.Prelude.{◌≡◌, ◌≢◌, [], false, Some, None, IfOk, IfErr, OnOk, OnErr};
 ghost use Rattle.scenario.specs.Standing.{Stands, is_finished};
 ghost use Rattle.ground_checks.specs.Maps.{HasGiven, map_said};
 
@@ -24,7 +24,8 @@ pub enum MapFault {
 fn read_header(reader: &mut Reader, text: &[u8]) -> Result<(), MapFault>
     requires { Stands reader.old (record { bytes = []; closed = false }) []
         × (is_finished reader.old ≡ false) }
-    ensures { OnOk result (HasGiven reader.new text.now) }
+    ensures given { OnOk result (HasGiven reader.new text.now) }
+    ensures none { OnErr result (map_said text.now ≡ None) }
 {
     let mut rest = text;
     'items: loop {
@@ -50,7 +51,8 @@ fn read_header(reader: &mut Reader, text: &[u8]) -> Result<(), MapFault>
 
 /// The map of memory that a scenario's header says. What stands behind the header isn't read.
 pub fn scenario_map(alloc: Global, text: &[u8]) -> Result<Map, MapFault>
-    ensures { IfOk result (λ map. map_said text.now ≡ Some map) }
+    ensures said { IfOk result (λ map. map_said text.now ≡ Some map) }
+    ensures none { IfErr result (λ fault. fault ≢ MapFault.Memory → map_said text.now ≡ None) }
 {
     let Ok(mut reader) = Reader::open(alloc) else {
         return Err(MapFault::Memory);

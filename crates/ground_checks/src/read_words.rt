@@ -1,9 +1,12 @@
 //! What the memory of a scenario doesn't give, in words.
 
+ghost use Rattle.std.specs.Prelude.{OnOk};
+ghost use Rattle.ground_checks.specs.Checked.{StaysTold};
+
 use memory_window::{Kind, Map, Region};
 use packet_forms::{be16, be32, behind};
 use std::alloc::{AllocError, Global};
-use std::io;
+use std::io::{self, Write};
 use table_files::TableKind;
 
 /// The reason of an entry whose read the memory of the scenario doesn't give.
@@ -157,11 +160,13 @@ fn kind_word(kind: Kind) -> &'static str {
 }
 
 /// Tells the regions of a map, each as its line of the scenario has it.
-pub(crate) fn tell_regions<R: Print>(rt: &R, name: &str, map: &Map) -> io::Result<()> {
+pub(crate) fn tell_regions<O: Write>(out: &mut O, name: &str, map: &Map) -> io::Result<()>
+    ensures { OnOk result (StaysTold (O.contents out.old) (O.contents out.new)) }
+{
     for region in map.regions() {
         let Region { kind, start, len } = *region;
         let kind = kind_word(kind);
-        println!(rt; "map {name} {kind} 0x{start:08X} {len}")?;
+        writeln!(out, "map {name} {kind} 0x{start:08X} {len}")?;
     }
     Ok(())
 }

@@ -1,6 +1,6 @@
 //! The names that a scenario counts, and those of the events that it sends.
 
-ghost use Rattle.std.specs.Prelude.{◌≡◌, [], false};
+ghost use Rattle.std.specs.Prelude.{◌≡◌, [], false, IfOk};
 ghost use Rattle.scenario.specs.Standing.{Stands, is_finished};
 
 use memory_window::Map;
@@ -92,7 +92,9 @@ fn read_names(
 }
 
 /// What a scenario with this map says.
-pub(crate) fn known_of(alloc: Global, map: Map, text: &[u8]) -> Result<Known, AllocError> {
+pub(crate) fn known_of(alloc: Global, map: Map, text: &[u8]) -> Result<Known, AllocError>
+    ensures { IfOk result (λ known. known.map ≡ map) }
+{
     let Ok(mut reader) = Reader::open(alloc) else {
         return Err(AllocError);
     };

@@ -1,18 +1,19 @@
 //! Two logs that are compared.
 
-ghost use Rattle.std.specs.Prelude.{◌≡◌, true, false, None, IsSome};
-ghost use Rattle.ground_files.specs.declared.verb_status.Status.TheVariants as statuses;
+ghost use Rattle.std.specs.Prelude.{◌≡◌, Some, OnOk, option_map};
+ghost use Rattle.ground_files.specs.Workspaces.{Held, input_taken};
+ghost use Rattle.ground_differences.specs.Written.{IsWrittenOn};
+ghost use Rattle.ground_differences.specs.Differences.{IsCompared, HasTold, status_found};
 
 use crate::frame_source::FrameSource;
 use crate::frame_teller::{Found, Teller};
 use ground_files::{
-    Fault, Source, Status, input_name, is_stream, open_input, open_output, output_name, settle,
-    status_made, tell_fault, tell_replaced, tell_unread, tell_unwritten, would_replace,
+    Fault, Source, Status, Workspace, input_name, is_stream, open_source, output_name, replaces,
+    status_made, tell_fault, tell_replaced, tell_unread, tell_unwritten,
 };
 use ground_logs::Telling;
 use log_lines::LogLine;
-use std::io::{self, Read, Write};
-use std::rt::Files;
+use std::io::{self, ErrorKind, Read, Write};
 
 /// The frame that comes next in one of two logs.
 fn next_frame(one: Option<LogLine>, other: Option<LogLine>) -> Option<u32> {
@@ -33,8 +34,8 @@ pub struct LogPair<'a> {
     pub other: &'a str,
     /// The time of frame 0, in seconds.
     pub epoch: Option<u32>,
-    /// The file that is written, or standard output.
-    pub path: Option<&'a str>,
+    /// The file that is written; `-` is standard output.
+    pub output: &'a str,
 }
 
 impl<'a> LogPair<'a> {
@@ -90,22 +91,41 @@ impl PlacedFault {
 }
 
 /// Tells the frames of two logs, side by side, to the end of both.
+#[tactic(auto, using(crate::proofs::WrittenLemmas::written_none, crate::proofs::WrittenLemmas::written_more, crate::proofs::WrittenLemmas::written_then))]
 fn tell_frames<L: Read + Drop, E: Eprint, W: Write>(
     ones: &mut FrameSource<'_, L, E>,
     others: &mut FrameSource<'_, L, E>,
-    teller: &mut Teller<'_, W>,
-) -> Result<(), PlacedFault> {
-    for _ in 0..u64::MAX {
+    teller: &mut Teller,
+    out: &mut W,
+) -> Result<(), PlacedFault>
+    ensures { OnOk result (IsWrittenOn (W.contents out.old) (W.contents out.new)) }
+{
+    'frames: for _turn in 0..u64::MAX {
         let Some(frame) = next_frame(ones.next(), others.next()) else {
-            break;
+            return Ok(());
         };
-        ones.read_frame(frame).map_err(PlacedFault::of_one)?;
-        others.read_frame(frame).map_err(PlacedFault::of_other)?;
-        teller
-            .tell_both(frame, ones.lines(), others.lines())
-            .map_err(PlacedFault::of_told)?;
+        tell_frame(frame, ones, others, teller, out)?;
     }
-    Ok(())
+    let error = io::Error::from(ErrorKind::FileTooLarge);
+    Err(PlacedFault::of_told(Fault::Read(error)))
+}
+
+/// Tells a frame of two logs.
+#[tactic(auto, using(crate::proofs::WrittenLemmas::written_none, crate::proofs::WrittenLemmas::written_more, crate::proofs::WrittenLemmas::written_then))]
+fn tell_frame<L: Read + Drop, E: Eprint, W: Write>(
+    frame: u32,
+    ones: &mut FrameSource<'_, L, E>,
+    others: &mut FrameSource<'_, L, E>,
+    teller: &mut Teller,
+    out: &mut W,
+) -> Result<(), PlacedFault>
+    ensures { OnOk result (IsWrittenOn (W.contents out.old) (W.contents out.new)) }
+{
+    ones.read_frame(frame).map_err(PlacedFault::of_one)?;
+    others.read_frame(frame).map_err(PlacedFault::of_other)?;
+    teller
+        .tell_both(frame, ones.lines(), others.lines(), out)
+        .map_err(PlacedFault::of_told)
 }
 
 /// A log that is compared: how its faults are told, and its bytes.
@@ -122,8 +142,10 @@ fn compare<L: Read + Drop, E: Eprint, W: Write>(
     one: Given<'_, L, E>,
     other: Given<'_, L, E>,
     out: &mut W,
-) -> Result<Compared, PlacedFault> {
-    let mut teller = Teller::new(one.telling.alloc, epoch, out);
+) -> Result<Compared, PlacedFault>
+    ensures { OnOk result (IsWrittenOn (W.contents out.old) (W.contents out.new)) }
+{
+    let mut teller = Teller::new(one.telling.alloc, epoch);
     let Given { telling, log } = one;
     let mut ones = FrameSource::begin(&telling, log).map_err(PlacedFault::of_one)?;
     let Given {
@@ -131,7 +153,7 @@ fn compare<L: Read + Drop, E: Eprint, W: Write>(
         log: log_other,
     } = other;
     let mut others = FrameSource::begin(&telling_other, log_other).map_err(PlacedFault::of_other)?;
-    tell_frames(&mut ones, &mut others, &mut teller)?;
+    tell_frames(&mut ones, &mut others, &mut teller, out)?;
     Ok(Compared {
         found: teller.found(),
         is_whole: ones.is_whole() && others.is_whole(),
@@ -139,7 +161,9 @@ fn compare<L: Read + Drop, E: Eprint, W: Write>(
 }
 
 /// Says how two logs differ in all, and answers the status.
-fn tell_found<R: Eprint>(rt: &R, pair: &LogPair<'_>, compared: &Compared) -> Status {
+fn tell_found<R: Eprint>(rt: &R, pair: &LogPair<'_>, compared: &Compared) -> Status
+    ensures { result ≡ status_found compared.now.is_whole compared.now.found.first }
+{
     if let Some(frame) = compared.found.first {
         tell_counts(rt, pair, frame, &compared.found);
     }
@@ -157,11 +181,7 @@ fn tell_counts<R: Eprint>(rt: &R, pair: &LogPair<'_>, frame: u32, found: &Found)
 
 /// The status of a comparison: a line that is none of a log's comes before differences.
 fn status_found(compared: &Compared) -> Status
-    ensures fault { compared.now.is_whole ≡ false → result ≡ statuses.FileRefused }
-    ensures same { compared.now.is_whole ≡ true → compared.now.found.first ≡ None
-        → result ≡ statuses.Done }
-    ensures differ { compared.now.is_whole ≡ true → IsSome compared.now.found.first
-        → result ≡ statuses.Unwanted }
+    ensures { result ≡ status_found compared.now.is_whole compared.now.found.first }
 {
     if !compared.is_whole {
         return Status::FileRefused;
@@ -174,11 +194,15 @@ fn status_found(compared: &Compared) -> Status
 }
 
 /// An input that is compared.
-fn open_given<'a, R: Files + Input + AllocGlobal + Eprint>(
+fn open_given<'a, R: AllocGlobal + Eprint, W: Workspace>(
     rt: &'a R,
+    workspace: &mut W,
     file: &'a str,
-) -> Result<Given<'a, Source<R::Reader, R::File>, R>, io::Error> {
-    match open_input(rt, file) {
+) -> Result<Given<'a, Source<W::Input, W::File>, R>, io::Error>
+    ensures held { W.held workspace.new ≡ option_map (input_taken file.now)
+        (W.held workspace.old) }
+{
+    match open_source(workspace, file) {
         Ok(log) => Ok(Given {
             telling: Telling {
                 rt,
@@ -192,51 +216,59 @@ fn open_given<'a, R: Files + Input + AllocGlobal + Eprint>(
 }
 
 /// Why two logs aren't compared: the words name an input twice, or one that is written.
-fn refuse<R: Files + Eprint + AllocGlobal>(rt: &R, pair: &LogPair<'_>) -> bool {
+fn refuse<R: Eprint, W: Workspace>(rt: &R, workspace: &W, pair: &LogPair<'_>) -> bool {
     if is_stream(pair.one) && is_stream(pair.other) {
         let _told = eprintln!(rt; "standard input can be one log alone");
         return true;
     }
-    if would_replace(rt, pair.path, pair.one) || would_replace(rt, pair.path, pair.other) {
-        tell_replaced(rt, pair.path);
+    if replaces(workspace, pair.output, pair.one) || replaces(workspace, pair.output, pair.other) {
+        tell_replaced(rt, pair.output);
         return true;
     }
     false
 }
 
 /// Tells the lines in which the two logs differ that the words name.
-pub fn compare_logs<R: Files + Input + Print + Eprint + AllocGlobal>(
+pub fn compare_logs<R: Eprint + AllocGlobal, W: Workspace>(
     rt: &R,
+    workspace: &mut W,
     pair: &LogPair<'_>,
-) -> Status {
-    if refuse(rt, pair) {
+) -> Status
+    ensures { (before : Held) → W.held workspace.old ≡ Some before
+        → IsCompared pair.now result before (W.held workspace.new) }
+{
+    if refuse(rt, workspace, pair) {
         return Status::WordsRefused;
     }
-    let one = match open_given(rt, pair.one) {
+    let one = match open_given(rt, workspace, pair.one) {
         Ok(given) => given,
         Err(error) => return tell_unread(rt, input_name(pair.one), &error),
     };
-    let other = match open_given(rt, pair.other) {
+    let other = match open_given(rt, workspace, pair.other) {
         Ok(given) => given,
         Err(error) => return tell_unread(rt, input_name(pair.other), &error),
     };
-    write_differences(rt, pair, one, other)
+    write_differences(rt, workspace, pair, one, other)
 }
 
 /// Writes the differences of two logs that are open.
-fn write_differences<R: Files + Print + Eprint + AllocGlobal, L: Read + Drop>(
+fn write_differences<R: Eprint + AllocGlobal, W: Workspace, L: Read + Drop>(
     rt: &R,
+    workspace: &mut W,
     pair: &LogPair<'_>,
     one: Given<'_, L, R>,
     other: Given<'_, L, R>,
-) -> Status {
-    let output = output_name(pair.path);
-    let (part, mut out) = match open_output(rt, pair.path) {
-        Ok(opened) => opened,
+) -> Status
+    ensures { (now : Held) → W.held workspace.old ≡ Some now
+        → HasTold pair.now.output.now result now (W.held workspace.new) }
+{
+    let output = output_name(pair.output);
+    let mut draft = match workspace.begin(pair.output) {
+        Ok(draft) => draft,
         Err(error) => return tell_unwritten(rt, output, &error),
     };
-    let compared = compare(pair.epoch, one, other, &mut out);
-    let settled = settle(part, compared.is_ok());
+    let compared = compare(pair.epoch, one, other, &mut draft);
+    let settled = workspace.settle(pair.output, draft, compared.is_ok());
     match compared {
         Ok(compared) => {
             let status = tell_found(rt, pair, &compared);

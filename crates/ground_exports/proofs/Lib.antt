@@ -1,2 +1,3 @@
+mod ExportLemmas
 mod RecordLemmas
 mod RowLemmas

@@ -1,17 +1,17 @@
 //! The verbs that make something of a log.
 
-ghost use Rattle.std.specs.Prelude.{◌≡◌, ℕ, List, Some, IfOk};
-ghost use Rattle.ground_exports.specs.Exports.{IsExportOf, known_epoch};
+ghost use Rattle.std.specs.Prelude.{◌≡◌, ℕ, List, Some, option_map, IfOk};
+ghost use Rattle.ground_files.specs.Workspaces.{Held, input_taken};
+ghost use Rattle.ground_exports.specs.Exports.{IsExportOf, IsExportOfInput, IsExported, known_epoch};
 
 use crate::captures::write_capture;
 use crate::csv_rows::write_rows;
 use ground_files::{
-    Fault, Status, input_name, open_input, open_output, output_name, settle, status_made,
-    tell_fault, tell_replaced, tell_unwritten, would_replace,
+    Fault, Status, Workspace, input_name, open_source, output_name, replaces, status_made,
+    tell_fault, tell_replaced, tell_unwritten,
 };
 use ground_logs::Telling;
 use std::io::{Read, Write};
-use std::rt::Files;
 
 /// What a log is made into.
 #[derive(Clone, Copy, Debug, PartialEq, Eq)]
@@ -62,43 +62,53 @@ pub struct Exported<'a> {
     pub epoch: Option<u32>,
     /// The log; `-` is standard input.
     pub file: &'a str,
-    /// The file that is written, or standard output.
-    pub path: Option<&'a str>,
+    /// The file that is written; `-` is standard output.
+    pub output: &'a str,
 }
 
 /// Makes what is asked for of the log into an output. Says whether all of the log's lines are a log's.
-fn write_export<R: Files + Input + Eprint + AllocGlobal, W: Write>(
+fn write_export<R: Eprint + AllocGlobal, W: Workspace, O: Write>(
     rt: &R,
+    workspace: &mut W,
     asked: &Exported<'_>,
-    out: &mut W,
-) -> Result<bool, Fault> {
+    out: &mut O,
+) -> Result<bool, Fault>
+    ensures held { W.held workspace.new ≡ option_map (input_taken asked.now.file.now)
+        (W.held workspace.old) }
+    ensures made { IfOk result (λ whole. (before : Held) → W.held workspace.old ≡ Some before
+        → IsExportOfInput asked.now before whole (O.contents out.old) (O.contents out.new)) }
+{
     let telling = Telling {
         rt,
         alloc: rt.alloc(),
         name: input_name(asked.file),
     };
-    match open_input(rt, asked.file) {
+    match open_source(workspace, asked.file) {
         Ok(log) => asked.export.make(&telling, asked.epoch, log, out),
         Err(error) => Err(Fault::Read(error)),
     }
 }
 
 /// Makes something of the log that the words name.
-pub fn export_log<R: Files + Input + Print + Eprint + AllocGlobal>(
+pub fn export_log<R: Eprint + AllocGlobal, W: Workspace>(
     rt: &R,
+    workspace: &mut W,
     asked: &Exported<'_>,
-) -> Status {
-    if would_replace(rt, asked.path, asked.file) {
-        tell_replaced(rt, asked.path);
+) -> Status
+    ensures { (before : Held) → W.held workspace.old ≡ Some before
+        → IsExported asked.now result before (W.held workspace.new) }
+{
+    if replaces(workspace, asked.output, asked.file) {
+        tell_replaced(rt, asked.output);
         return Status::WordsRefused;
     }
-    let output = output_name(asked.path);
-    let (part, mut out) = match open_output(rt, asked.path) {
-        Ok(opened) => opened,
+    let output = output_name(asked.output);
+    let mut draft = match workspace.begin(asked.output) {
+        Ok(draft) => draft,
         Err(error) => return tell_unwritten(rt, output, &error),
     };
-    let made = write_export(rt, asked, &mut out);
-    let settled = settle(part, made.is_ok());
+    let made = write_export(rt, workspace, asked, &mut draft);
+    let settled = workspace.settle(asked.output, draft, made.is_ok());
     match made {
         Ok(true) => status_made(rt, output, settled, Status::Done),
         Ok(false) => status_made(rt, output, settled, Status::FileRefused),

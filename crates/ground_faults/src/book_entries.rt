@@ -1,5 +1,8 @@
 //! Refused entries of the tables in a book, in words and with the line of the book.
 
+ghost use Rattle.std.specs.Prelude.{◌≢◌};
+ghost use Rattle.ground_files.specs.declared.verb_status.Status.TheVariants as statuses;
+
 use crate::book_parts::{PartText, part_texts};
 use crate::said_entries::{MOST_TEXT, said_entry};
 use crate::telling::tell_entry;
@@ -213,7 +216,9 @@ fn tell_first<R: Eprint + AllocGlobal>(
 }
 
 /// The status of a book that is refused, once that was told.
-fn status_told<R: Eprint>(rt: &R, told: Result<(), AllocError>) -> Status {
+fn status_told<R: Eprint>(rt: &R, told: Result<(), AllocError>) -> Status
+    ensures { result ≢ statuses.Done }
+{
     match told {
         Ok(()) => Status::FileRefused,
         Err(_) => tell_no_memory(rt),
@@ -226,7 +231,9 @@ pub fn tell_book_fault<R: Eprint + AllocGlobal>(
     name: &str,
     text: &[u8],
     fault: &BookFault,
-) -> Status {
+) -> Status
+    ensures { result ≢ statuses.Done }
+{
     if let BookFault::Table(line, TableFault::Entry(kind, fault)) = *fault {
         let told = tell_first(rt, name, text, line, RefusedEntry { kind, fault });
         return status_told(rt, told);
@@ -245,7 +252,9 @@ pub fn tell_book<R: Eprint + AllocGlobal>(
     name: &str,
     text: &[u8],
     fault: &BookFault,
-) -> Status {
+) -> Status
+    ensures { result ≢ statuses.Done }
+{
     if let BookFault::Table(_, TableFault::Entry(_, _)) = *fault {
         return status_told(rt, tell_parts(rt, name, text));
     }

@@ -1,112 +1,43 @@
-//! Outputs by the names that the words give: standard output where none is named, or `-` is.
+//! Outputs by the names that the words give: `-` is standard output.
 
-use crate::part_files::{PartFile, real_path};
+ghost use Rattle.std.specs.Prelude.{◌≡◌, Some, OnOk, OnErr};
+ghost use Rattle.ground_files.specs.Workspaces.{Held, put_at, KeepsFiles};
+
 use crate::stream_names::{is_stream, output_name};
-use std::fs;
-use std::io::{self, Printer, Write};
-use std::rt::Files;
+use crate::workspaces::Workspace;
+use std::io::{self, Write};
 
-/// Where bytes go.
-#[derive(Drop)]
-pub enum Output<S: Write + Drop, F: Write + Drop> {
-    Standard(S),
-    File(F),
-    /// They are wanted nowhere.
-    Nowhere,
-}
-
-impl<S: Write + Drop, F: Write + Drop> Write for Output<S, F> {
-    fn write(&mut self, bytes: &[u8]) -> io::Result<usize> {
-        match self {
-            Output::Standard(to) => to.write(bytes),
-            Output::File(to) => to.write(bytes),
-            Output::Nowhere => Ok(bytes.len()),
-        }
-    }
-
-    fn flush(&mut self) -> io::Result<()> {
-        match self {
-            Output::Standard(to) => to.flush(),
-            Output::File(to) => to.flush(),
-            Output::Nowhere => Ok(()),
-        }
-    }
-}
-
-/// Writes a file, whole or not at all.
-fn put_file<R: Files + AllocGlobal>(rt: &R, path: &str, bytes: &[u8]) -> io::Result<()> {
-    let (part, mut file) = PartFile::begin(rt, path)?;
-    match file.write_all(bytes) {
-        Ok(()) => part.keep(),
+/// Writes a file, whole or not at all, or standard output.
+#[tactic(auto, using(crate::proofs::WriteLemmas::put_whole))]
+pub fn put_output<W: Workspace>(workspace: &mut W, name: &str, bytes: &[u8]) -> io::Result<()>
+    ensures put { OnOk result ((before : Held) → W.held workspace.old ≡ Some before
+        → W.held workspace.new ≡ Some (put_at name.now bytes.now before)) }
+    ensures kept { OnErr result (KeepsFiles (W.held workspace.old) (W.held workspace.new)) }
+{
+    let mut draft = workspace.begin(name)?;
+    match draft.write_all(bytes) {
+        Ok(()) => workspace.settle(name, draft, true),
         Err(error) => {
-            part.drop_part();
+            let _dropped = workspace.settle(name, draft, false);
             Err(error)
         }
     }
 }
 
-/// Writes a file, or standard output where none is named, or `-` is.
-pub fn put<R: Files + Print + AllocGlobal>(
-    rt: &R,
-    path: Option<&str>,
-    bytes: &[u8],
-) -> io::Result<()> {
-    match path {
-        Some(path) if !is_stream(path) => put_file(rt, path, bytes),
-        _ => io::writer(rt).write_all(bytes),
-    }
-}
-
-/// Opens an output by the name that the words give: standard output where there is none, or `-`.
-pub fn open_output<'a, R: Files + Print + AllocGlobal>(
-    rt: &'a R,
-    path: Option<&str>,
-) -> io::Result<(Option<PartFile<'a, R>>, Output<Printer<'a, R>, R::File>)> {
-    match path {
-        Some(path) if !is_stream(path) => {
-            let (part, file) = PartFile::begin(rt, path)?;
-            Ok((Some(part), Output::File(file)))
-        }
-        _ => Ok((None, Output::Standard(io::writer(rt)))),
-    }
-}
-
-/// Ends an output: its file is moved to its place where it is whole, and else nothing of it is left.
-pub fn settle<R: Files + AllocGlobal>(
-    part: Option<PartFile<'_, R>>,
-    is_whole: bool,
-) -> io::Result<()> {
-    let Some(part) = part else {
-        return Ok(());
-    };
-    if is_whole {
-        return part.keep();
-    }
-    part.drop_part();
-    Ok(())
-}
-
 /// Whether an output is a file that is read: it would be replaced by what is made of it.
-pub fn would_replace<R: Files + AllocGlobal>(rt: &R, output: Option<&str>, input: &str) -> bool {
-    let path = output.unwrap_or("-");
-    if is_stream(path) || is_stream(input) {
+pub fn replaces<W: Workspace>(workspace: &W, output: &str, input: &str) -> bool {
+    if is_stream(output) || is_stream(input) || !workspace.is_file(output).unwrap_or(false) {
         return false;
     }
-    let is_file = match fs::metadata(rt, path) {
-        Ok(known) => known.is_file(),
-        Err(_) => false,
-    };
-    if !is_file {
-        return false;
-    }
-    match (real_path(rt, path), real_path(rt, input)) {
+    match (workspace.real_path(output), workspace.real_path(input)) {
         (Ok(place), Ok(read)) => place.as_str() == read.as_str(),
         _ => false,
     }
 }
 
 /// Tells that an output is a file that is read.
-pub fn tell_replaced<R: Eprint>(rt: &R, output: Option<&str>) {
+pub fn tell_replaced<R: Eprint>(rt: &R, output: &str) {
     let name = output_name(output);
+    // There is no other place to tell it.
     let _told = eprintln!(rt; "{name}: it is read here, and isn't written over");
 }

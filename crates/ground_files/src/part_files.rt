@@ -1,5 +1,6 @@
 //! Files that are written beside their place, and moved there once they are whole.
 
+use std::alloc::AllocError;
 use std::fs::{self, OpenFile, OpenOptions};
 use std::io::{self, ErrorKind};
 use std::rt::Files;
@@ -17,10 +18,10 @@ pub struct PartFile<'a, R: Files> {
 }
 
 /// The path behind symbolic links, where there is a file.
-pub fn real_path<R: Files + AllocGlobal>(rt: &R, path: &str) -> io::Result<String> {
+pub(crate) fn real_path<R: Files + AllocGlobal>(rt: &R, path: &str) -> Result<String, AllocError> {
     match fs::canonicalize(rt, path) {
         Ok(place) => Ok(place.into_string()),
-        Err(_) => Ok(String::from_str(rt.alloc(), path)?),
+        Err(_) => String::from_str(rt.alloc(), path),
     }
 }
 

@@ -1,12 +1,20 @@
 //! The names that the words give to inputs and outputs.
 
+ghost use Rattle.std.specs.Prelude.{◌≡◌};
+ghost use Rattle.ground_files.specs.Workspaces.{is_dash};
+ghost use Rattle.ground_files.specs.Inputs.{input_shown};
+
 /// Whether a name stands for a standard stream.
-pub fn is_stream(name: &str) -> bool {
+pub fn is_stream(name: &str) -> bool
+    ensures { result ≡ is_dash name.now }
+{
     name == "-"
 }
 
 /// An input's name for people.
-pub fn input_name(file: &str) -> &str {
+pub fn input_name(file: &str) -> &str
+    ensures { result.now ≡ input_shown file.now }
+{
     if is_stream(file) {
         "standard input"
     } else {
@@ -14,10 +22,11 @@ pub fn input_name(file: &str) -> &str {
     }
 }
 
-/// An output's name for people. An output that isn't named is standard output.
-pub fn output_name(path: Option<&str>) -> &str {
-    match path {
-        Some(path) if !is_stream(path) => path,
-        _ => "standard output",
+/// An output's name for people.
+pub fn output_name(file: &str) -> &str {
+    if is_stream(file) {
+        "standard output"
+    } else {
+        file
     }
 }

@@ -1,1 +1,4 @@
 pub mod Made
+pub mod Named
+pub mod MadeFiles
+pub mod ShownFiles

@@ -1,7 +1,8 @@
 //! Books among the texts that are read.
 
-ghost use Rattle.std.specs.Prelude.{◌≡◌, true};
+ghost use Rattle.std.specs.Prelude.{◌≡◌, ◌<◌, ◌+◌, ◌^◌, true, length, IfOk};
 ghost use Rattle.load_books.specs.Books.{is_book_text};
+ghost use Rattle.ground_making.specs.Made.{IsScenarioOfBook};
 
 use crate::making::{MOST_BYTES, Refusal};
 use load_books::{BookError, book_forms, is_book_text, read_book};
@@ -24,10 +25,10 @@ pub fn is_book(bytes: &[u8]) -> bool
 }
 
 /// The scenario of a book.
-pub(crate) fn book_scenario(alloc: Global, text: &[u8]) -> Result<Vec<u8>, Refusal> {
-    if text.len() > MOST_BYTES {
-        return Err(Refusal::Long);
-    }
+pub(crate) fn book_scenario(alloc: Global, text: &[u8]) -> Result<Vec<u8>, Refusal>
+    requires { 1 + length text.now < 2 ^ 32 }
+    ensures { IfOk result (λ scenario. IsScenarioOfBook text.now scenario.items) }
+{
     match read_book(alloc, &book_forms(), text) {
         Ok(book) => Ok(book.scenario),
         Err(error) => Err(Refusal::from(error)),

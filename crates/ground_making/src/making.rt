@@ -1,19 +1,19 @@
 //! What files and texts are made into.
 
-ghost use Rattle.std.specs.Prelude.{◌≡◌, ◌<◌, ◌+◌, ◌^◌, true, length, IfOk, OnOk, None, Some};
+ghost use Rattle.std.specs.Prelude.{◌≡◌, ◌<◌, ◌+◌, ◌^◌, true, false, length, map, IfOk, OnOk, None, Some};
 ghost use Rattle.telecommands.specs.Commands.{are_good};
+ghost use Rattle.telecommands.specs.Dictionary.{dictionary, placed};
 ghost use Rattle.table_files.specs.Headers.{kind_of_file, file_fault_of, is_load};
 ghost use Rattle.table_forms.specs.Judging.{refusal_of};
-ghost use Rattle.table_forms.specs.Layouts.{are_layouts};
+ghost use Rattle.table_forms.specs.Layouts.{are_layouts, placed as placed_layouts, all_layouts};
 ghost use Rattle.load_texts.specs.Loads.{SaysLoad};
 ghost use Rattle.shown_plans.specs.Shown.{is_scenario_text};
-ghost use Rattle.ground_making.specs.Made.{IsFileOf, IsPlanIn};
-ghost use Rattle.ground_making.specs.declared.making.Making.TheVariants as makings;
+ghost use Rattle.ground_making.specs.Made.{IsFileOf, IsTableText, IsLoadText, IsTextOf, IsScenarioOfPlan, IsScenarioIn, IsMadeAs};
 
-use crate::books::{book_scenario, is_book};
+use crate::books::book_scenario;
 use crate::scenarios::plan_of;
 use crate::shown_times::with_times;
-use load_books::BookFault;
+use load_books::{BookFault, is_book_text};
 use load_texts::{LoadFault, header_fields, read_load, show_load};
 use plan_text::{PlanError, PlanFault};
 use shown_plans::{ShowError, is_scenario_text};
@@ -119,6 +119,8 @@ impl From<PlanError> for Refusal {
 
 /// What tables' texts are read by, with times counted from `epoch`.
 fn forms(epoch: Option<u32>) -> TextForms<'static>
+    ensures listed_commands { map placed result.commands.now ≡ dictionary }
+    ensures listed_layouts { placed_layouts result.layouts.now ≡ all_layouts }
     ensures commands { are_good result.commands.now ≡ true }
     ensures layouts { are_layouts result.layouts.now ≡ true }
 {
@@ -156,10 +158,10 @@ pub fn load_of(alloc: Global, named: &[u8], text: &[u8]) -> Result<Vec<u8>, Refu
 }
 
 /// The text of the file of a table, or of one to be loaded, or the plan of a scenario.
+#[tactic(auto, using(crate::proofs::MadeLemmas::plan_given, crate::proofs::MadeLemmas::table_given, crate::proofs::MadeLemmas::load_given))]
 fn text_of(alloc: Global, epoch: Option<u32>, file: &[u8]) -> Result<Vec<u8>, Refusal>
     requires { 1 + length file.now < 2 ^ 32 }
-    ensures { is_scenario_text file.now ≡ true
-        → IfOk result (λ plan. IsPlanIn file.now plan.items) }
+    ensures { IfOk result (λ text. IsTextOf epoch file.now text.items) }
 {
     if is_scenario_text(file) {
         return plan_of(alloc, file);
@@ -172,6 +174,7 @@ fn text_of(alloc: Global, epoch: Option<u32>, file: &[u8]) -> Result<Vec<u8>, Re
 }
 
 /// The text of the file of a table of this kind, with its times told from the epoch on, where there is one.
+#[tactic(auto, using(crate::proofs::MadeLemmas::shown_given))]
 fn show_of(
     alloc: Global,
     epoch: Option<u32>,
@@ -179,11 +182,19 @@ fn show_of(
     file: &[u8],
 ) -> Result<Vec<u8>, Refusal>
     requires { kind_of_file file.now ≡ Some kind }
+    ensures { IfOk result (λ text. epoch ≡ None → IsTableText kind file.now text.items) }
 {
     let mut text = Vec::new(alloc);
-    if let Err(error) = show_table(alloc, &forms(epoch), kind, file, &mut text) {
-        return Err(Refusal::from(error));
+    match show_table(alloc, &forms(epoch), kind, file, &mut text) {
+        Ok(()) => from_epoch(alloc, epoch, text),
+        Err(error) => Err(Refusal::from(error)),
     }
+}
+
+/// The text of a table, with its times told from the epoch on, where there is one.
+fn from_epoch(alloc: Global, epoch: Option<u32>, text: Vec<u8>) -> Result<Vec<u8>, Refusal>
+    ensures { IfOk result (λ told. epoch ≡ None → told.items ≡ text.items) }
+{
     match epoch {
         Some(epoch) => Ok(with_times(alloc, epoch, text.as_slice())?),
         None => Ok(text),
@@ -191,9 +202,11 @@ fn show_of(
 }
 
 /// The text of a file to be loaded.
+#[tactic(auto, using(crate::proofs::MadeLemmas::load_shown))]
 fn show_load_of(alloc: Global, file: &[u8]) -> Result<Vec<u8>, Refusal>
     requires well { file_fault_of file.now ≡ None }
     requires load { is_load file.now ≡ true }
+    ensures { IfOk result (λ text. IsLoadText file.now text.items) }
 {
     let mut text = Vec::new(alloc);
     match show_load(alloc, header_fields(), file, &mut text) {
@@ -203,12 +216,22 @@ fn show_load_of(alloc: Global, file: &[u8]) -> Result<Vec<u8>, Refusal>
 }
 
 /// The scenario that a plan says, or the plan of a book.
-fn scenario_of(alloc: Global, plan: &[u8]) -> Result<Vec<u8>, Refusal>
-    requires { 1 + length plan.now < 2 ^ 32 }
+#[tactic(auto, using(crate::proofs::MadeLemmas::book_given, crate::proofs::MadeLemmas::schedule_given))]
+fn scenario_of(alloc: Global, text: &[u8]) -> Result<Vec<u8>, Refusal>
+    requires { 1 + length text.now < 2 ^ 32 }
+    ensures { IfOk result (λ scenario. IsScenarioIn text.now scenario.items) }
 {
-    if is_book(plan) {
-        return book_scenario(alloc, plan);
+    if is_book_text(text) {
+        return book_scenario(alloc, text);
     }
+    plan_scenario(alloc, text)
+}
+
+/// The scenario that a plan says.
+fn plan_scenario(alloc: Global, plan: &[u8]) -> Result<Vec<u8>, Refusal>
+    requires { 1 + length plan.now < 2 ^ 32 }
+    ensures { IfOk result (λ scenario. IsScenarioOfPlan plan.now scenario.items) }
+{
     match schedule_plan(alloc, commands(), plan) {
         Ok(scenario) => Ok(scenario),
         Err(error) => Err(Refusal::from(error)),
@@ -229,12 +252,12 @@ pub fn look_at(file: &[u8]) -> Result<(), Refusal>
 }
 
 impl Making {
-    /// Makes a file's bytes into what is wanted. What `Table` makes is taken as the table that the text names, and what `Text` makes of a
-    /// scenario is a plan of it.
+    /// Makes a file's bytes into what is wanted. What `Table` makes is taken as the table that the text names, what `Text` makes of a
+    /// scenario is a plan of it, and what `Scenario` makes is what the plan or the book says.
+    #[tactic(auto, using(crate::proofs::MadeLemmas::always_ok))]
     pub fn make(self, alloc: Global, epoch: Option<u32>, bytes: &[u8]) -> Result<Vec<u8>, Refusal>
-        ensures taken { self ≡ makings.Table → IfOk result (λ file. IsFileOf bytes.now file.items) }
-        ensures plan { self ≡ makings.Text → is_scenario_text bytes.now ≡ true
-            → IfOk result (λ plan. IsPlanIn bytes.now plan.items) }
+        ensures made { IfOk result (λ made. IsMadeAs self epoch bytes.now made.items) }
+        ensures short { OnOk result (1 + length bytes.now < 2 ^ 32) }
     {
         if bytes.len() > MOST_BYTES {
             return Err(Refusal::Long);

@@ -1,5 +1,8 @@
 //! What is told where nothing is made.
 
+ghost use Rattle.std.specs.Prelude.{◌≢◌};
+ghost use Rattle.ground_files.specs.declared.verb_status.Status.TheVariants as statuses;
+
 use crate::making::Refusal;
 use ground_faults::{key_in_book, key_in_load, key_in_plan, key_in_table, tell_book_fault};
 use ground_files::Status;
@@ -48,7 +51,9 @@ pub fn tell_refusal<R: Eprint + AllocGlobal>(
     name: &str,
     bytes: &[u8],
     refusal: &Refusal,
-) -> Status {
+) -> Status
+    ensures { result ≢ statuses.Done }
+{
     tell_line_ends(rt, name, bytes, refusal);
     if let Refusal::Book(fault) = refusal {
         return tell_book_fault(rt, name, bytes, fault);
@@ -69,7 +74,9 @@ pub(crate) fn status_told<R: Eprint + AllocGlobal>(
     rt: &R,
     name: &str,
     told: Result<(), AllocError>,
-) -> Status {
+) -> Status
+    ensures { result ≢ statuses.Done }
+{
     match told {
         Ok(()) => Status::FileRefused,
         Err(error) => tell_refusal(rt, name, &[], &Refusal::from(error)),

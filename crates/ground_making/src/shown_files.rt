@@ -1,12 +1,18 @@
 //! The verb that shows files.
 
+ghost use Rattle.std.specs.Prelude.{◌≡◌, ◌≢◌, ◌++◌, [], Some, option_map, IfOk, OnOk, IfErr};
+ghost use Rattle.ground_files.specs.declared.verb_status.Status.TheVariants as statuses;
+ghost use Rattle.ground_files.specs.Inputs.{input_shown};
+ghost use Rattle.ground_files.specs.Workspaces.{Held, input_taken, files_of};
+ghost use Rattle.ground_making.specs.MadeFiles.{asked_by, IsMadeOfInput};
+ghost use Rattle.ground_making.specs.ShownFiles.{asked_of, names_in, gap, with_text, inputs_taken, ShowsAll, AppendsText, some_put, KeepsOtherFiles, EndsShowingSeveral, EndsShowing};
+
 use crate::made_files::{Wanted, made_of, make_one, write_made};
 use crate::making::Making;
 use ground_files::{
-    Status, get, input_name, tell_no_memory, tell_replaced, tell_unread, would_replace,
+    Status, Workspace, input_name, read_input, replaces, tell_no_memory, tell_replaced, tell_unread,
 };
 use std::alloc::AllocError;
-use std::rt::Files;
 
 /// What the verb that shows files is asked for.
 #[derive(Clone, Copy, Drop)]
@@ -15,38 +21,58 @@ pub struct Shown<'a> {
     pub epoch: Option<u32>,
     /// The files that are read; `-` is standard input.
     pub files: &'a [&'a str],
-    /// The file that is written, or standard output.
-    pub path: Option<&'a str>,
+    /// The file that is written; `-` is standard output.
+    pub output: &'a str,
 }
 
 impl<'a> Shown<'a> {
     /// One of the files alone.
-    fn one(&self, file: &'a str) -> Wanted<'a> {
+    fn one(&self, file: &'a str) -> Wanted<'a>
+        ensures { asked_by result ≡ asked_of self.now file.now }
+    {
         Wanted {
             making: Making::Text,
             epoch: self.epoch,
             file,
-            path: self.path,
+            output: self.output,
         }
     }
 }
 
 /// The text of a file, or the status, once it was told why there is none.
-fn text_of<R: Files + Input + Eprint + AllocGlobal>(
+fn text_of<R: Eprint + AllocGlobal, W: Workspace>(
     rt: &R,
+    workspace: &mut W,
     wanted: &Wanted<'_>,
-) -> Result<Vec<u8>, Status> {
-    match get(rt, wanted.file) {
+) -> Result<Vec<u8>, Status>
+    ensures held { W.held workspace.new ≡ option_map (input_taken wanted.now.file.now)
+        (W.held workspace.old) }
+    ensures text { IfOk result (λ text. (before : Held) → W.held workspace.old ≡ Some before
+        → IsMadeOfInput (asked_by wanted.now) before text.items) }
+    ensures undone { IfErr result (λ status. status ≢ statuses.Done) }
+{
+    match read_input(rt.alloc(), workspace, wanted.file) {
         Ok(bytes) => made_of(rt, wanted, bytes.as_slice()),
         Err(error) => Err(tell_unread(rt, input_name(wanted.file), &error)),
     }
 }
 
-/// Appends a text behind a comment that has the name of its file, and behind an empty line where another text stands before it.
-fn push_text(name: &str, text: &[u8], out: &mut Vec<u8>) -> Result<(), AllocError> {
-    if !out.is_empty() {
-        out.push(b'\n')?;
+/// Appends an empty line where something stands before.
+fn push_gap(out: &mut Vec<u8>) -> Result<(), AllocError>
+    ensures { OnOk result (out.new.items ≡ out.old.items ++ gap out.old.items) }
+{
+    if out.is_empty() {
+        return Ok(());
     }
+    out.push(b'\n')?;
+    Ok(())
+}
+
+/// Appends a text behind a comment that has the name of its file, and behind an empty line where another text stands before it.
+fn push_text(name: &str, text: &[u8], out: &mut Vec<u8>) -> Result<(), AllocError>
+    ensures { OnOk result (out.new.items ≡ with_text out.old.items name.now text.now) }
+{
+    push_gap(out)?;
     out.extend_from_slice(b"# ")?;
     out.extend_from_slice(name.as_bytes())?;
     out.push(b'\n')?;
@@ -54,12 +80,19 @@ fn push_text(name: &str, text: &[u8], out: &mut Vec<u8>) -> Result<(), AllocErro
 }
 
 /// Appends the text of a file, where it has one, and answers the status.
-fn push_file<R: Files + Input + Eprint + AllocGlobal>(
+fn push_file<R: Eprint + AllocGlobal, W: Workspace>(
     rt: &R,
+    workspace: &mut W,
     wanted: &Wanted<'_>,
     out: &mut Vec<u8>,
-) -> Result<Status, AllocError> {
-    match text_of(rt, wanted) {
+) -> Result<Status, AllocError>
+    ensures held { W.held workspace.new ≡ option_map (input_taken wanted.now.file.now)
+        (W.held workspace.old) }
+    ensures text { IfOk result (λ status. status ≡ statuses.Done → (before : Held)
+        → W.held workspace.old ≡ Some before
+        → AppendsText (asked_by wanted.now) before out.old.items out.new.items) }
+{
+    match text_of(rt, workspace, wanted) {
         Ok(text) => {
             push_text(input_name(wanted.file), text.as_slice(), out)?;
             Ok(Status::Done)
@@ -69,59 +102,102 @@ fn push_file<R: Files + Input + Eprint + AllocGlobal>(
 }
 
 /// The first of two statuses that isn't `Done`.
-fn earlier(one: Status, other: Status) -> Status {
+fn earlier(one: Status, other: Status) -> Status
+    ensures one { result ≡ statuses.Done → one ≡ statuses.Done }
+    ensures other { result ≡ statuses.Done → other ≡ statuses.Done }
+{
     if one == Status::Done { other } else { one }
 }
 
 /// Appends the texts of all files that have one. The first status that isn't `Done` stands.
-fn push_files<R: Files + Input + Eprint + AllocGlobal>(
+#[tactic(auto, using(crate::proofs::VerbLemmas::more_taken, crate::proofs::VerbLemmas::shows_more, crate::proofs::VerbLemmas::taken_all_files))]
+fn push_files<R: Eprint + AllocGlobal, W: Workspace>(
     rt: &R,
+    workspace: &mut W,
     shown: &Shown<'_>,
     out: &mut Vec<u8>,
-) -> Result<Status, AllocError> {
+) -> Result<Status, AllocError>
+    ensures files { option_map files_of (W.held workspace.new)
+        ≡ option_map files_of (W.held workspace.old) }
+    ensures held { OnOk result (W.held workspace.new
+        ≡ option_map (inputs_taken (names_in shown.now)) (W.held workspace.old)) }
+    ensures texts { IfOk result (λ status. status ≡ statuses.Done → (before : Held)
+        → W.held workspace.old ≡ Some before
+        → ShowsAll shown.now before out.old.items (names_in shown.now) out.new.items) }
+{
     let mut status = Status::Done;
     'files: for file in shown.files {
-        let one = push_file(rt, &shown.one(file), out)?;
+        let one = push_file(rt, workspace, &shown.one(file), out)?;
         status = earlier(status, one);
     }
     Ok(status)
 }
 
 /// Whether the output is one of the files.
-fn would_replace_one<R: Files + AllocGlobal>(rt: &R, shown: &Shown<'_>) -> bool {
+fn replaces_one<W: Workspace>(workspace: &W, shown: &Shown<'_>) -> bool {
     for file in shown.files {
-        if would_replace(rt, shown.path, file) {
+        if replaces(workspace, shown.output, file) {
             return true;
         }
     }
     false
 }
 
-/// Shows several files, each behind a comment with its name.
-fn show_several<R: Files + Input + Print + Eprint + AllocGlobal>(
+/// Writes what was shown, where anything was. The first status that isn't `Done` stands.
+#[tactic(auto, using(crate::proofs::VerbLemmas::others_kept, crate::proofs::VerbLemmas::others_put))]
+fn write_shown<R: Eprint, W: Workspace>(
     rt: &R,
+    workspace: &mut W,
+    output: &str,
+    status: Status,
+    text: &[u8],
+) -> Status
+    ensures status { result ≡ statuses.Done → status ≡ statuses.Done }
+    ensures done { result ≡ statuses.Done → (before : Held) → W.held workspace.old ≡ Some before
+        → W.held workspace.new ≡ Some (some_put output.now text.now before) }
+    ensures others { (before : Held) → W.held workspace.old ≡ Some before
+        → KeepsOtherFiles output.now before (W.held workspace.new) }
+{
+    if text.is_empty() {
+        return status;
+    }
+    earlier(status, write_made(rt, workspace, output, text))
+}
+
+/// Shows several files, each behind a comment with its name.
+#[tactic(auto, using(crate::proofs::VerbLemmas::several_kept, crate::proofs::VerbLemmas::several_put))]
+fn show_several<R: Eprint + AllocGlobal, W: Workspace>(
+    rt: &R,
+    workspace: &mut W,
     shown: &Shown<'_>,
-) -> Status {
-    if would_replace_one(rt, shown) {
-        tell_replaced(rt, shown.path);
+) -> Status
+    ensures { (before : Held) → W.held workspace.old ≡ Some before → EndsShowingSeveral shown.now
+        (names_in shown.now) result before (W.held workspace.new) }
+{
+    if replaces_one(workspace, shown) {
+        tell_replaced(rt, shown.output);
         return Status::WordsRefused;
     }
     let mut out = Vec::new(rt.alloc());
-    match push_files(rt, shown, &mut out) {
-        Ok(status) if out.is_empty() => status,
-        Ok(status) => earlier(status, write_made(rt, shown.path, out.as_slice())),
+    match push_files(rt, workspace, shown, &mut out) {
+        Ok(status) => write_shown(rt, workspace, shown.output, status, out.as_slice()),
         Err(_) => tell_no_memory(rt),
     }
 }
 
 /// Shows files as text, where they are several each behind a comment with its name. Of one that isn't shown it is told why, and the others are
 /// shown all the same; the first status that isn't `Done` stands. What is shown is written once all files were read.
-pub fn show_files<R: Files + Input + Print + Eprint + AllocGlobal>(
+#[tactic(auto, using(crate::proofs::VerbLemmas::shows_one, crate::proofs::VerbLemmas::shows_several))]
+pub fn show_files<R: Eprint + AllocGlobal, W: Workspace>(
     rt: &R,
+    workspace: &mut W,
     shown: &Shown<'_>,
-) -> Status {
+) -> Status
+    ensures { (before : Held) → W.held workspace.old ≡ Some before
+        → EndsShowing shown.now (names_in shown.now) result before (W.held workspace.new) }
+{
     match shown.files {
-        [file] => make_one(rt, &shown.one(file)),
-        _ => show_several(rt, shown),
+        [file] => make_one(rt, workspace, &shown.one(file)),
+        _ => show_several(rt, workspace, shown),
     }
 }

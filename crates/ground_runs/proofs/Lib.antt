@@ -1,1 +1,4 @@
 mod SilentLemmas
+mod DraftLemmas
+mod LogLemmas
+mod SettlingLemmas

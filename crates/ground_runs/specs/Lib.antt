@@ -1,2 +1,5 @@
 pub mod Endings
 pub mod Rehearsing
+pub mod DraftSinks
+pub mod KeptLogs
+pub mod AskedWords

@@ -1,10 +1,13 @@
 //! What the words ask for of a rehearsal.
 
+ghost use Rattle.std.specs.Prelude.{◌≡◌, ◌++◌, None, IfSome, IfOk, OnOk, false};
+ghost use Rattle.ground_files.specs.Workspaces.{is_dash};
+ghost use Rattle.ground_runs.specs.AskedWords.{opened, opened_names, worker_words, subject_words, front_of, words_of};
+
 use fsw_outside::NoMemory;
-use ground_files::{is_stream, would_replace};
+use ground_files::{Workspace, is_stream, replaces};
 use rehearsal::Words;
 use std::alloc::Global;
-use std::rt::Files;
 
 /// What the words ask for.
 #[derive(Clone, Copy, Drop)]
@@ -20,13 +23,48 @@ pub struct Run<'a> {
     pub tells_inputs: bool,
     /// The file that keeps the log.
     pub log: Option<&'a str>,
-    /// The file that has the words, or standard output.
-    pub path: Option<&'a str>,
+    /// The file that has the words; `-` is standard output.
+    pub output: &'a str,
 }
 
 /// The name by which the rehearsal opens a file.
-fn opened_name(name: &str) -> &str {
+fn opened_name(name: &str) -> &str
+    ensures { result.now ≡ opened name.now }
+{
     if is_stream(name) { "/dev/stdin" } else { name }
+}
+
+/// Appends how many workers there are, where that is said.
+#[tactic(auto, using(std::proofs::lemmas::Grind::common_steps))]
+fn add_workers(words: &mut Words, workers: Option<&str>) -> Result<(), NoMemory>
+    ensures { OnOk result (words.new ≡ words.old ++ worker_words workers.entry) }
+{
+    let Some(workers) = workers else {
+        return Ok(());
+    };
+    words.add("--workers")?;
+    words.add(workers)
+}
+
+/// Appends the flag for the program's subjects, where they are wanted.
+#[tactic(auto, using(std::proofs::lemmas::Grind::common_steps))]
+fn add_subjects(words: &mut Words, has_subjects: bool) -> Result<(), NoMemory>
+    ensures { OnOk result (words.new ≡ words.old ++ subject_words has_subjects) }
+{
+    if !has_subjects {
+        return Ok(());
+    }
+    words.add("--subjects")
+}
+
+/// Appends the names by which files are opened.
+fn add_names(words: &mut Words, files: &[&str]) -> Result<(), NoMemory>
+    ensures { OnOk result (words.new ≡ words.old ++ opened_names files.now) }
+{
+    for file in files {
+        words.add(opened_name(file))?;
+    }
+    Ok(())
 }
 
 /// Whether this many bytes are all decimal digits.
@@ -46,12 +84,14 @@ impl<'a> Run<'a> {
     }
 
     /// Why these words aren't rehearsed, whatever the files hold.
-    pub fn refusal(&self) -> Option<&'static str> {
+    pub fn refusal(&self) -> Option<&'static str>
+        ensures { result ≡ None → IfSome self.now.log (λ log. is_dash log.now ≡ false) }
+    {
         if let Some(log) = self.log {
             if is_stream(log) {
                 return Some("--log wants a file: standard output has the words");
             }
-            if self.path == Some(log) {
+            if self.output == log {
                 return Some("--log and --output name one file");
             }
         }
@@ -72,36 +112,35 @@ impl<'a> Run<'a> {
     }
 
     /// Whether an output is the scenario or one of the files.
-    pub fn would_replace<R: Files + AllocGlobal>(&self, rt: &R, output: Option<&str>) -> bool {
+    pub fn would_replace<W: Workspace>(&self, workspace: &W, output: &str) -> bool {
         for file in self.files {
-            if would_replace(rt, output, file) {
+            if replaces(workspace, output, file) {
                 return true;
             }
         }
-        would_replace(rt, output, self.scenario)
+        replaces(workspace, output, self.scenario)
     }
 
     /// The words for the rehearsal that stand in front of the names of the scenario's file and of the FILEs.
-    pub fn front_words(&self, alloc: Global) -> Result<Words, NoMemory> {
+    pub fn front_words(&self, alloc: Global) -> Result<Words, NoMemory>
+        ensures { IfOk result (λ words.
+            words ≡ front_of self.now.workers self.now.has_subjects) }
+    {
         let mut words = Words::open(alloc)?;
-        if let Some(workers) = self.workers {
-            words.add("--workers")?;
-            words.add(workers)?;
-        }
-        if self.has_subjects {
-            words.add("--subjects")?;
-        }
+        add_workers(&mut words, self.workers)?;
+        add_subjects(&mut words, self.has_subjects)?;
         words.add("--")?;
         Ok(words)
     }
 
     /// The words for the rehearsal.
-    pub(crate) fn words(&self, alloc: Global) -> Result<Words, NoMemory> {
+    pub(crate) fn words(&self, alloc: Global) -> Result<Words, NoMemory>
+        ensures { IfOk result (λ words. words ≡ words_of self.now.workers
+            self.now.has_subjects self.now.scenario.now self.now.files.now) }
+    {
         let mut words = self.front_words(alloc)?;
         words.add(opened_name(self.scenario))?;
-        for file in self.files {
-            words.add(opened_name(file))?;
-        }
+        add_names(&mut words, self.files)?;
         Ok(words)
     }
 

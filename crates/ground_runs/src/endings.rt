@@ -1,19 +1,18 @@
 //! Why a rehearsal ended, in words.
 
-ghost use Rattle.std.specs.Prelude.{◌≡◌};
-ghost use Rattle.ground_runs.specs.Endings.{status_at, is_kept};
+ghost use Rattle.std.specs.Prelude.{◌≡◌, false};
+ghost use Rattle.ground_runs.specs.Endings.{status_at, is_kept, writes_all};
 
 use crate::asked_run::Run;
 use crate::line_causes::{find_line, line_cause};
 use crate::second_looks::read_again;
 use ground_faults::{PAYLOAD, tell_entry};
-use ground_files::{Status, is_stream, output_name, tell_no_memory};
+use ground_files::{Status, Workspace, is_stream, output_name, tell_no_memory};
 use ground_tools::Trouble;
 use packet_forms::behind;
 use rehearsal::{Report, Status as End};
-use std::fs;
+use std::alloc::Global;
 use std::io::{self, Read};
-use std::rt::Files;
 use table_forms::{TableFault, find_refusal};
 
 /// The reason of a file that is longer than any that is read.
@@ -23,12 +22,15 @@ const TOO_LONG: u8 = 9;
 pub const NOT_GIVEN: u8 = 10;
 
 /// The line of a scenario's text, as far as it can be read again.
-fn line_of<R: Files + AllocGlobal>(rt: &R, path: &str, number: u32) -> Vec<u8> {
-    let mut line = Vec::new(rt.alloc());
-    if !is_stream(path) {
-        if let Ok(mut text) = fs::open(rt, path) {
-            let _found = find_line(&mut text, number, &mut line);
-        }
+fn line_of<W: Workspace>(alloc: Global, workspace: &mut W, path: &str, number: u32) -> Vec<u8>
+    ensures { W.held workspace.new ≡ W.held workspace.old }
+{
+    let mut line = Vec::new(alloc);
+    if is_stream(path) {
+        return line;
+    }
+    if let Ok(mut text) = workspace.open(path) {
+        let _found = find_line(&mut text, number, &mut line);
     }
     line
 }
@@ -61,11 +63,14 @@ fn tell_found<R: Eprint + AllocGlobal>(
 }
 
 /// Tells why a file is refused: in words where it can be read again, and else by the numbers that the rehearsal gave.
-fn tell_file<R: Files + Eprint + AllocGlobal>(
+fn tell_file<R: Eprint + AllocGlobal, W: Workspace>(
     rt: &R,
+    workspace: &mut W,
     path: &str,
     report: &Report,
-) -> io::Result<()> {
+) -> io::Result<()>
+    ensures { W.held workspace.new ≡ W.held workspace.old }
+{
     let reason = report.reason;
     if reason == TOO_LONG {
         return eprintln!(rt; "{path}: it has over 65700 bytes (reason {reason})");
@@ -73,20 +78,23 @@ fn tell_file<R: Files + Eprint + AllocGlobal>(
     if reason == NOT_GIVEN {
         return tell_number(rt, path, report.line, reason);
     }
-    match read_again(rt, path) {
+    match read_again(rt.alloc(), workspace, path) {
         Ok(Some(file)) => tell_found(rt, path, file.as_slice(), report),
         _ => tell_number(rt, path, report.line, reason),
     }
 }
 
 /// Tells why a scenario is refused, and shows the line.
-fn tell_line<R: Files + Eprint + AllocGlobal>(
+fn tell_line<R: Eprint + AllocGlobal, W: Workspace>(
     rt: &R,
+    workspace: &mut W,
     path: &str,
     report: &Report,
-) -> io::Result<()> {
+) -> io::Result<()>
+    ensures { W.held workspace.new ≡ W.held workspace.old }
+{
     let (number, reason) = (report.line, report.reason);
-    let line = line_of(rt, path, number);
+    let line = line_of(rt.alloc(), workspace, path, number);
     let cause = line_cause(reason, line.as_slice());
     match std::str::from_utf8(line.as_slice()) {
         Ok(text) if !text.is_empty() => {
@@ -97,9 +105,11 @@ fn tell_line<R: Files + Eprint + AllocGlobal>(
 }
 
 /// Tells why a file can't be read, as far as another try shows it.
-fn tell_unread<R: Files + Eprint>(rt: &R, path: &str) -> io::Result<()> {
+fn tell_unread<R: Eprint, W: Workspace>(rt: &R, workspace: &mut W, path: &str) -> io::Result<()>
+    ensures { W.held workspace.new ≡ W.held workspace.old }
+{
     let mut piece = [0u8; 1];
-    let error = match fs::open(rt, path) {
+    let error = match workspace.open(path) {
         Ok(mut file) => file.read(&mut piece).err(),
         Err(error) => Some(error),
     };
@@ -127,17 +137,20 @@ fn status_of_end(end: End) -> Status
 /// Who tells why a rehearsal ended.
 pub trait CauseTeller {
     /// Tells why a rehearsal ended, but for a failed write.
-    fn tell_cause<R: Files + Eprint + AllocGlobal>(
+    fn tell_cause<R: Eprint + AllocGlobal, W: Workspace>(
         &self,
         rt: &R,
+        workspace: &mut W,
         report: &Report,
-    ) -> io::Result<()>;
+    ) -> io::Result<()>
+        ensures { W.held workspace.new ≡ W.held workspace.old };
 }
 
 impl CauseTeller for Run<'_> {
-    fn tell_cause<R: Files + Eprint + AllocGlobal>(
+    fn tell_cause<R: Eprint + AllocGlobal, W: Workspace>(
         &self,
         rt: &R,
+        workspace: &mut W,
         report: &Report,
     ) -> io::Result<()> {
         let path = self.input_path(report.file);
@@ -146,30 +159,36 @@ impl CauseTeller for Run<'_> {
             End::WordsRefused => eprintln!(rt;
                 "the words are refused: `--workers` takes 1 to 16, and at most 100 files may follow"
             ),
-            End::FileRefused => tell_file(rt, path, report),
-            End::ScenarioRefused => tell_line(rt, path, report),
-            End::ReadFailed => tell_unread(rt, path),
+            End::FileRefused => tell_file(rt, workspace, path, report),
+            End::ScenarioRefused => tell_line(rt, workspace, path, report),
+            End::ReadFailed => tell_unread(rt, workspace, path),
             End::NoMemory => eprintln!(rt; "memory ran out"),
         }
     }
 }
 
 /// Tells how a rehearsal ended, but for a failed write, and answers the status.
-pub fn tell_end<R: Files + Eprint + AllocGlobal, T: CauseTeller>(
+pub fn tell_end<R: Eprint + AllocGlobal, W: Workspace, T: CauseTeller>(
     rt: &R,
+    workspace: &mut W,
     teller: &T,
     report: &Report,
-) -> Status {
+) -> Status
+    ensures held { W.held workspace.new ≡ W.held workspace.old }
+    ensures status { result ≡ status_at report.now.status }
+{
     // There is no other place to tell it.
-    let _told = teller.tell_cause(rt, report);
+    let _told = teller.tell_cause(rt, workspace, report);
     status_of_end(report.status)
 }
 
 /// Tells what failed as the log was written or told, and answers the status.
-pub fn tell_trouble<R: Eprint>(rt: &R, run: &Run<'_>, trouble: Option<Trouble>) -> Status {
+pub fn tell_trouble<R: Eprint>(rt: &R, run: &Run<'_>, trouble: Option<Trouble>) -> Status
+    ensures { writes_all result ≡ false }
+{
     let place = match trouble {
         Some(Trouble::Memory) => return tell_no_memory(rt),
-        Some(Trouble::Words) => output_name(run.path),
+        Some(Trouble::Words) => output_name(run.output),
         None => run.log_name(),
     };
     let _told = eprintln!(rt; "{place}: it can't be written");

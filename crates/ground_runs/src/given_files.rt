@@ -1,12 +1,14 @@
 //! The FILEs of a rehearsal, as people know them.
 
+ghost use Rattle.std.specs.Prelude.{◌≡◌};
+
 use crate::second_looks::read_again;
 use crate::table_lines::{INDENT, push_table, push_watches};
+use ground_files::Workspace;
 use input_words::GivenFile;
 use packet_forms::{behind, front};
 use row_forms::{push_decimal, push_hex};
 use std::alloc::{AllocError, Global};
-use std::rt::Files;
 use std::str::from_utf8;
 use table_files::{FileImage, TableKind, read_file};
 
@@ -89,19 +91,22 @@ pub fn add_file(
 }
 
 /// The FILEs of these paths. Of one that can't be read again nothing is known but its path.
-pub(crate) fn given_files<R: Files + AllocGlobal>(
-    rt: &R,
+pub(crate) fn given_files<W: Workspace>(
+    alloc: Global,
+    workspace: &mut W,
     paths: &[&str],
-) -> Result<Vec<GivenFile>, AllocError> {
-    let mut files = Vec::new(rt.alloc());
-    let mut kinds = Vec::new(rt.alloc());
+) -> Result<Vec<GivenFile>, AllocError>
+    ensures { W.held workspace.new ≡ W.held workspace.old }
+{
+    let mut files = Vec::new(alloc);
+    let mut kinds = Vec::new(alloc);
     for path in paths {
         let name = path.as_bytes();
-        match read_again(rt, path) {
+        match read_again(alloc, workspace, path) {
             Ok(Some(file)) => {
-                add_file(rt.alloc(), name, file.as_slice(), &mut kinds, &mut files)?;
+                add_file(alloc, name, file.as_slice(), &mut kinds, &mut files)?;
             }
-            _ => add_file(rt.alloc(), name, &[], &mut kinds, &mut files)?,
+            _ => add_file(alloc, name, &[], &mut kinds, &mut files)?,
         }
     }
     Ok(files)

@@ -1,287 +1,144 @@
 //! The verb that rehearses.
 
+ghost use Rattle.std.specs.Prelude.{◌≡◌, ℕ, List, Some, None, IfSome, false};
+ghost use Rattle.rehearsal.specs.Promise.{shelf_use};
+ghost use Rattle.ground_files.specs.Workspaces.{Held, is_dash};
+ghost use Rattle.ground_files.specs.declared.verb_status.Status.TheVariants as statuses;
+ghost use Rattle.ground_runs.specs.AskedWords.{words_of};
+ghost use Rattle.ground_runs.specs.Endings.{is_kept, IsEarly};
+ghost use Rattle.ground_runs.specs.KeptLogs.{kept_run, LeavesLog, SettledAs};
+
 use crate::asked_run::Run;
-use crate::endings::{CauseTeller, is_whole, tell_end, tell_trouble};
-use crate::rehearsing::rehearse_on;
+use crate::draft_sinks::DraftSink;
+use crate::draft_tellers::DraftTeller;
+use crate::endings::{CauseTeller, is_whole};
+use crate::rehearsals::{Rehearsal, Rehearsed, run_both, run_drill};
+use crate::run_ends::Ending;
 use crate::told_scenarios::scenario_teller;
-use fsw_outside::{FileShelf, Shelf, StdSink};
+use fsw_outside::{Shelf, StdSink};
 use ground_files::{
-    Output, PartFile, Status, open_output, output_name, settle, tell_no_memory, tell_replaced,
-    tell_unwritten,
+    Status, Workspace, output_name, status_made, tell_no_memory, tell_replaced, tell_unwritten,
 };
-use ground_summaries::{refused_allow, summary_of, unwanted_of};
-use ground_tools::{FrameTeller, ToldLog, Trouble};
-use rehearsal::{Report, Status as End, Words};
-use std::io::{self, Printer, Write};
-use std::rt::Files;
+use ground_summaries::refused_allow;
+use ground_tools::FrameTeller;
+use std::io;
 use std::thread::Threads;
 
-/// Writes the summary behind the words of a rehearsal whose log was written whole.
-fn sum_up<R, L, W, F>(
+/// Moves the outputs to their places where they are whole, and answers the status.
+fn settle_both<R, W>(
     rt: &R,
-    frames: u32,
-    told: &mut ToldLog<StdSink<L>, StdSink<W>, F>,
-) -> Result<(), Trouble>
-where
-    R: AllocGlobal,
-    L: Write + Drop,
-    W: Write + Drop,
-    F: FrameTeller + Drop,
-{
-    match summary_of(rt.alloc(), told.survey(), frames) {
-        Ok(summary) => told.say(summary.as_slice()),
-        Err(_) => Err(Trouble::Memory),
-    }
-}
-
-/// Tells what came that no `--allow` names, and answers the status.
-fn judge<R, L, W, F>(
-    rt: &R,
-    run: &Run<'_>,
-    told: &ToldLog<StdSink<L>, StdSink<W>, F>,
-) -> Result<Status, Trouble>
-where
-    R: Eprint + AllocGlobal,
-    L: Write + Drop,
-    W: Write + Drop,
-    F: FrameTeller + Drop,
-{
-    if !run.is_strict {
-        return Ok(Status::Done);
-    }
-    let Ok(unwanted) = unwanted_of(rt.alloc(), told.survey(), run.allowed) else {
-        return Err(Trouble::Memory);
-    };
-    if unwanted.is_empty() {
-        return Ok(Status::Done);
-    }
-    let text = std::str::from_utf8(unwanted.as_slice()).unwrap_or("");
-    let _told = eprint!(rt; "{text}");
-    Ok(Status::Unwanted)
-}
-
-/// Tells what is left of a rehearsal that ended so, and sums it up.
-fn end_told<R, L, W, F>(
-    rt: &R,
-    run: &Run<'_>,
-    frames: u32,
-    status: Status,
-    told: &mut ToldLog<StdSink<L>, StdSink<W>, F>,
-) -> Result<Status, Trouble>
-where
-    R: Eprint + AllocGlobal,
-    L: Write + Drop,
-    W: Write + Drop,
-    F: FrameTeller + Drop,
-{
-    told.tell_rest(frames)?;
-    sum_up(rt, frames, told)?;
-    let judged = judge(rt, run, told)?;
-    if status == Status::Done {
-        Ok(judged)
-    } else {
-        Ok(status)
-    }
-}
-
-/// Ends a rehearsal: tells why it ended, or sums it up.
-fn end_run<R, T, L, W, F>(
-    rt: &R,
-    run: &Run<'_>,
-    teller: &T,
-    report: &Report,
-    told: &mut ToldLog<StdSink<L>, StdSink<W>, F>,
+    workspace: &mut W,
+    log: &str,
+    output: &str,
+    rehearsed: Rehearsed<DraftSink<W>, W::Draft>,
 ) -> Status
 where
-    R: Files + Eprint + AllocGlobal,
-    T: CauseTeller,
-    L: Write + Drop,
-    W: Write + Drop,
-    F: FrameTeller + Drop,
+    R: Eprint,
+    W: DraftTeller,
+    ensures { (before : Held) (bytes text : List ℕ) → W.held workspace.old ≡ Some before
+        → W.Draft.contents rehearsed.log.draft ≡ Some bytes
+        → W.Draft.contents rehearsed.words ≡ Some text
+        → SettledAs log.now bytes output.now text
+        (is_kept rehearsed.ending.status rehearsed.ending.frames) rehearsed.ending.status
+        result before (W.held workspace.new) }
 {
-    let trouble = told.trouble();
-    if trouble.is_some() || report.status == End::WriteFailed {
-        return tell_trouble(rt, run, trouble);
+    let Rehearsed {
+        ending,
+        log: kept,
+        words,
+    } = rehearsed;
+    let is_kept = is_whole(ending.status, ending.frames);
+    if let Err(error) = workspace.settle(log, kept.into_draft(), is_kept) {
+        let _settled = workspace.settle(output, words, false);
+        return tell_unwritten(rt, log, &error);
     }
-    let status = tell_end(rt, teller, report);
-    if status != Status::Done && report.frames == 0 {
-        return status;
+    if let Err(error) = workspace.settle(output, words, is_kept) {
+        return tell_unwritten(rt, output_name(output), &error);
     }
-    match end_told(rt, run, report.frames, status, told) {
-        Ok(status) => status,
-        Err(trouble) => tell_trouble(rt, run, Some(trouble)),
-    }
+    ending.status
 }
 
-/// How a rehearsal ended, and of how many frames the log was written.
-#[derive(Clone, Copy)]
-struct Ending {
-    status: Status,
-    frames: u32,
-}
-
-impl Ending {
-    /// Memory ran out before the rehearsal began.
-    fn without_memory<R: Eprint>(rt: &R) -> Ending {
-        Ending {
-            status: tell_no_memory(rt),
-            frames: 0,
-        }
-    }
-}
-
-/// Tells how the rehearsal of a generated scenario ended, and answers the status.
-fn end_drill<R: Files + Eprint + AllocGlobal, T: CauseTeller>(
+/// Rehearses into the file that keeps the log, and into an output for the words.
+fn keep_log<R, W, S, T, F>(
     rt: &R,
-    run: &Run<'_>,
-    teller: &T,
-    report: &Report,
-) -> Status {
-    if report.status == End::WriteFailed {
-        return tell_trouble(rt, run, Some(Trouble::Words));
-    }
-    tell_end(rt, teller, report)
-}
-
-/// What is rehearsed: the words for it, a shelf that has the files that they name, who tells why it ended, and who tells what its frames were
-/// given.
-#[derive(Drop)]
-pub struct Rehearsal<S: Shelf + Drop, T: CauseTeller + Drop, F: FrameTeller + Drop> {
-    pub words: Words,
-    pub shelf: S,
-    pub teller: T,
-    pub frames: F,
-}
-
-/// Rehearses a generated scenario into the words' output, where its summary is written as it is.
-fn run_drill<R, S, T, W, F>(rt: &R, run: &Run<'_>, what: Rehearsal<S, T, F>, out: W) -> Ending
-where
-    R: Threads + Sync + Files + Eprint + AllocGlobal,
-    S: Shelf + Drop,
-    T: CauseTeller + Drop,
-    W: Write + Drop,
-    F: FrameTeller + Drop,
-{
-    let mut what = what;
-    match rehearse_on(rt, &what.words, &mut what.shelf, &mut StdSink::new(out)) {
-        Ok(report) => Ending {
-            status: end_drill(rt, run, &what.teller, &report),
-            frames: report.frames,
-        },
-        Err(_) => Ending::without_memory(rt),
-    }
-}
-
-/// Rehearses into both outputs.
-fn run_both<R, S, T, L, W, F>(
-    rt: &R,
+    workspace: &mut W,
     run: &Run<'_>,
     what: Rehearsal<S, T, F>,
-    log: L,
-    words: W,
-) -> Ending
-where
-    R: Threads + Sync + Files + Eprint + AllocGlobal,
-    S: Shelf + Drop,
-    T: CauseTeller + Drop,
-    L: Write + Drop,
-    W: Write + Drop,
-    F: FrameTeller + Drop,
-{
-    let Rehearsal {
-        words: asked,
-        shelf,
-        teller,
-        frames,
-    } = what;
-    let mut shelf = shelf;
-    let mut told = ToldLog::new(
-        rt.alloc(),
-        run.epoch,
-        StdSink::new(log),
-        StdSink::new(words),
-        frames,
-    );
-    match rehearse_on(rt, &asked, &mut shelf, &mut told) {
-        Ok(report) => Ending {
-            status: end_run(rt, run, &teller, &report, &mut told),
-            frames: report.frames,
-        },
-        Err(_) => Ending::without_memory(rt),
-    }
-}
-
-/// The outputs of a rehearsal, which are files where a part of them stands beside its place.
-#[derive(Drop)]
-struct Parts<'a, R: Files> {
-    log: Option<PartFile<'a, R>>,
-    words: Option<PartFile<'a, R>>,
-}
-
-impl<'a, R: Files + Eprint + AllocGlobal> Parts<'a, R> {
-    /// Moves the outputs to their places where they are whole, and answers the status.
-    fn settle_all(self, rt: &R, run: &Run<'_>, ending: Ending) -> Status {
-        let is_kept = is_whole(ending.status, ending.frames);
-        let Parts { log, words } = self;
-        if let Err(error) = settle(log, is_kept) {
-            let _settled = settle(words, false);
-            return tell_unwritten(rt, run.log_name(), &error);
-        }
-        if let Err(error) = settle(words, is_kept) {
-            return tell_unwritten(rt, output_name(run.path), &error);
-        }
-        ending.status
-    }
-}
-
-/// Rehearses into an output for the words, and opens the one for the log.
-fn carry_out<'a, R, S, T, W, F>(
-    rt: &'a R,
-    run: &Run<'_>,
-    what: Rehearsal<S, T, F>,
-    part: Option<PartFile<'a, R>>,
-    words: W,
+    log: &str,
+    words: W::Draft,
 ) -> Status
 where
-    R: Threads + Sync + Files + Print + Eprint + AllocGlobal,
+    R: Threads + Sync + Eprint + AllocGlobal,
+    W: DraftTeller,
     S: Shelf + Drop,
     T: CauseTeller + Drop,
-    W: Write + Drop,
     F: FrameTeller + Drop,
+    requires { is_dash log.now ≡ false }
+    ensures { (before : Held) → W.held workspace.old ≡ Some before → LeavesLog (kept_run
+        what.words (shelf_use S.told S.is_open S.faults S.mark what.shelf) log.now
+        run.now.output.now) result before (W.held workspace.new) }
 {
-    match open_log(rt, run) {
-        Ok((log_part, log)) => {
-            let ending = if run.is_drill() {
-                run_drill(rt, run, what, words)
-            } else {
-                run_both(rt, run, what, log, words)
-            };
-            let parts = Parts {
-                log: log_part,
-                words: part,
-            };
-            parts.settle_all(rt, run, ending)
-        }
+    let draft = match workspace.begin(log) {
+        Ok(draft) => draft,
         Err(error) => {
-            let _settled = settle(part, false);
-            tell_unwritten(rt, run.log_name(), &error)
+            let _settled = workspace.settle(run.output, words, false);
+            return tell_unwritten(rt, log, &error);
         }
-    }
+    };
+    let sink = DraftSink::<W>::new(draft);
+    let rehearsed = run_both(rt, workspace, run, what, sink, words);
+    settle_both(rt, workspace, log, run.output, rehearsed)
 }
 
-/// Opens the output that keeps the log, where one is named.
-fn open_log<'a, R: Files + Print + AllocGlobal>(
-    rt: &'a R,
+/// Rehearses into an output for the words, and keeps no log.
+fn run_alone<R, W, S, T, F>(
+    rt: &R,
+    workspace: &mut W,
     run: &Run<'_>,
-) -> io::Result<(Option<PartFile<'a, R>>, Output<Printer<'a, R>, R::File>)> {
-    match run.log {
-        Some(_) => open_output(rt, run.log),
-        None => Ok((None, Output::Nowhere)),
+    what: Rehearsal<S, T, F>,
+    words: W::Draft,
+) -> (Ending, W::Draft)
+where
+    R: Threads + Sync + Eprint + AllocGlobal,
+    W: DraftTeller,
+    S: Shelf + Drop,
+    T: CauseTeller + Drop,
+    F: FrameTeller + Drop,
+    ensures { W.held workspace.new ≡ W.held workspace.old }
+{
+    if run.is_drill() {
+        return run_drill(rt, workspace, run, what, words);
     }
+    let nowhere = StdSink::new(io::sink());
+    let rehearsed = run_both(rt, workspace, run, what, nowhere, words);
+    (rehearsed.ending, rehearsed.words)
+}
+
+/// Rehearses, and moves the words to their place where they are whole.
+fn keep_words<R, W, S, T, F>(
+    rt: &R,
+    workspace: &mut W,
+    run: &Run<'_>,
+    what: Rehearsal<S, T, F>,
+    words: W::Draft,
+) -> Status
+where
+    R: Threads + Sync + Eprint + AllocGlobal,
+    W: DraftTeller,
+    S: Shelf + Drop,
+    T: CauseTeller + Drop,
+    F: FrameTeller + Drop,
+{
+    let (ending, words) = run_alone(rt, workspace, run, what, words);
+    let is_kept = is_whole(ending.status, ending.frames);
+    let settled = workspace.settle(run.output, words, is_kept);
+    status_made(rt, output_name(run.output), settled, ending.status)
 }
 
 /// Says which words of `--allow` name nothing, if any do, and answers the status.
-fn refuse_allow<R: Eprint + AllocGlobal>(rt: &R, allowed: &[&str]) -> Option<Status> {
+fn refuse_allow<R: Eprint + AllocGlobal>(rt: &R, allowed: &[&str]) -> Option<Status>
+    ensures { IfSome result IsEarly }
+{
     match refused_allow(rt.alloc(), allowed) {
         Ok(Some(told)) => {
             let text = std::str::from_utf8(told.as_slice()).unwrap_or("");
@@ -293,55 +150,93 @@ fn refuse_allow<R: Eprint + AllocGlobal>(rt: &R, allowed: &[&str]) -> Option<Sta
     }
 }
 
+/// The output that is read here, if one is.
+fn replaced<'a, W: Workspace>(workspace: &W, run: &Run<'a>) -> Option<&'a str> {
+    if let Some(log) = run.log {
+        if run.would_replace(workspace, log) {
+            return Some(log);
+        }
+    }
+    if run.would_replace(workspace, run.output) {
+        return Some(run.output);
+    }
+    None
+}
+
 /// Says why words of a rehearsal are refused, if they are, and answers the status.
-fn refuse<R: Files + Eprint + AllocGlobal>(rt: &R, run: &Run<'_>) -> Option<Status> {
+fn refuse<R: Eprint + AllocGlobal, W: Workspace>(
+    rt: &R,
+    workspace: &W,
+    run: &Run<'_>,
+) -> Option<Status>
+    ensures early { IfSome result IsEarly }
+    ensures log { result ≡ None → IfSome run.now.log (λ log. is_dash log.now ≡ false) }
+{
     if let Some(cause) = run.refusal() {
         let _told = eprintln!(rt; "{cause}");
         return Some(Status::WordsRefused);
     }
-    for output in [run.log, run.path] {
-        if run.would_replace(rt, output) {
-            tell_replaced(rt, output);
-            return Some(Status::WordsRefused);
-        }
+    if let Some(output) = replaced(workspace, run) {
+        tell_replaced(rt, output);
+        return Some(Status::WordsRefused);
     }
     refuse_allow(rt, run.allowed)
 }
 
-/// Rehearses this, as the words ask for it: the words of the log go to `path`, or standard output, and the log is kept in the file `log`,
-/// where one is named.
-pub fn run_rehearsal<R, S, T, F>(rt: &R, run: &Run<'_>, what: Rehearsal<S, T, F>) -> Status
+/// Rehearses this, as the words ask for it: the words of the log go to `output`, and the log is kept in the file `log`, where one is named.
+pub fn run_rehearsal<R, W, S, T, F>(
+    rt: &R,
+    workspace: &mut W,
+    run: &Run<'_>,
+    what: Rehearsal<S, T, F>,
+) -> Status
 where
-    R: Threads + Sync + Files + Print + Eprint + AllocGlobal,
+    R: Threads + Sync + Eprint + AllocGlobal,
+    W: DraftTeller,
     S: Shelf + Drop,
     T: CauseTeller + Drop,
     F: FrameTeller + Drop,
+    ensures { (before : Held) → W.held workspace.old ≡ Some before
+        → IfSome run.now.log (λ log. LeavesLog (kept_run what.words
+        (shelf_use S.told S.is_open S.faults S.mark what.shelf) log.now run.now.output.now)
+        result before (W.held workspace.new)) }
 {
-    if let Some(status) = refuse(rt, run) {
+    if let Some(status) = refuse(rt, workspace, run) {
         return status;
     }
-    match open_output(rt, run.path) {
-        Ok((part, words)) => carry_out(rt, run, what, part, words),
-        Err(error) => tell_unwritten(rt, output_name(run.path), &error),
+    let words = match workspace.begin(run.output) {
+        Ok(words) => words,
+        Err(error) => return tell_unwritten(rt, output_name(run.output), &error),
+    };
+    match run.log {
+        Some(log) => keep_log(rt, workspace, run, what, log, words),
+        None => keep_words(rt, workspace, run, what, words),
     }
 }
 
-/// Rehearses the scenario and the files that the words name.
-pub fn run_scenario<R>(rt: &R, run: &Run<'_>) -> Status
+/// Rehearses the scenario and the files that the words name, which the shelf has.
+pub fn run_scenario<R, W, S>(rt: &R, workspace: &mut W, shelf: S, run: &Run<'_>) -> Status
 where
-    R: Threads + Sync + Files + Print + Eprint + AllocGlobal,
+    R: Threads + Sync + Eprint + AllocGlobal,
+    W: DraftTeller,
+    S: Shelf + Drop,
+    ensures { (before : Held) → W.held workspace.old ≡ Some before
+        → IfSome run.now.log (λ log. LeavesLog (kept_run (words_of run.now.workers
+        run.now.has_subjects run.now.scenario.now run.now.files.now)
+        (shelf_use S.told S.is_open S.faults S.mark shelf) log.now run.now.output.now)
+        result before (W.held workspace.new)) }
 {
     let Ok(words) = run.words(rt.alloc()) else {
         return tell_no_memory(rt);
     };
-    let Ok(frames) = scenario_teller(rt, run) else {
+    let Ok(frames) = scenario_teller(rt.alloc(), workspace, run) else {
         return tell_no_memory(rt);
     };
     let what = Rehearsal {
         words,
-        shelf: FileShelf::new(rt),
+        shelf,
         teller: *run,
         frames,
     };
-    run_rehearsal(rt, run, what)
+    run_rehearsal(rt, workspace, run, what)
 }

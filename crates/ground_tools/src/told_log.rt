@@ -75,6 +75,14 @@ impl<L: Sink + Drop, W: Sink + Drop, F: FrameTeller + Drop> ToldLog<L, W, F> {
         self.trouble
     }
 
+    /// The sinks of the log and of the words, where no more comes.
+    pub fn into_sinks(self) -> (L, W)
+        ensures { result.0 ≡ self.log }
+    {
+        let ToldLog { log, words, .. } = self;
+        (log, words)
+    }
+
     /// Writes a text behind the words.
     pub fn say(&mut self, text: &[u8]) -> Result<(), Trouble>
         ensures log { self.new.log ≡ self.old.log }

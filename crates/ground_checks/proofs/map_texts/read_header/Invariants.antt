@@ -1,8 +1,9 @@
-use Rattle.timed_plans.proofs.CheckLemmas.{Feeding, work}
+use Rattle.timed_plans.proofs.CheckLemmas.{work}
+use Rattle.ground_checks.proofs.MapLemmas.{Heading}
 use Rattle.ground_checks.proofs.map_texts.read_header.Given as goal
 
 abbrev pub invariant-items : goal.invariant-items
-invariant-items l = Feeding l.reader l.rest l.text
+invariant-items l = Heading l.reader l.rest l.text
 
 abbrev pub decreases-items : goal.decreases-items
 decreases-items l = work l.reader l.rest

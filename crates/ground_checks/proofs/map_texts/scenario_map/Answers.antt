@@ -1,8 +1,8 @@
 use Rattle.ground_checks.proofs.MapLemmas.{map_is}
 use Rattle.ground_checks.proofs.map_texts.scenario_map.Goals as goal
 
-pub returns-in-Ok-read_header : goal.returns-in-Ok-read_header
-returns-in-Ok-read_header c =
-    let h = c.in-Ok-read_header.ensures in
+pub returns-in-Ok-read_header-clause-said : goal.returns-in-Ok-read_header-clause-said
+returns-in-Ok-read_header-clause-said c =
+    let h = c.in-Ok-read_header.ensures.given in
     let is = c.header.ensures (record { bytes = h.front; closed = h.closed }) h.gave h.stands h.some_items in
     map_is _ c.args.text.now _ _ is.0 h is.1

@@ -1,0 +1,116 @@
+//! Rehearsals into outputs.
+
+ghost use Rattle.std.specs.Prelude.{◌≡◌, true};
+ghost use Rattle.rehearsal.specs.Promise.{shelf_use};
+ghost use Rattle.ground_runs.specs.Endings.{writes_all};
+ghost use Rattle.ground_runs.specs.KeptLogs.{WritesLog};
+
+use crate::asked_run::Run;
+use crate::draft_sinks::DraftSink;
+use crate::draft_tellers::DraftTeller;
+use crate::endings::CauseTeller;
+use crate::rehearsing::rehearse_on;
+use crate::run_ends::{Ending, end_drill, end_run};
+use fsw_outside::{Shelf, Sink};
+use ground_tools::{FrameTeller, ToldLog};
+use rehearsal::Words;
+use std::thread::Threads;
+
+/// What is rehearsed: the words for it, a shelf that has the files that they name, who tells why it ended, and who tells what its frames were
+/// given.
+#[derive(Drop)]
+pub struct Rehearsal<S: Shelf + Drop, T: CauseTeller + Drop, F: FrameTeller + Drop> {
+    pub words: Words,
+    pub shelf: S,
+    pub teller: T,
+    pub frames: F,
+}
+
+/// How a rehearsal ended, the output of its log, and the draft of the words that were made of it.
+#[derive(Drop)]
+pub(crate) struct Rehearsed<L: Drop, D: Drop> {
+    pub(crate) ending: Ending,
+    pub(crate) log: L,
+    pub(crate) words: D,
+}
+
+/// Rehearses a generated scenario into the words' output, where its summary is written as it is.
+pub(crate) fn run_drill<R, W, S, T, F>(
+    rt: &R,
+    workspace: &mut W,
+    run: &Run<'_>,
+    what: Rehearsal<S, T, F>,
+    out: W::Draft,
+) -> (Ending, W::Draft)
+where
+    R: Threads + Sync + Eprint + AllocGlobal,
+    W: DraftTeller,
+    S: Shelf + Drop,
+    T: CauseTeller + Drop,
+    F: FrameTeller + Drop,
+    ensures { W.held workspace.new ≡ W.held workspace.old }
+{
+    let mut what = what;
+    let mut sink = DraftSink::<W>::new(out);
+    let Ok(report) = rehearse_on(rt, &what.words, &mut what.shelf, &mut sink) else {
+        return (Ending::without_memory(rt), sink.into_draft());
+    };
+    let status = end_drill(rt, workspace, run, &what.teller, &report);
+    let frames = report.frames;
+    (Ending { status, frames }, sink.into_draft())
+}
+
+/// A rehearsal that ended so, and its outputs.
+fn end_both<L, W, F>(ending: Ending, told: ToldLog<L, DraftSink<W>, F>) -> Rehearsed<L, W::Draft>
+where
+    L: Sink + Drop,
+    W: DraftTeller,
+    F: FrameTeller + Drop,
+    ensures ending { result.ending ≡ ending }
+    ensures log { result.log ≡ told.log }
+{
+    let (log, words) = told.into_sinks();
+    Rehearsed {
+        ending,
+        log,
+        words: words.into_draft(),
+    }
+}
+
+/// Rehearses into both outputs.
+pub(crate) fn run_both<R, W, S, T, L, F>(
+    rt: &R,
+    workspace: &mut W,
+    run: &Run<'_>,
+    what: Rehearsal<S, T, F>,
+    log: L,
+    words: W::Draft,
+) -> Rehearsed<L, W::Draft>
+where
+    R: Threads + Sync + Eprint + AllocGlobal,
+    W: DraftTeller,
+    S: Shelf + Drop,
+    T: CauseTeller + Drop,
+    L: Sink + Drop,
+    F: FrameTeller + Drop,
+    ensures held { W.held workspace.new ≡ W.held workspace.old }
+    ensures log { writes_all result.ending.status ≡ true → WritesLog what.words
+        (shelf_use S.told S.is_open S.faults S.mark what.shelf) L.held L.faults log result.log
+        result.ending.status result.ending.frames }
+{
+    let Rehearsal {
+        words: asked,
+        shelf,
+        teller,
+        frames,
+    } = what;
+    let mut shelf = shelf;
+    let sink = DraftSink::<W>::new(words);
+    let mut told = ToldLog::new(rt.alloc(), run.epoch, log, sink, frames);
+    let Ok(report) = rehearse_on(rt, &asked, &mut shelf, &mut told) else {
+        return end_both(Ending::without_memory(rt), told);
+    };
+    let status = end_run(rt, workspace, run, &teller, &report, &mut told);
+    let frames = report.frames;
+    end_both(Ending { status, frames }, told)
+}
