@@ -1,5 +1,5 @@
 -- The headers of a file: the words of what nothing is asked of, and the bytes of all.
-use Rattle.std.specs.Prelude.{ℕ, ◌+◌, ◌==◌, if◌then◌else◌, List, [], ◌∷◌, ◌++◌, length, take, drop, replicate, None, Result, Ok, Err}
+use Rattle.std.specs.Prelude.{ℕ, ◌==◌, if◌then◌else◌, List, [], ◌∷◌, ◌++◌, length, take, drop, replicate, None, Result, Ok, Err}
 use Rattle.std.specs.List.{list_all}
 use Rattle.packet_forms.specs.Numbers.{be32_bytes}
 use Rattle.row_forms.specs.declared.field.Field.{Field}
