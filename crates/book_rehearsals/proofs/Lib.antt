@@ -1,3 +1,4 @@
 mod NumberedLemmas
 mod ShelfLemmas
 mod BookLemmas
+mod LeftLemmas

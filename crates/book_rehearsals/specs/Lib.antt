@@ -1,4 +1,5 @@
 pub mod Shelves
 pub mod ShelvedBooks
 pub mod Rehearsed
+pub mod LeftByBooks
 pub mod Worked

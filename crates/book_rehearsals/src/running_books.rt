@@ -1,5 +1,10 @@
 //! The verb that rehearses a book.
 
+ghost use Rattle.std.specs.Prelude.{◌≡◌, true, Some, IfSome, IfOk, IfErr};
+ghost use Rattle.ground_files.specs.Workspaces.{Held};
+ghost use Rattle.ground_runs.specs.KeptLogs.{kept_run, LeavesLog};
+ghost use Rattle.book_rehearsals.specs.LeftByBooks.{asked_by, memory_use, ShelvesText, LeavesBook, is_unrehearsed};
+
 use crate::book_causes::BookTeller;
 use crate::epochs::epoch_of;
 use crate::shelved_books::{ShelvedBook, shelve_book};
@@ -13,18 +18,59 @@ use rehearsal::Words;
 use std::alloc::{AllocError, Global};
 use std::thread::Threads;
 
+/// A book on a shelf, and the words for its rehearsal.
+#[derive(Drop)]
+struct ReadyBook<'a> {
+    shelved: ShelvedBook<'a>,
+    words: Words,
+}
+
 /// The book that a text says on a shelf, whose names are put behind the words.
-fn shelved<'a>(
-    alloc: Global,
-    text: &'a [u8],
-    words: &mut Words,
-) -> Result<ShelvedBook<'a>, Refusal> {
+fn shelved<'a>(alloc: Global, text: &'a [u8], words: &mut Words) -> Result<ShelvedBook<'a>, Refusal>
+    ensures { IfOk result (λ shelved. ShelvesText text.now words.old shelved.shelf words.new) }
+{
     if text.len() > MOST_BYTES {
         return Err(Refusal::Long);
     }
     match shelve_book(alloc, &book_forms(), text, words) {
         Ok(shelved) => Ok(shelved),
         Err(error) => Err(Refusal::from(error)),
+    }
+}
+
+/// Tells why a book is refused, and answers the status: it is a refused file, unless memory ran out.
+fn refuse_book<R: Eprint + AllocGlobal>(
+    rt: &R,
+    name: &str,
+    text: &[u8],
+    refusal: &Refusal,
+) -> Status
+    ensures { is_unrehearsed result ≡ true }
+{
+    if tell_refusal(rt, name, text, refusal) == Status::NoMemory {
+        Status::NoMemory
+    } else {
+        Status::FileRefused
+    }
+}
+
+/// Puts the book that a text says on a shelf, and makes the words for its rehearsal; or tells why it doesn't, and answers the status.
+fn ready_book<'a, R: Eprint + AllocGlobal>(
+    rt: &R,
+    run: &Run<'_>,
+    text: &'a [u8],
+) -> Result<ReadyBook<'a>, Status>
+    ensures ready { IfOk result (λ ready. ShelvesText text.now (asked_by run.now).front
+        ready.shelved.shelf ready.words) }
+    ensures unrehearsed { IfErr result (λ status. is_unrehearsed status ≡ true) }
+{
+    let Ok(front) = run.front_words(rt.alloc()) else {
+        return Err(tell_no_memory(rt));
+    };
+    let mut words = front;
+    match shelved(rt.alloc(), text, &mut words) {
+        Ok(shelved) => Ok(ReadyBook { shelved, words }),
+        Err(refusal) => Err(refuse_book(rt, run.scenario, text, &refusal)),
     }
 }
 
@@ -54,26 +100,28 @@ fn book_frames<'a>(
     Ok(Some(teller))
 }
 
-/// Rehearses the book that a text says.
-fn run_text<R, W>(rt: &R, workspace: &mut W, run: &Run<'_>, text: &[u8]) -> Status
+/// Rehearses a book that is on a shelf, by the words for it; why that ended is told by the lines of its text.
+fn rehearse_ready<R, W>(
+    rt: &R,
+    workspace: &mut W,
+    run: &Run<'_>,
+    text: &[u8],
+    ready: ReadyBook<'_>,
+) -> Status
 where
     R: Threads + Sync + Eprint + AllocGlobal,
     W: DraftTeller,
+    ensures { (before : Held) → W.held workspace.old ≡ Some before → IfSome run.now.log
+        (λ log. LeavesLog (kept_run ready.entry.words (memory_use ready.entry.shelved.shelf)
+        log.now run.now.output.now) result before (W.held workspace.new)) }
 {
-    let name = run.scenario;
-    let Ok(front) = run.front_words(rt.alloc()) else {
-        return tell_no_memory(rt);
-    };
-    let mut words = front;
-    let ShelvedBook { book, shelf } = match shelved(rt.alloc(), text, &mut words) {
-        Ok(shelved) => shelved,
-        Err(refusal) => return tell_refusal(rt, name, text, &refusal),
-    };
+    let ReadyBook { shelved, words } = ready;
+    let ShelvedBook { book, shelf } = shelved;
     let scenario = book.scenario.as_slice();
     let mut timed = *run;
     timed.epoch = run.epoch.or(epoch_of(scenario));
     let teller = BookTeller {
-        name,
+        name: run.scenario,
         text,
         scenario,
     };
@@ -95,6 +143,9 @@ pub fn run_book<R, W>(rt: &R, workspace: &mut W, run: &Run<'_>) -> Status
 where
     R: Threads + Sync + Eprint + AllocGlobal,
     W: DraftTeller,
+    ensures { (before : Held) → W.held workspace.old ≡ Some before
+        → IfSome run.now.log (λ log. LeavesBook (asked_by run.now) log.now result before
+        (W.held workspace.new)) }
 {
     let name = run.scenario;
     if !run.files.is_empty() {
@@ -105,5 +156,9 @@ where
         Ok(text) => text,
         Err(error) => return tell_unread(rt, name, &error),
     };
-    run_text(rt, workspace, run, text.as_slice())
+    let text = text.as_slice();
+    match ready_book(rt, run, text) {
+        Ok(ready) => rehearse_ready(rt, workspace, run, text, ready),
+        Err(status) => status,
+    }
 }
