@@ -1,1 +1,2 @@
+mod ComingLemmas
 mod MakingLemmas

@@ -14,12 +14,12 @@ use Rattle.log_lines.proofs.LogLemmas.{gave_all}
 use Rattle.ground_logs.specs.declared.log_maker.LogMaker.{LogMaker}
 use Rattle.ground_logs.specs.Making.{good_lines, lines_of, are_good, is_log, AreMade, Stands, Takes, Appended, Writes, IsWritten, IsMadeOf}
 
-good_lines_behind : (said given : List Said) → good_lines (said ++ given) ≡ good_lines said ++ good_lines given
+pub good_lines_behind : (said given : List Said) → good_lines (said ++ given) ≡ good_lines said ++ good_lines given
 good_lines_behind [] given = refl
 good_lines_behind (Ok line ∷ said) given = ap (λ (lines : List LogLine). line ∷ lines) (good_lines_behind said given)
 good_lines_behind (Err fault ∷ said) given = good_lines_behind said given
 
-are_good_behind : (said given : List Said) → are_good (said ++ given) ≡ (are_good said && are_good given)
+pub are_good_behind : (said given : List Said) → are_good (said ++ given) ≡ (are_good said && are_good given)
 are_good_behind [] given = refl
 are_good_behind (Ok line ∷ said) given = are_good_behind said given
 are_good_behind (Err fault ∷ said) given = refl
