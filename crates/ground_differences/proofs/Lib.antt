@@ -1,2 +1,3 @@
 mod DifferenceLemmas
+mod FrameLemmas
 mod WrittenLemmas

@@ -1,5 +1,8 @@
 //! A log that is read frame by frame.
 
+ghost use Rattle.std.specs.Prelude.{◌≡◌, ℕ, Bool, List, Some, IfOk, OnOk};
+ghost use Rattle.log_lines.specs.declared.line.LogLine.{LogLine};
+
 use ground_files::Fault;
 use ground_logs::{GoodLines, Telling};
 use log_lines::LogLine;
@@ -19,8 +22,14 @@ pub struct FrameSource<'a, L: Read + Drop, E: Eprint> {
 }
 
 impl<'a, L: Read + Drop, E: Eprint> FrameSource<'a, L, E> {
+    ghost use Rattle.ground_logs.specs.Making.{lines_of, is_log};
+    ghost use Rattle.ground_differences.specs.Frames.{HasLeft, ReadsFrame};
+
     /// A log that is read up to its first line.
-    pub fn begin(telling: &'a Telling<'a, E>, log: L) -> Result<FrameSource<'a, L, E>, Fault> {
+    pub fn begin(telling: &'a Telling<'a, E>, log: L) -> Result<FrameSource<'a, L, E>, Fault>
+        ensures { IfOk result (λ source. (text : List ℕ) → L.remaining log ≡ Some text
+            → HasLeft L.remaining source (lines_of text) (is_log text)) }
+    {
         let mut source = GoodLines::new(telling, log);
         let next = source.next()?;
         let lines = Vec::new(telling.alloc);
@@ -32,31 +41,42 @@ impl<'a, L: Read + Drop, E: Eprint> FrameSource<'a, L, E> {
     }
 
     /// The line behind those that were read; none at the log's end.
-    pub fn next(&self) -> Option<LogLine> {
+    pub fn next(&self) -> Option<LogLine>
+        ensures { result ≡ self.now.next }
+    {
         self.next
     }
 
     /// The lines that `read_frame` read.
-    pub fn lines(&self) -> &[LogLine] {
+    pub fn lines(&self) -> &[LogLine]
+        ensures { result.now ≡ self.now.lines.items }
+    {
         self.lines.as_slice()
     }
 
     /// Whether all lines so far were a log's.
-    pub fn is_whole(&self) -> bool {
+    pub fn is_whole(&self) -> bool
+        ensures { result ≡ self.now.source.is_whole }
+    {
         self.source.is_whole()
     }
 
-    /// Reads the lines of this frame that come next.
-    pub fn read_frame(&mut self, frame: u32) -> Result<(), Fault> {
+    /// Reads the lines of this frame that come next, at most 4,096 of them.
+    pub fn read_frame(&mut self, frame: u32) -> Result<(), Fault>
+        ensures { OnOk result ((lines : List LogLine) (whole : Bool)
+            → HasLeft L.remaining self.old lines whole
+            → ReadsFrame L.remaining self.new frame lines whole) }
+    {
         self.lines.clear();
-        for _ in 0..MOST_LINES {
-            match self.next {
-                Some(line) if line.frame == frame => {
-                    self.lines.push(line).map_err(AllocError::from)?;
-                    self.next = self.source.next()?;
-                }
-                _ => return Ok(()),
+        'lines: for _count in 0..MOST_LINES {
+            let Some(line) = self.next else {
+                return Ok(());
+            };
+            if line.frame != frame {
+                return Ok(());
             }
+            self.lines.push(line).map_err(AllocError::from)?;
+            self.next = self.source.next()?;
         }
         Ok(())
     }
