@@ -1,3 +1,5 @@
+mod ComparedLemmas
 mod DifferenceLemmas
 mod FrameLemmas
+mod SameLemmas
 mod WrittenLemmas

@@ -1,4 +1,5 @@
 pub mod Written
 pub mod Same
 pub mod Frames
+pub mod Compared
 pub mod Differences

@@ -2,6 +2,8 @@
 
 ghost use Rattle.std.specs.Prelude.{◌≡◌, OnOk, None, IsSome};
 ghost use Rattle.ground_differences.specs.Written.{IsWrittenOn};
+ghost use Rattle.ground_differences.specs.Same.{uncounted_items};
+ghost use Rattle.ground_differences.specs.Compared.{IsNoneWhere};
 
 use crate::same_lines::{is_same_frame, is_same_line};
 use ground_files::Fault;
@@ -166,7 +168,9 @@ impl Teller {
         others: &[LogLine],
         out: &mut W,
     ) -> Result<(), Fault>
-        ensures { OnOk result (IsWrittenOn (W.contents out.old) (W.contents out.new)) }
+        ensures written { OnOk result (IsWrittenOn (W.contents out.old) (W.contents out.new)) }
+        ensures found { OnOk result (IsNoneWhere self.old.found.first
+            (uncounted_items ones.now ≡ uncounted_items others.now) self.new.found.first) }
     {
         if is_same_frame(ones, others) {
             return self.tell_same(ones, out);

@@ -2,7 +2,7 @@
 
 ghost use Rattle.std.specs.Prelude.{◌≡◌, ◌↔◌, IsTrue};
 ghost use Rattle.packet_forms.specs.Built.{with_sequence};
-ghost use Rattle.ground_differences.specs.Same.{uncounted_item, uncounted_drop};
+ghost use Rattle.ground_differences.specs.Same.{uncounted_item, uncounted_drop, uncounted_items};
 
 use bus_pipes::Dropped;
 use log_lines::{LineItem, LogLine};
@@ -44,7 +44,9 @@ pub fn is_same_line(one: &LogLine, other: &LogLine) -> bool
 }
 
 /// Whether two frames have lines that differ at most in sequence counts.
-pub fn is_same_frame(ones: &[LogLine], others: &[LogLine]) -> bool {
+pub fn is_same_frame(ones: &[LogLine], others: &[LogLine]) -> bool
+    ensures { IsTrue result ↔ uncounted_items ones.now ≡ uncounted_items others.now }
+{
     ones.len() == others.len()
         && ones
             .iter()
