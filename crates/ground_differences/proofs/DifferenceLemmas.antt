@@ -1,12 +1,15 @@
 -- Lemmas on what a comparison leaves in a workspace.
 use Rattle.std.proofs.Common.{◌≡◌, ℕ, Bool, true, false, List, [], Option, Some, None, Result, Ok, Err, refl, ap, sym, ◌∙◌, subst}
-use Rattle.std.specs.Prelude.{OnOk, MatchResult, option_map, is_ok, ◌&&◌}
-use Rattle.ground_files.specs.Workspaces.{Held, settled_at, files_of, KeepsFiles}
+use Rattle.std.specs.Prelude.{IfOk, OnOk, MatchResult, option_map, is_ok, ◌&&◌}
+use Rattle.ground_files.specs.Workspaces.{Held, input_bytes, input_taken, settled_at, files_of, KeepsFiles}
 use Rattle.ground_files.specs.Verbs.{KeepsAllFiles}
 use Rattle.ground_files.specs.declared.verb_status.Status.{Status}
 use Rattle.ground_files.specs.declared.verb_status.Status.TheVariants as statuses
+use Rattle.ground_differences.specs.declared.comparing.Compared.{Compared}
+use Rattle.ground_differences.specs.declared.comparing.LogPair.{LogPair}
 use Rattle.ground_differences.specs.Written.{IsWrittenOn}
-use Rattle.ground_differences.specs.Differences.{status_found, PutsOutput, HasTold}
+use Rattle.ground_differences.specs.Compared.{IsFoundOf}
+use Rattle.ground_differences.specs.Differences.{status_found, PutsOutput, HasTold, IsSaidOf, HasFound}
 use Rattle.ground_differences.proofs.WrittenLemmas.{written_known}
 
 -- an output that isn't kept leaves the files that there were
@@ -49,3 +52,50 @@ told_ends (Ok done) settled output compared kept is_whole first ending status no
     (subst (λ (k : Bool). (k && is_ok settled) ≡ false → KeepsFiles begun new) keeps drops) ends
 told_ends (Err fault) settled output compared kept is_whole first ending status now old begun new empty written is keeps is_found told begins none writes settles drops ends =
     let wrong : ⊥ = cc in absurd wrong
+
+-- ---- what a status says of the logs
+
+both_true : (a b : Bool) → true ≡ (a && b) → (a ≡ true) × (b ≡ true)
+both_true true b h = (refl, sym h)
+both_true false b h = let wrong : ⊥ = cc in absurd wrong
+
+-- the status of a comparison says what was found of the texts
+said_of : (text text_other : List ℕ) (whole : Bool) (first : Option ℕ) → IsFoundOf text text_other whole first → IsSaidOf (status_found whole first) text text_other
+said_of text text_other false first found = sym found.both
+said_of text text_other true None found =
+    let logs = both_true _ _ found.both in
+    record { one_log = logs.0; other_log = logs.1; same = found.same.0 refl }
+said_of text text_other true (Some frame) found =
+    let logs = both_true _ _ found.both in
+    record { one_log = logs.0; other_log = logs.1; differ = λ same. let none = found.same.1 same in let wrong : ⊥ = cc in absurd wrong }
+
+said_by : {T E : Type 0} (settled : Result T E) (compared : Compared) (ending status : Status) (text text_other : List ℕ)
+    → ending ≡ status_found compared.is_whole compared.found.first → IsFoundOf text text_other compared.is_whole compared.found.first
+    → MatchResult settled (λ done. status ≡ ending) (λ error. status ≡ statuses.WriteFailed) → IsSaidOf status text text_other
+said_by (Ok done) compared ending status text text_other is_found found ends =
+    subst (λ (s : Status). IsSaidOf s text text_other) (sym (ends ∙ is_found)) (said_of text text_other compared.is_whole compared.found.first found)
+said_by (Err error) compared ending status text text_other is_found found ends =
+    subst (λ (s : Status). IsSaidOf s text text_other) (sym ends) tt
+
+pub said_ends : {F T E : Type 0} (made : Result Compared F) (settled : Result T E) (compared : Compared) (ending status : Status) (one other : Option (List ℕ)) (text text_other : List ℕ)
+    → made ≡ Ok compared → ending ≡ status_found compared.is_whole compared.found.first → one ≡ Some text → other ≡ Some text_other
+    → IfOk made (λ c. (xs ys : List ℕ) → one ≡ Some xs → other ≡ Some ys → IsFoundOf xs ys c.is_whole c.found.first)
+    → MatchResult settled (λ done. status ≡ ending) (λ error. status ≡ statuses.WriteFailed) → IsSaidOf status text text_other
+said_ends (Ok done) settled compared ending status one other text text_other is is_found one_is other_is found ends =
+    let same : done ≡ compared = cc in
+    said_by settled compared ending status text text_other is_found
+    (subst (λ (c : Compared). IsFoundOf text text_other c.is_whole c.found.first) same (found text text_other one_is other_is)) ends
+said_ends (Err fault) settled compared ending status one other text text_other is is_found one_is other_is found ends =
+    let wrong : ⊥ = cc in absurd wrong
+
+-- what a status says of the bytes that were read is what it says of the logs
+pub found_by : (pair : LogPair) (status : Status) (before : Held) (one other : List ℕ) → input_bytes pair.one.now before ≡ Some one
+    → input_bytes pair.other.now (input_taken pair.one.now before) ≡ Some other → IsSaidOf status one other → HasFound pair status before
+found_by pair statuses.Done before one other is_one is_other said = record { one = one; other = other; is_one = is_one; is_other = is_other; said = said }
+found_by pair statuses.Unwanted before one other is_one is_other said = record { one = one; other = other; is_one = is_one; is_other = is_other; said = said }
+found_by pair statuses.FileRefused before one other is_one is_other said = record { one = one; other = other; is_one = is_one; is_other = is_other; said = said }
+found_by pair statuses.WordsRefused before one other is_one is_other said = tt
+found_by pair statuses.ScenarioRefused before one other is_one is_other said = tt
+found_by pair statuses.ReadFailed before one other is_one is_other said = tt
+found_by pair statuses.WriteFailed before one other is_one is_other said = tt
+found_by pair statuses.NoMemory before one other is_one is_other said = tt

@@ -1,10 +1,12 @@
 -- What a comparison of two logs leaves.
-use Rattle.std.specs.Prelude.{◌≡◌, ℕ, Bool, true, false, List, Option, Some, None}
-use Rattle.ground_files.specs.Workspaces.{Held, input_taken, put_at}
+use Rattle.std.specs.Prelude.{◌≡◌, ℕ, Bool, true, false, ◌&&◌, List, Option, Some, None}
+use Rattle.ground_files.specs.Workspaces.{Held, input_bytes, input_taken, put_at}
 use Rattle.ground_files.specs.Verbs.{KeepsAllFiles}
 use Rattle.ground_files.specs.declared.verb_status.Status.{Status}
 use Rattle.ground_files.specs.declared.verb_status.Status.TheVariants as statuses
+use Rattle.ground_logs.specs.Making.{lines_of, is_log}
 use Rattle.ground_differences.specs.declared.comparing.LogPair.{LogPair}
+use Rattle.ground_differences.specs.Same.{AreSameLines}
 
 -- the status of a comparison, by whether all lines are a log's, and by the first frame that differs
 abbrev pub status_found : Bool → Option ℕ → Status
@@ -32,6 +34,53 @@ HasTold output statuses.NoMemory = KeepsAllFiles
 abbrev pub logs_taken : LogPair → Held → Held
 logs_taken pair held = input_taken pair.other.now (input_taken pair.one.now held)
 
+-- Two texts are logs, whose lines are the same but for sequence counts.
+pub record AreSameLogs (one other : List ℕ) : Type 0 where
+  pub one_log : is_log one ≡ true
+  pub other_log : is_log other ≡ true
+  pub same : AreSameLines (lines_of one) (lines_of other)
+
+-- Two texts are logs, whose lines differ in more than sequence counts.
+pub record AreOtherLogs (one other : List ℕ) : Type 0 where
+  pub one_log : is_log one ≡ true
+  pub other_log : is_log other ≡ true
+  pub differ : ¬ AreSameLines (lines_of one) (lines_of other)
+
+-- One of two texts has a line that is none of a log's, or ends within a line.
+abbrev pub AreNotLogs : List ℕ → List ℕ → Type 0
+AreNotLogs one other = (is_log one && is_log other) ≡ false
+
+-- what a status says of the texts of two logs
+abbrev pub IsSaidOf : Status → List ℕ → List ℕ → Type 0
+IsSaidOf statuses.Done = AreSameLogs
+IsSaidOf statuses.Unwanted = AreOtherLogs
+IsSaidOf statuses.FileRefused = AreNotLogs
+IsSaidOf statuses.WordsRefused = λ one other. Unit {0}
+IsSaidOf statuses.ScenarioRefused = λ one other. Unit {0}
+IsSaidOf statuses.ReadFailed = λ one other. Unit {0}
+IsSaidOf statuses.WriteFailed = λ one other. Unit {0}
+IsSaidOf statuses.NoMemory = λ one other. Unit {0}
+
+-- The bytes of two logs, those of the second once the first was taken, and what is said of them.
+pub record OfLogs (pair : LogPair) (says : List ℕ → List ℕ → Type 0) (before : Held) : Type 0 where
+  pub one : List ℕ
+  pub other : List ℕ
+  pub is_one : input_bytes pair.one.now before ≡ Some one
+  pub is_other : input_bytes pair.other.now (input_taken pair.one.now before) ≡ Some other
+  pub said : says one other
+
+-- What a status says of the logs that were held before.
+abbrev pub HasFound : LogPair → Status → Held → Type 0
+HasFound pair statuses.Done = OfLogs pair AreSameLogs
+HasFound pair statuses.Unwanted = OfLogs pair AreOtherLogs
+HasFound pair statuses.FileRefused = OfLogs pair AreNotLogs
+HasFound pair statuses.WordsRefused = λ before. Unit {0}
+HasFound pair statuses.ScenarioRefused = λ before. Unit {0}
+HasFound pair statuses.ReadFailed = λ before. Unit {0}
+HasFound pair statuses.WriteFailed = λ before. Unit {0}
+HasFound pair statuses.NoMemory = λ before. Unit {0}
+
 -- What a status says of what was held before and is now.
-abbrev pub IsCompared : LogPair → Status → Held → Option Held → Type 0
-IsCompared pair status before = HasTold pair.output.now status (logs_taken pair before)
+pub record IsCompared (pair : LogPair) (status : Status) (before : Held) (after : Option Held) : Type 0 where
+  pub told : HasTold pair.output.now status (logs_taken pair before) after
+  pub found : HasFound pair status before

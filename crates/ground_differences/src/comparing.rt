@@ -1,9 +1,11 @@
 //! Two logs that are compared.
 
-ghost use Rattle.std.specs.Prelude.{◌≡◌, Some, OnOk, option_map};
-ghost use Rattle.ground_files.specs.Workspaces.{Held, input_taken};
+ghost use Rattle.std.specs.Prelude.{◌≡◌, ℕ, List, Some, None, IfOk, OnOk, option_map};
+ghost use Rattle.ground_files.specs.Workspaces.{Held, input_taken, input_bytes};
+ghost use Rattle.ground_files.specs.Inputs.{source_remaining};
 ghost use Rattle.ground_differences.specs.Written.{IsWrittenOn};
-ghost use Rattle.ground_differences.specs.Differences.{IsCompared, HasTold, status_found};
+ghost use Rattle.ground_differences.specs.Compared.{ComparesOn, ComparesAll, IsFoundOf};
+ghost use Rattle.ground_differences.specs.Differences.{IsCompared, HasTold, IsSaidOf, status_found};
 
 use crate::frame_source::FrameSource;
 use crate::frame_teller::{Found, Teller};
@@ -16,7 +18,9 @@ use log_lines::LogLine;
 use std::io::{self, ErrorKind, Read, Write};
 
 /// The frame that comes next in one of two logs.
-fn next_frame(one: Option<LogLine>, other: Option<LogLine>) -> Option<u32> {
+fn next_frame(one: Option<LogLine>, other: Option<LogLine>) -> Option<u32>
+    ensures { result ≡ None → (one ≡ None) × (other ≡ None) }
+{
     match (one, other) {
         (Some(one), Some(other)) => Some(one.frame.min(other.frame)),
         (Some(one), None) => Some(one.frame),
@@ -98,7 +102,9 @@ fn tell_frames<L: Read + Drop, E: Eprint, W: Write>(
     teller: &mut Teller,
     out: &mut W,
 ) -> Result<(), PlacedFault>
-    ensures { OnOk result (IsWrittenOn (W.contents out.old) (W.contents out.new)) }
+    ensures written { OnOk result (IsWrittenOn (W.contents out.old) (W.contents out.new)) }
+    ensures found { OnOk result (ComparesAll L.remaining ones.old others.old
+        teller.old.found.first ones.new others.new teller.new.found.first) }
 {
     'frames: for _turn in 0..u64::MAX {
         let Some(frame) = next_frame(ones.next(), others.next()) else {
@@ -119,7 +125,9 @@ fn tell_frame<L: Read + Drop, E: Eprint, W: Write>(
     teller: &mut Teller,
     out: &mut W,
 ) -> Result<(), PlacedFault>
-    ensures { OnOk result (IsWrittenOn (W.contents out.old) (W.contents out.new)) }
+    ensures written { OnOk result (IsWrittenOn (W.contents out.old) (W.contents out.new)) }
+    ensures found { OnOk result (ComparesOn L.remaining ones.old others.old
+        teller.old.found.first ones.new others.new teller.new.found.first) }
 {
     ones.read_frame(frame).map_err(PlacedFault::of_one)?;
     others.read_frame(frame).map_err(PlacedFault::of_other)?;
@@ -143,7 +151,10 @@ fn compare<L: Read + Drop, E: Eprint, W: Write>(
     other: Given<'_, L, E>,
     out: &mut W,
 ) -> Result<Compared, PlacedFault>
-    ensures { OnOk result (IsWrittenOn (W.contents out.old) (W.contents out.new)) }
+    ensures written { OnOk result (IsWrittenOn (W.contents out.old) (W.contents out.new)) }
+    ensures found { IfOk result (λ compared. (text text_other : List ℕ)
+        → L.remaining one.entry.log ≡ Some text → L.remaining other.entry.log ≡ Some text_other
+        → IsFoundOf text text_other compared.is_whole compared.found.first) }
 {
     let mut teller = Teller::new(one.telling.alloc, epoch);
     let Given { telling, log } = one;
@@ -201,6 +212,9 @@ fn open_given<'a, R: AllocGlobal + Eprint, W: Workspace>(
 ) -> Result<Given<'a, Source<W::Input, W::File>, R>, io::Error>
     ensures held { W.held workspace.new ≡ option_map (input_taken file.now)
         (W.held workspace.old) }
+    ensures bytes { IfOk result (λ given. (before : Held) → W.held workspace.old ≡ Some before
+        → (bytes : List ℕ) × (input_bytes file.now before ≡ Some bytes)
+        × (source_remaining W.Input.remaining W.File.remaining given.log ≡ Some bytes)) }
 {
     match open_source(workspace, file) {
         Ok(log) => Ok(Given {
@@ -259,8 +273,10 @@ fn write_differences<R: Eprint + AllocGlobal, W: Workspace, L: Read + Drop>(
     one: Given<'_, L, R>,
     other: Given<'_, L, R>,
 ) -> Status
-    ensures { (now : Held) → W.held workspace.old ≡ Some now
+    ensures told { (now : Held) → W.held workspace.old ≡ Some now
         → HasTold pair.now.output.now result now (W.held workspace.new) }
+    ensures found { (text text_other : List ℕ) → L.remaining one.entry.log ≡ Some text
+        → L.remaining other.entry.log ≡ Some text_other → IsSaidOf result text text_other }
 {
     let output = output_name(pair.output);
     let mut draft = match workspace.begin(pair.output) {
