@@ -5,7 +5,7 @@ use Rattle.log_lines.specs.declared.line.LogLine.{LogLine}
 use Rattle.ground_logs.specs.Making.{lines_of, is_log}
 use Rattle.ground_logs.specs.Coming.{GivesLine, GivesNone}
 use Rattle.ground_differences.specs.declared.frame_source.FrameSource.{FrameSource}
-use Rattle.ground_differences.specs.Frames.{frame_count, HasLeft, ReadsFrame}
+use Rattle.ground_differences.specs.Frames.{frame_count, next_frame, HasLeft, ReadsFrame}
 use Rattle.ground_differences.specs.Same.{uncounted_items, AreSameLines}
 use Rattle.ground_differences.specs.Compared.{IsNoneWhere, ComparesOn, ComparesAll, IsFoundOf}
 use Rattle.ground_differences.proofs.SameLemmas.{same_by_frame}
@@ -98,12 +98,19 @@ at_end : {L E : Type 0} (remaining : L → Option (List ℕ)) (log : FrameSource
     → GivesNone log.source lines whole
 at_end remaining log lines whole next h = subst (λ (o : Option LogLine). GivesLine remaining log.source lines whole o) next h
 
+no_frame : (one other : Option LogLine) → next_frame one other ≡ None → (one ≡ None) × (other ≡ None)
+no_frame None None h = (refl, refl)
+no_frame None (Some line) h = let wrong : ⊥ = cc in absurd wrong
+no_frame (Some line) None h = let wrong : ⊥ = cc in absurd wrong
+no_frame (Some line) (Some next) h = let wrong : ⊥ = cc in absurd wrong
+
 -- no frame is left of both
 pub compares_all : {L E : Type 0} (remaining : L → Option (List ℕ)) (ones others new_ones new_others : FrameSource L E) (before after : Option ℕ) (one_next other_next : Option LogLine)
-    → one_next ≡ new_ones.next → other_next ≡ new_others.next → (one_next ≡ None) × (other_next ≡ None)
+    → one_next ≡ new_ones.next → other_next ≡ new_others.next → next_frame one_next other_next ≡ None
     → ComparesOn remaining ones others before new_ones new_others after → ComparesAll remaining ones others before new_ones new_others after
-compares_all remaining ones others new_ones new_others before after one_next other_next one_is other_is ends on = record {
+compares_all remaining ones others new_ones new_others before after one_next other_next one_is other_is none_next on = record {
   all = λ one other one_whole other_whole h k.
+      let ends = no_frame one_next other_next none_next in
       let a = on.on one other one_whole other_whole h k in
       let first = at_end remaining new_ones a.one one_whole (sym one_is ∙ ends.0) a.one_left in
       let second = at_end remaining new_others a.other other_whole (sym other_is ∙ ends.1) a.other_left in

@@ -1,5 +1,5 @@
 -- A log's lines, frame by frame.
-use Rattle.std.specs.Prelude.{◌≡◌, ◌==◌, ℕ, min, Bool, List, take, drop, Option}
+use Rattle.std.specs.Prelude.{◌≡◌, ◌==◌, ℕ, min, Bool, List, take, drop, Option, Some, None}
 use Rattle.std.specs.List.{prefix_len}
 use Rattle.log_lines.specs.declared.line.LogLine.{LogLine}
 use Rattle.ground_logs.specs.Coming.{GivesLine}
@@ -21,3 +21,10 @@ HasLeft remaining log lines whole = GivesLine remaining log.source lines whole l
 pub record ReadsFrame {L E : Type 0} (remaining : L → Option (List ℕ)) (new : FrameSource L E) (frame : ℕ) (lines : List LogLine) (whole : Bool) : Type 0 where
   pub read : new.lines.items ≡ take (frame_count frame lines) lines
   pub left : HasLeft remaining new (drop (frame_count frame lines) lines) whole
+
+-- the frame that comes next in one of two logs, by the next line of each
+abbrev pub next_frame : Option LogLine → Option LogLine → Option ℕ
+next_frame (Some one) (Some other) = Some (min one.frame other.frame)
+next_frame (Some one) None = Some one.frame
+next_frame None (Some other) = Some other.frame
+next_frame None None = None

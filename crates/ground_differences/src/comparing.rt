@@ -1,9 +1,10 @@
 //! Two logs that are compared.
 
-ghost use Rattle.std.specs.Prelude.{◌≡◌, ℕ, List, Some, None, IfOk, OnOk, option_map};
+ghost use Rattle.std.specs.Prelude.{◌≡◌, ℕ, List, Some, IfOk, OnOk, option_map};
 ghost use Rattle.ground_files.specs.Workspaces.{Held, input_taken, input_bytes};
 ghost use Rattle.ground_files.specs.Inputs.{source_remaining};
 ghost use Rattle.ground_differences.specs.Written.{IsWrittenOn};
+ghost use Rattle.ground_differences.specs.Frames.{next_frame};
 ghost use Rattle.ground_differences.specs.Compared.{ComparesOn, ComparesAll, IsFoundOf};
 ghost use Rattle.ground_differences.specs.Differences.{IsCompared, HasTold, IsSaidOf, status_found};
 
@@ -19,7 +20,7 @@ use std::io::{self, ErrorKind, Read, Write};
 
 /// The frame that comes next in one of two logs.
 fn next_frame(one: Option<LogLine>, other: Option<LogLine>) -> Option<u32>
-    ensures { result ≡ None → (one ≡ None) × (other ≡ None) }
+    ensures { result ≡ next_frame one other }
 {
     match (one, other) {
         (Some(one), Some(other)) => Some(one.frame.min(other.frame)),

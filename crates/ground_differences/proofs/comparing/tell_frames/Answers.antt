@@ -1,4 +1,4 @@
-use Rattle.std.proofs.Common.{refl}
+use Rattle.std.proofs.Common.{sym}
 use Rattle.ground_differences.proofs.WrittenLemmas.{written_none, written_more}
 use Rattle.ground_differences.proofs.ComparedLemmas.{compares_none, compares_more, compares_all}
 use Rattle.ground_differences.proofs.comparing.tell_frames.Goals as goal
@@ -14,4 +14,4 @@ frames-preserved g c = record {
 
 pub returns-in_default-clause-found : goal.returns-in_default-clause-found
 returns-in_default-clause-found g c =
-    compares_all g.L.Read.remaining _ _ _ _ _ _ _ _ c.next.ensures c.next-in-frames.ensures (c.in_default.ensures refl) c.frames.invariant.found
+    compares_all g.L.Read.remaining _ _ _ _ _ _ _ _ c.next.ensures c.next-in-frames.ensures (sym c.in_default.ensures) c.frames.invariant.found
