@@ -23,8 +23,8 @@ pub record BookAsked : Type 0 where
   pub front : List (List ℕ)
   pub output : List ℕ
 
-abbrev pub asked_by : Run → BookAsked
-asked_by run = record { name = run.scenario.now; front = front_of run.workers run.has_subjects; output = run.output.now }
+abbrev pub book_asked : Run → BookAsked
+book_asked run = record { name = run.scenario.now; front = front_of run.workers run.has_subjects; output = run.output.now }
 
 -- What is seen of a shelf in memory, by how it stands behind a rehearsal.
 abbrev pub memory_use : MemShelf → MemShelf → ShelfUse MemShelf

@@ -3,7 +3,7 @@
 ghost use Rattle.std.specs.Prelude.{◌≡◌, true, Some, IfSome, IfOk, IfErr};
 ghost use Rattle.ground_files.specs.Workspaces.{Held};
 ghost use Rattle.ground_runs.specs.KeptLogs.{kept_run, LeavesLog};
-ghost use Rattle.book_rehearsals.specs.LeftByBooks.{asked_by, memory_use, ShelvesText, LeavesBook, is_unrehearsed};
+ghost use Rattle.book_rehearsals.specs.LeftByBooks.{book_asked, memory_use, ShelvesText, LeavesBook, is_unrehearsed};
 
 use crate::book_causes::BookTeller;
 use crate::epochs::epoch_of;
@@ -60,7 +60,7 @@ fn ready_book<'a, R: Eprint + AllocGlobal>(
     run: &Run<'_>,
     text: &'a [u8],
 ) -> Result<ReadyBook<'a>, Status>
-    ensures ready { IfOk result (λ ready. ShelvesText text.now (asked_by run.now).front
+    ensures ready { IfOk result (λ ready. ShelvesText text.now (book_asked run.now).front
         ready.shelved.shelf ready.words) }
     ensures unrehearsed { IfErr result (λ status. is_unrehearsed status ≡ true) }
 {
@@ -144,7 +144,7 @@ where
     R: Threads + Sync + Eprint + AllocGlobal,
     W: DraftTeller,
     ensures { (before : Held) → W.held workspace.old ≡ Some before
-        → IfSome run.now.log (λ log. LeavesBook (asked_by run.now) log.now result before
+        → IfSome run.now.log (λ log. LeavesBook (book_asked run.now) log.now result before
         (W.held workspace.new)) }
 {
     let name = run.scenario;
