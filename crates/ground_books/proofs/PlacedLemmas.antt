@@ -1,5 +1,5 @@
 -- Lemmas on files that are put at their paths.
-use Rattle.std.proofs.Common.{◌≡◌, ◌≢◌, ℕ, zero, suc, ◌+◌, ◌<◌, ◌≤◌, List, [], ◌∷◌, ◌++◌, length, get_or, set, take, drop, map, Option, Some, option_map, option_and_then, Result, Ok, Err, OnOk, true, string_bytes, refl, ap, sym, subst, ◌∙◌, arith}
+use Rattle.std.proofs.Common.{◌≡◌, ℕ, zero, suc, ◌+◌, ◌<◌, ◌≤◌, List, [], ◌∷◌, ◌++◌, length, get_or, set, take, drop, map, Option, Some, option_map, option_and_then, Result, Ok, Err, OnOk, true, string_bytes, refl, ap, sym, subst, ◌∙◌, arith}
 use Rattle.std.proofs.lemmas.List.{map-append, take-map, take_more, take_more_set, take_all, drop_more, drop-drop, drop-set-lt, length-drop}
 use Rattle.std.specs.List.{AllByRecursion}
 use Rattle.ground_files.specs.declared.verb_status.Status.{Status}

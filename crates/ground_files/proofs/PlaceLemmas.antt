@@ -1,5 +1,5 @@
 -- Files of a workspace over memory, by their places.
-use Rattle.std.proofs.Common.{◌≡◌, ℕ, zero, suc, ◌+◌, ◌<◌, true, false, List, [], ◌∷◌, ◌++◌, length, drop, set, map, get_or, Option, Some, None, refl, sym, ap, ◌∙◌, arith, add-one, string_bytes}
+use Rattle.std.proofs.Common.{◌≡◌, ℕ, zero, suc, ◌+◌, ◌<◌, true, false, List, [], ◌∷◌, ◌++◌, length, drop, set, get_or, Option, Some, None, refl, sym, ap, ◌∙◌, arith, add-one, string_bytes}
 use Rattle.std.specs.Prelude.{bytes_eq, option_map, if◌then◌else◌, Bool}
 use Rattle.std.proofs.lemmas.List.{map_push}
 use Rattle.std.proofs.Math.Seq.{drop-cons}

@@ -1,5 +1,5 @@
 -- What a workspace over memory holds.
-use Rattle.std.specs.Prelude.{◌≡◌, ℕ, suc, if◌then◌else◌, List, [], ◌∷◌, map, Option, Some, None, option_map, bytes_eq, string_bytes}
+use Rattle.std.specs.Prelude.{ℕ, suc, if◌then◌else◌, List, [], ◌∷◌, map, Option, Some, None, option_map, bytes_eq, string_bytes}
 use Rattle.fsw_outside.specs.Files.{Stored}
 use Rattle.ground_files.specs.Workspaces.{Held}
 use Rattle.ground_files.specs.declared.memory_files.KeptFile.{KeptFile}

@@ -1,6 +1,5 @@
 -- What a verb does to what a workspace holds.
 use Rattle.std.specs.Prelude.{◌≡◌, ℕ, List, Option, Some, option_map}
-use Rattle.fsw_outside.specs.Files.{Stored}
 use Rattle.ground_files.specs.Workspaces.{Held, input_bytes, input_taken, put_at, files_of}
 
 -- An output was made of an input: what stands in its place `makes` says of what was held before and of the bytes that were read.

@@ -1,5 +1,5 @@
 -- Lemmas on a sink over a draft.
-use Rattle.std.proofs.Common.{◌≡◌, ◌≢◌, ℕ, ◌==◌, ◌&&◌, Bool, true, false, List, ◌++◌, Option, Some, None, Err, refl, ap, sym, ◌∙◌, ◌≤◌, ◌+◌, ◌-◌, ◌^◌, arith}
+use Rattle.std.proofs.Common.{◌≡◌, ℕ, ◌==◌, ◌&&◌, Bool, true, false, List, ◌++◌, Option, Some, None, Err, refl, ◌≤◌, ◌+◌, ◌-◌, ◌^◌, arith}
 use Rattle.std.specs.Prelude.{if◌then◌else◌, min, IsSome}
 use Rattle.std.specs.Io.KnownBytes.{Appends, Keeps}
 use Rattle.fsw_outside.specs.Told.{WhereTold}

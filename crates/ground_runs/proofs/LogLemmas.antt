@@ -1,12 +1,11 @@
 -- Lemmas on the log that a rehearsal keeps.
-use Rattle.std.proofs.Common.{◌≡◌, ◌≢◌, ℕ, ◌+◌, Bool, true, false, List, [], Option, Some, None, refl, ap, sym, subst, ◌∙◌, inl, inr, arith}
-use Rattle.std.specs.Prelude.{option_map, ◌⊎◌, if◌then◌else◌}
+use Rattle.std.proofs.Common.{◌≡◌, ◌≢◌, ℕ, ◌+◌, true, List, [], Option, Some, refl, ap, sym, subst, ◌∙◌, arith}
 use Rattle.fsw_outside.specs.Told.{WhereTold}
 use Rattle.subjects.specs.Plans.{Simulated}
 use Rattle.subjects.specs.Own.{own_subjects}
 use Rattle.rehearsal.specs.Words.{Asked}
-use Rattle.rehearsal.specs.Outcome.{Seen, Rehearses, Completes, SumsUp}
-use Rattle.rehearsal.specs.Promise.{ShelfUse, SinkUse, text_of, seen_of, CarriesOut, Promise}
+use Rattle.rehearsal.specs.Outcome.{Rehearses, Completes, SumsUp}
+use Rattle.rehearsal.specs.Promise.{ShelfUse, SinkUse, text_of, CarriesOut, Promise}
 use Rattle.rehearsal.specs.declared.report.Report.{Report}
 use Rattle.rehearsal.specs.declared.report.Status.{Status as End}
 use Rattle.rehearsal.specs.declared.report.Status.TheVariants as ends
@@ -16,7 +15,7 @@ use Rattle.ground_tools.specs.Kept.{told_while}
 use Rattle.ground_runs.specs.Endings.{status_at, unjudged, writes_all}
 use Rattle.ground_runs.specs.Rehearsing.{silent}
 use Rattle.ground_runs.specs.declared.run_ends.Ending.{Ending}
-use Rattle.ground_runs.specs.KeptLogs.{file_use, IsLog, WritesLog}
+use Rattle.ground_runs.specs.KeptLogs.{file_use, WritesLog}
 
 -- ---- statuses
 

@@ -6,7 +6,6 @@ use Rattle.ground_files.specs.Workspaces.{Held, is_dash, file_put, settled_at, f
 use Rattle.ground_files.specs.Verbs.{KeepsAllFiles}
 use Rattle.ground_files.specs.declared.verb_status.Status.{Status}
 use Rattle.ground_files.specs.declared.verb_status.Status.TheVariants as statuses
-use Rattle.rehearsal.specs.Promise.{ShelfUse}
 use Rattle.rehearsal.specs.declared.report.Report.{Report}
 use Rattle.ground_runs.specs.Endings.{status_at, unjudged, writes_all, is_kept, IsEarly}
 use Rattle.ground_runs.specs.DraftSinks.{told_while_well}

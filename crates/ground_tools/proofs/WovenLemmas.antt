@@ -1,5 +1,5 @@
 -- Lemmas on logs in words, in which something stands in front of the sentences.
-use Rattle.std.proofs.Common.{◌≡◌, ℕ, ◌+◌, List, [], ◌∷◌, ◌++◌, length, ap, sym, ◌∙◌, subst, refl, append_assoc, append-nil}
+use Rattle.std.proofs.Common.{◌≡◌, ℕ, List, [], ◌∷◌, ◌++◌, length, ap, sym, ◌∙◌, subst, refl, append_assoc, append-nil}
 use Rattle.std.proofs.lemmas.Grind.{flat_map-append}
 use Rattle.log_lines.specs.Logs.{log_said, Stands as ReaderStands}
 use Rattle.ground_tools.specs.declared.log_teller.LogTeller.{LogTeller}

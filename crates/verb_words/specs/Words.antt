@@ -1,8 +1,7 @@
 -- The command line of groundkit: its verbs, and the words of each.
-use Rattle.std.specs.Prelude.{ℕ, List, [], ◌∷◌, true, Option, Some, None, pos, codes}
-use Rattle.clap.specs.Walk.{Row, Rule, Text}
-use Rattle.clap.specs.Simple.{App, Shape, new_app, new_rule, with_rule, with_subcommand, subcommand_of}
-use Rattle.clap.specs.Lexer.{usize_max}
+use Rattle.std.specs.Prelude.{true, Option, Some, pos, codes}
+use Rattle.clap.specs.Walk.{Rule, Text}
+use Rattle.clap.specs.Simple.{App, Shape, new_app, new_rule, with_rule, with_subcommand}
 use Rattle.clap.specs.declared.builder.action.ArgAction.TheVariants as actions
 use Rattle.clap.specs.declared.builder.value_parser.ValueParser.{ValueParser}
 use Rattle.clap.specs.declared.builder.value_parser.ValueParser.TheVariants as parsers

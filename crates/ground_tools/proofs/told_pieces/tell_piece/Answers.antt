@@ -1,4 +1,4 @@
-use Rattle.std.proofs.Common.{ℕ, List, ◌++◌, ◌+◌, take, ap, sym, ◌∙◌, subst}
+use Rattle.std.proofs.Common.{ℕ, List, ◌++◌, take, ap, sym, ◌∙◌, subst}
 use Rattle.std.proofs.Math.Seq.{take-add}
 use Rattle.ground_tools.specs.Woven.{Weaves}
 use Rattle.ground_tools.proofs.TellingLemmas.{part_fits}

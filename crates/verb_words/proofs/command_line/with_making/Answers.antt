@@ -1,7 +1,7 @@
 use Rattle.std.proofs.Common.{ap, ap₂, ◌≡◌, ◌∙◌}
 use Rattle.std.proofs.lemmas.Result.{IfOk-weaker}
 use Rattle.clap.specs.Simple.{App, app_of}
-use Rattle.verb_words.specs.Words.{with_verb, table_app, scenario_app, build_app, check_app, show_app}
+use Rattle.verb_words.specs.Words.{with_verb, table_app, scenario_app, build_app, check_app}
 use Rattle.verb_words.proofs.command_line.with_making.Goals as goal
 
 pub returns : goal.returns

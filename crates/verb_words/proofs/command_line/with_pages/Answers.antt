@@ -1,7 +1,7 @@
 use Rattle.std.proofs.Common.{ap, ap₂, ◌≡◌, ◌∙◌}
 use Rattle.std.proofs.lemmas.Result.{IfOk-weaker}
 use Rattle.clap.specs.Simple.{App, app_of}
-use Rattle.verb_words.specs.Words.{with_verb, completions_app, man_app}
+use Rattle.verb_words.specs.Words.{with_verb, completions_app}
 use Rattle.verb_words.proofs.command_line.with_pages.Goals as goal
 
 pub returns : goal.returns
