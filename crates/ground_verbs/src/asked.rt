@@ -1,5 +1,9 @@
 //! What the words of a verb ask for, by their names in the command line.
 
+ghost use Rattle.std.specs.Prelude.{◌≡◌, option_map};
+ghost use Rattle.clap.specs.Walk.{first_of};
+ghost use Rattle.ground_verbs.specs.Said.{rows_in, text_of, texts_of, name_in, names_in, is_given, completions_for, SaysEpoch, SaysMake, SaysShow, SaysBuild, SaysCheck, SaysRun, SaysExport, SaysCompare, SaysPage, IsAsked};
+
 use clap::ArgMatches;
 use ground_books::Build;
 use ground_checks::Check;
@@ -49,122 +53,168 @@ pub enum Asked<'a> {
     Describe(Page<'a>),
 }
 
+/// The value of a word, where it has one.
+fn value<'a>(words: &'a ArgMatches<'_>, word: &str) -> Option<&'a str>
+    ensures { option_map text_of result ≡ first_of word.now (rows_in words.now) }
+{
+    words.get_str(word)
+}
+
 /// The name that a word gives; a standard stream where it gives none.
-fn name<'a>(words: &'a ArgMatches<'_>, word: &str) -> &'a str {
-    match words.get_str(word) {
+fn name<'a>(words: &'a ArgMatches<'_>, word: &str) -> &'a str
+    ensures { result.now ≡ name_in word.now (rows_in words.now) }
+{
+    match value(words, word) {
         Some(name) => name,
         None => "-",
     }
 }
 
-/// The output that words name.
-fn output<'a>(words: &'a ArgMatches<'_>) -> &'a str {
-    name(words, "output")
+/// The names that a word gives.
+fn names<'a>(words: &'a ArgMatches<'_>, word: &str) -> &'a [&'a str]
+    ensures { texts_of result.now ≡ names_in word.now (rows_in words.now) }
+{
+    words.get_strs(word).unwrap_or(&[])
 }
 
-/// The files that words name.
-fn files<'a>(words: &'a ArgMatches<'_>) -> &'a [&'a str] {
-    words.get_strs("files").unwrap_or(&[])
+/// Whether a flag is given.
+fn is_given(words: &ArgMatches<'_>, flag: &str) -> bool
+    ensures { result ≡ is_given flag.now (rows_in words.now) }
+{
+    match value(words, flag) {
+        Some(value) => value.as_bytes() == b"true".as_slice(),
+        None => false,
+    }
 }
 
 /// The time of frame 0, or what times in tables are counted from, where words have it.
-fn epoch(words: &ArgMatches<'_>) -> Option<u32> {
+fn epoch(words: &ArgMatches<'_>) -> Option<u32>
+    ensures { SaysEpoch (rows_in words.now) result }
+{
     words.get_one::<u32>("epoch")
 }
 
-fn asked_making<'a>(making: Making, words: &'a ArgMatches<'_>) -> Asked<'a> {
-    Asked::Make(Wanted {
+fn wanted<'a>(making: Making, words: &'a ArgMatches<'_>) -> Wanted<'a>
+    ensures { SaysMake making (rows_in words.now) result }
+{
+    Wanted {
         making,
         epoch: epoch(words),
         file: name(words, "input"),
-        output: output(words),
-    })
+        output: name(words, "output"),
+    }
 }
 
-fn asked_show<'a>(words: &'a ArgMatches<'_>) -> Asked<'a> {
-    Asked::Show(Shown {
+fn shown<'a>(words: &'a ArgMatches<'_>) -> Shown<'a>
+    ensures { SaysShow (rows_in words.now) result }
+{
+    Shown {
         epoch: epoch(words),
-        files: files(words),
-        output: output(words),
-    })
+        files: names(words, "files"),
+        output: name(words, "output"),
+    }
 }
 
-fn asked_build<'a>(words: &'a ArgMatches<'_>) -> Asked<'a> {
-    Asked::Build(Build {
+fn build<'a>(words: &'a ArgMatches<'_>) -> Build<'a>
+    ensures { SaysBuild (rows_in words.now) result }
+{
+    Build {
         book: name(words, "input"),
-        folder: words.get_str("output"),
-    })
+        folder: value(words, "output"),
+    }
 }
 
-fn asked_check<'a>(words: &'a ArgMatches<'_>) -> Asked<'a> {
-    Asked::Check(Check {
-        files: files(words),
-        map: words.get_str("map"),
-    })
+fn check<'a>(words: &'a ArgMatches<'_>) -> Check<'a>
+    ensures { SaysCheck (rows_in words.now) result }
+{
+    Check {
+        files: names(words, "files"),
+        map: value(words, "map"),
+    }
 }
 
-fn asked_export<'a>(export: Export, words: &'a ArgMatches<'_>) -> Asked<'a> {
-    Asked::Export(Exported {
+fn exported<'a>(export: Export, words: &'a ArgMatches<'_>) -> Exported<'a>
+    ensures { SaysExport export (rows_in words.now) result }
+{
+    Exported {
         export,
         epoch: epoch(words),
         file: name(words, "input"),
-        output: output(words),
-    })
+        output: name(words, "output"),
+    }
 }
 
-fn asked_diff<'a>(words: &'a ArgMatches<'_>) -> Asked<'a> {
-    Asked::Compare(LogPair {
+fn compared<'a>(words: &'a ArgMatches<'_>) -> LogPair<'a>
+    ensures { SaysCompare (rows_in words.now) result }
+{
+    LogPair {
         one: name(words, "one"),
         other: name(words, "other"),
         epoch: epoch(words),
-        output: output(words),
-    })
-}
-
-fn asked_run<'a>(words: &'a ArgMatches<'_>) -> Asked<'a> {
-    Asked::Rehearse(Run {
-        scenario: name(words, "scenario"),
-        files: files(words),
-        workers: words.get_str("workers"),
-        has_subjects: words.get_flag("subjects"),
-        epoch: epoch(words),
-        is_strict: words.get_flag("strict"),
-        allowed: words.get_strs("allow").unwrap_or(&[]),
-        tells_inputs: !words.get_flag("no-inputs"),
-        log: words.get_str("log"),
-        output: output(words),
-    })
-}
-
-fn asked_page<'a>(description: Description, words: &'a ArgMatches<'_>) -> Asked<'a> {
-    Asked::Describe(Page {
-        description,
-        output: output(words),
-    })
-}
-
-/// The completions for a shell.
-fn completions(words: &ArgMatches<'_>) -> Description {
-    if words.get_str("shell") == Some("zsh") {
-        return Description::Zsh;
+        output: name(words, "output"),
     }
-    Description::Bash
+}
+
+fn run<'a>(words: &'a ArgMatches<'_>) -> Run<'a>
+    ensures { SaysRun (rows_in words.now) result }
+{
+    Run {
+        scenario: name(words, "scenario"),
+        files: names(words, "files"),
+        workers: value(words, "workers"),
+        has_subjects: is_given(words, "subjects"),
+        epoch: epoch(words),
+        is_strict: is_given(words, "strict"),
+        allowed: names(words, "allow"),
+        tells_inputs: !is_given(words, "no-inputs"),
+        log: value(words, "log"),
+        output: name(words, "output"),
+    }
+}
+
+fn described<'a>(description: Description, words: &'a ArgMatches<'_>) -> Page<'a>
+    ensures { SaysPage description (rows_in words.now) result }
+{
+    Page {
+        description,
+        output: name(words, "output"),
+    }
+}
+
+/// The completions for a shell, by its name.
+fn completions_for(shell: Option<&str>) -> Description
+    ensures { result ≡ completions_for (option_map text_of shell.entry) }
+{
+    match shell {
+        Some(shell) => {
+            if shell.as_bytes() == b"zsh".as_slice() {
+                Description::Zsh
+            } else {
+                Description::Bash
+            }
+        }
+        None => Description::Bash,
+    }
 }
 
 /// What the words behind a verb ask for.
-pub(crate) fn read_verb<'a>(verb: Verb, words: &'a ArgMatches<'_>) -> Asked<'a> {
+pub(crate) fn read_verb<'a>(verb: Verb, words: &'a ArgMatches<'_>) -> Asked<'a>
+    ensures { IsAsked verb (rows_in words.now) result }
+{
     match verb {
-        Verb::Table => asked_making(Making::Table, words),
-        Verb::Scenario => asked_making(Making::Scenario, words),
-        Verb::Build => asked_build(words),
-        Verb::Check => asked_check(words),
-        Verb::Show => asked_show(words),
-        Verb::Run => asked_run(words),
-        Verb::Words => asked_export(Export::Words, words),
-        Verb::Csv => asked_export(Export::Rows, words),
-        Verb::Pcap => asked_export(Export::Capture, words),
-        Verb::Diff => asked_diff(words),
-        Verb::Completions => asked_page(completions(words), words),
-        Verb::Man => asked_page(Description::Manual, words),
+        Verb::Table => Asked::Make(wanted(Making::Table, words)),
+        Verb::Scenario => Asked::Make(wanted(Making::Scenario, words)),
+        Verb::Build => Asked::Build(build(words)),
+        Verb::Check => Asked::Check(check(words)),
+        Verb::Show => Asked::Show(shown(words)),
+        Verb::Run => Asked::Rehearse(run(words)),
+        Verb::Words => Asked::Export(exported(Export::Words, words)),
+        Verb::Csv => Asked::Export(exported(Export::Rows, words)),
+        Verb::Pcap => Asked::Export(exported(Export::Capture, words)),
+        Verb::Diff => Asked::Compare(compared(words)),
+        Verb::Completions => {
+            Asked::Describe(described(completions_for(value(words, "shell")), words))
+        }
+        Verb::Man => Asked::Describe(described(Description::Manual, words)),
     }
 }

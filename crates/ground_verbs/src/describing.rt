@@ -1,5 +1,9 @@
 //! The verbs that describe the command line itself.
 
+ghost use Rattle.std.specs.Prelude.{◌≡◌, Some};
+ghost use Rattle.ground_files.specs.Workspaces.{Held};
+ghost use Rattle.ground_verbs.specs.Done.{WritesPage};
+
 use crate::asked::{Description, Page};
 use ground_files::{Status, Workspace, output_name, put_output, tell_no_memory, tell_unwritten};
 use ground_pages::{bash_completions, manual, zsh_completions};
@@ -22,7 +26,10 @@ pub(crate) fn describe<R: Eprint + AllocGlobal, W: Workspace>(
     rt: &R,
     workspace: &mut W,
     page: &Page<'_>,
-) -> Status {
+) -> Status
+    ensures { (before : Held) → W.held workspace.old ≡ Some before
+        → WritesPage page.now result before (W.held workspace.new) }
+{
     let Ok(text) = page.description.text(rt.alloc()) else {
         return tell_no_memory(rt);
     };

@@ -1,5 +1,15 @@
 //! What groundkit does, by its words.
 
+ghost use Rattle.std.specs.Prelude.{◌≡◌, Some, map, string_bytes};
+ghost use Rattle.clap.specs.Values.{kind_of};
+ghost use Rattle.clap.specs.Simple.{subcommand_rows_of};
+ghost use Rattle.rehearsal.specs.Promise.{shelf_use};
+ghost use Rattle.verb_words.specs.Verbs.{verb_named};
+ghost use Rattle.ground_files.specs.Workspaces.{Held};
+ghost use Rattle.ground_verbs.specs.Said.{rows_in};
+ghost use Rattle.ground_verbs.specs.Done.{IsRehearsed, IsDone};
+ghost use Rattle.ground_verbs.specs.Followed.{status_of, DoesNamed, DoesAny, FollowsWords};
+
 use crate::asked::{Asked, read_verb};
 use crate::describing::describe;
 use book_rehearsals::{epoch_of_run, names_book, run_book};
@@ -17,7 +27,9 @@ use std::thread::Threads;
 use verb_words::{Verb, command};
 
 /// The status where the words are refused, or where they ask for help or the version.
-fn status_of_words(error: &Error) -> Status {
+fn status_of_words(error: &Error) -> Status
+    ensures { result ≡ status_of (kind_of error.now) }
+{
     match error.kind() {
         ErrorKind::DisplayHelp | ErrorKind::DisplayVersion => Status::Done,
         ErrorKind::OutOfMemory => Status::NoMemory,
@@ -31,6 +43,9 @@ where
     R: Threads + Sync + Eprint + AllocGlobal,
     W: DraftTeller,
     S: Shelf + Drop,
+    ensures { (before : Held) → W.held workspace.old ≡ Some before
+        → IsRehearsed (shelf_use S.told S.is_open S.faults S.mark shelf) run.now result before
+        (W.held workspace.new) }
 {
     if names_book(rt, workspace, run) {
         return run_book(rt, workspace, run);
@@ -49,6 +64,9 @@ where
     R: Threads + Sync + Eprint + AllocGlobal,
     W: DraftTeller,
     S: Shelf + Drop,
+    ensures { (before : Held) → W.held workspace.old ≡ Some before
+        → IsDone (shelf_use S.told S.is_open S.faults S.mark shelf) asked.now result before
+        (W.held workspace.new) }
 {
     match asked {
         Asked::Make(wanted) => make_one(rt, workspace, wanted),
@@ -74,6 +92,9 @@ where
     R: Threads + Sync + Eprint + AllocGlobal,
     W: DraftTeller,
     S: Shelf + Drop,
+    ensures { (before : Held) → W.held workspace.old ≡ Some before
+        → DoesNamed (shelf_use S.told S.is_open S.faults S.mark shelf) (verb_named name.now)
+        (rows_in words.now) result before (W.held workspace.new) }
 {
     match Verb::named(name) {
         Some(verb) => carry_out(rt, workspace, shelf, &read_verb(verb, words)),
@@ -87,6 +108,9 @@ where
     R: Threads + Sync + Eprint + AllocGlobal,
     W: DraftTeller,
     S: Shelf + Drop,
+    ensures { (before : Held) → W.held workspace.old ≡ Some before
+        → DoesAny (shelf_use S.told S.is_open S.faults S.mark shelf)
+        (subcommand_rows_of found.now) result before (W.held workspace.new) }
 {
     match found.subcommand() {
         Some((name, behind)) => carry_out_verb(rt, workspace, shelf, name, behind),
@@ -95,7 +119,9 @@ where
 }
 
 /// Tells help, or why words are refused, and answers the status.
-fn tell_words<R: Print + Eprint>(rt: &R, error: &Error) -> Status {
+fn tell_words<R: Print + Eprint>(rt: &R, error: &Error) -> Status
+    ensures { result ≡ status_of (kind_of error.now) }
+{
     // There is no other place to tell it.
     let _told = error.print(rt);
     status_of_words(error)
@@ -108,6 +134,9 @@ where
     R: Threads + Sync + Print + Eprint + AllocGlobal,
     W: DraftTeller,
     S: Shelf + Drop,
+    ensures { (before : Held) → W.held workspace.old ≡ Some before
+        → FollowsWords (shelf_use S.told S.is_open S.faults S.mark shelf)
+        (map string_bytes words.now) result before (W.held workspace.new) }
 {
     let Ok(command) = command(rt.alloc()) else {
         return tell_no_memory(rt);

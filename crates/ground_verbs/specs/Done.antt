@@ -1,0 +1,46 @@
+-- What is done of what is asked for, and what that leaves.
+use Rattle.std.specs.Prelude.{◌≡◌, ◌≢◌, ℕ, List, Option, Some, IfSome, ◌⊎◌}
+use Rattle.std.specs.Borrow.{Bor}
+use Rattle.rehearsal.specs.Promise.{ShelfUse}
+use Rattle.ground_files.specs.declared.verb_status.Status.{Status}
+use Rattle.ground_files.specs.declared.verb_status.Status.TheVariants as statuses
+use Rattle.ground_files.specs.Workspaces.{Held, put_at}
+use Rattle.ground_files.specs.Verbs.{KeepsAllFiles}
+use Rattle.ground_making.specs.MadeFiles.{asked_by, EndsMaking}
+use Rattle.ground_making.specs.ShownFiles.{names_in, EndsShowing}
+use Rattle.ground_books.specs.Placed.{Builds}
+use Rattle.ground_checks.specs.Checked.{ChecksFiles}
+use Rattle.ground_exports.specs.Exports.{IsExported}
+use Rattle.ground_differences.specs.Differences.{IsCompared}
+use Rattle.ground_runs.specs.declared.asked_run.Run.{Run}
+use Rattle.ground_runs.specs.AskedWords.{words_of}
+use Rattle.ground_runs.specs.KeptLogs.{kept_run, LeavesLog}
+use Rattle.book_rehearsals.specs.LeftByBooks.{book_asked, LeavesBook}
+use Rattle.ground_verbs.specs.declared.asked.Page.{Page}
+use Rattle.ground_verbs.specs.declared.asked.Asked.{Asked}
+use Rattle.ground_verbs.specs.declared.asked.Asked.TheVariants as asks
+
+-- A page was put in its place, or no file is another.
+pub record WritesPage (page : Page) (status : Status) (before : Held) (after : Option Held) : Type 0 where
+  pub done : status ≡ statuses.Done → (text : List ℕ) × (after ≡ Some (put_at page.output.now text before))
+  pub undone : status ≢ statuses.Done → KeepsAllFiles before after
+
+-- What a rehearsal of a scenario, whose shelf is seen so, leaves of the log that it keeps.
+abbrev pub LeavesScenarioLog : {S : Type 0} → (S → ShelfUse S) → Run → List ℕ → Status → Held → Option Held → Type 0
+LeavesScenarioLog seen run log = LeavesLog (kept_run (words_of run.workers run.has_subjects run.scenario.now run.files.now) seen log run.output.now)
+
+-- What a rehearsal leaves of the log that it keeps, where the words name a file for that: one of a scenario, or one of a book.
+abbrev pub IsRehearsed : {S : Type 0} → (S → ShelfUse S) → Run → Status → Held → Option Held → Type 0
+IsRehearsed seen run status before after = IfSome run.log (λ (log : Bor (List ℕ)).
+    LeavesScenarioLog seen run log.now status before after ⊎ LeavesBook (book_asked run) log.now status before after)
+
+-- What was done of what is asked for: the shelf of a rehearsal is seen so.
+abbrev pub IsDone : {S : Type 0} → (S → ShelfUse S) → Asked → Status → Held → Option Held → Type 0
+IsDone seen (asks.Make wanted) = EndsMaking (asked_by wanted)
+IsDone seen (asks.Show shown) = EndsShowing shown (names_in shown)
+IsDone seen (asks.Build build) = Builds build
+IsDone seen (asks.Check check) = ChecksFiles check
+IsDone seen (asks.Rehearse run) = IsRehearsed seen run
+IsDone seen (asks.Export exported) = IsExported exported
+IsDone seen (asks.Compare pair) = IsCompared pair
+IsDone seen (asks.Describe page) = WritesPage page
