@@ -9,13 +9,13 @@ use thiserror::Error;
 /// What a scenario's reader finds wrong with a line.
 #[derive(Clone, Copy, Debug, PartialEq, Eq, Error)]
 pub enum LineReason {
-    #[error("it has too few words or too many, or a kind, an application or a name isn't in its form")]
+    #[error("it has too few words or too many, or a kind, an application or a name isn't in its form: a name has 1 to 19 letters, digits and underscores")]
     Words,
     #[error("a number isn't in its form or is too large")]
     Number,
     #[error("the bytes are no packet")]
     Packet,
-    #[error("the regions are no map, or the address lies in none of them")]
+    #[error("the regions make no map (there are 1 to 8, they share no address, begin and end at multiples of 4, and have at most 4194304 bytes together), or the address lies in none of them")]
     Map,
     #[error("it is the 65th item of its frame")]
     Items,
