@@ -10,7 +10,7 @@ use thiserror::Error;
 #[derive(Clone, Copy, Debug, PartialEq, Eq, Error)]
 pub enum BookReason {
     /// The first line isn't `book NAME`.
-    #[error("`book` and the book's name are wanted here")]
+    #[error("`book` and the book's name are wanted here: 1 to 64 letters, digits, `_`, `.` and `-`, the first of them a letter")]
     Book,
     /// A line that says something stands between the first one and the first part.
     #[error("`part` is wanted here")]
