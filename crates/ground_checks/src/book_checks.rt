@@ -10,7 +10,7 @@ use crate::file_order::{SeenFile, warn_of_place};
 use crate::map_files::MOST_TEXT;
 use crate::map_texts::scenario_map;
 use crate::scenario_names::{Known, known_names, known_of};
-use ground_faults::{PartText, part_texts, tell_book};
+use ground_faults::{PartText, part_texts, tell_book, tell_line_ends};
 use ground_files::{Status, tell_no_memory};
 use ground_warnings::{PlacedText, warn_of_table};
 use load_books::{Book, BookError, BookFile, book_forms, is_book_text, read_book};
@@ -36,7 +36,10 @@ pub(crate) fn tell_unread_book<R: Eprint + AllocGlobal>(
 {
     match error {
         BookError::Memory(_) => tell_no_memory(rt),
-        BookError::Book(fault) => tell_book(rt, name, text, fault),
+        BookError::Book(fault) => {
+            tell_line_ends(rt, name, text);
+            tell_book(rt, name, text, fault)
+        }
     }
 }
 

@@ -4,47 +4,14 @@ ghost use Rattle.std.specs.Prelude.{◌≡◌, ◌≢◌, None, option_map};
 ghost use Rattle.ground_checks.specs.Faults.{fault_of};
 
 use crate::finding::{FoundFault, find_faults};
-use crate::read_faults::MOST_BYTES;
 use crate::read_words::tell_read;
-use ground_faults::{PAYLOAD, tell_entry};
+use ground_faults::{PAYLOAD, tell_entry, tell_headers};
 use ground_files::{Status, tell_no_memory};
 use ground_warnings::{PlacedText, warn_of_table};
 use memory_window::Map;
 use packet_forms::{Name, behind};
-use row_forms::split_word;
 use std::alloc::AllocError;
-use table_files::{FileFault, FileImage, TableKind, read_file};
-use table_texts::next_line;
-
-/// What a text is that was given in the place of a file; none where it isn't one.
-fn text_hint(file: &[u8]) -> Option<&'static str> {
-    if file.len() > MOST_BYTES {
-        return None;
-    }
-    let Some(line) = next_line(file, 1) else {
-        return None;
-    };
-    let Some((word, _)) = split_word(line.bytes) else {
-        return None;
-    };
-    if word == b"table".as_slice() || word == b"load".as_slice() {
-        return Some("it is a text: `groundkit table` makes the file of it");
-    }
-    if word == b"epoch".as_slice() {
-        return Some("it is a scenario or a plan: files of tables and loads are looked at here");
-    }
-    None
-}
-
-/// Tells why the headers of a file are refused.
-fn tell_headers<R: Eprint>(rt: &R, name: &str, file: &[u8], fault: FileFault) {
-    let reason = fault.number();
-    // There is no other place to tell it.
-    let _told = match text_hint(file) {
-        Some(hint) => eprintln!(rt; "{name}: {hint} (reason {reason})"),
-        None => eprintln!(rt; "{name}: {fault} (reason {reason})"),
-    };
-}
+use table_files::{FileImage, TableKind, read_file};
 
 /// The table of a file, where it has one.
 fn kind_of(file: &[u8]) -> Option<TableKind> {
@@ -71,7 +38,8 @@ fn tell_found<R: Eprint + AllocGlobal>(
             Ok(())
         }
         (FoundFault::Headers(fault), _) => {
-            tell_headers(rt, name, file, fault);
+            // There is no other place to tell it.
+            let _told = tell_headers(rt, name, file, fault);
             Ok(())
         }
         (FoundFault::Entry(fault), Some(kind)) => tell_entry(rt, name, kind, payload, fault),

@@ -4,31 +4,12 @@ ghost use Rattle.std.specs.Prelude.{◌≢◌};
 ghost use Rattle.ground_files.specs.declared.verb_status.Status.TheVariants as statuses;
 
 use crate::making::Refusal;
-use ground_faults::{key_in_book, key_in_load, key_in_plan, key_in_table, tell_book_fault};
+use ground_faults::{
+    key_in_book, key_in_load, key_in_plan, key_in_table, tell_book_fault, tell_headers,
+    tell_line_ends,
+};
 use ground_files::Status;
 use std::alloc::AllocError;
-
-/// Whether a line of a text ends with a carriage return.
-fn has_carriage_return(text: &[u8]) -> bool {
-    let mut last = 0;
-    for byte in text {
-        if last == b'\r' && *byte == b'\n' {
-            return true;
-        }
-        last = *byte;
-    }
-    false
-}
-
-/// Tells that a refused text's lines end with carriage returns, where they do: its words then aren't what they look like.
-fn tell_line_ends<R: Eprint>(rt: &R, name: &str, text: &[u8], refusal: &Refusal) {
-    if refusal.is_of_text() && has_carriage_return(text) {
-        // There is no other place to tell it.
-        let _told = eprintln!(rt;
-            "{name}: its lines end with carriage returns: save it with LF line ends"
-        );
-    }
-}
 
 /// The key that is wanted where a text has another one.
 fn key_of(text: &[u8], refusal: &Refusal) -> Option<&'static str> {
@@ -54,9 +35,15 @@ pub fn tell_refusal<R: Eprint + AllocGlobal>(
 ) -> Status
     ensures { result ≢ statuses.Done }
 {
-    tell_line_ends(rt, name, bytes, refusal);
+    if refusal.is_of_text() {
+        tell_line_ends(rt, name, bytes);
+    }
     if let Refusal::Book(fault) = refusal {
         return tell_book_fault(rt, name, bytes, fault);
+    }
+    if let Refusal::File(fault) = refusal {
+        let _told = tell_headers(rt, name, bytes, *fault);
+        return Status::FileRefused;
     }
     let _told = match key_of(bytes, refusal) {
         Some(key) => eprintln!(rt; "{name}: {refusal}: `{key}=`"),
