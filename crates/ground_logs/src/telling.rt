@@ -9,7 +9,7 @@ use crate::line_maker::LineMaker;
 use crate::log_maker::LogMaker;
 use crate::sentences::Sentences;
 use ground_files::Fault;
-use log_lines::LogFault;
+use log_lines::{LineFault, LogFault};
 use packet_forms::{behind, front};
 use std::alloc::Global;
 use std::io::{self, Read, Write};
@@ -50,10 +50,27 @@ pub fn write_made<W: Write>(bytes: &[u8], out: &mut W) -> Result<(), Fault>
     }
 }
 
+/// What else may be so of a line that is none of a log's.
+fn hint_of(fault: LogFault) -> &'static str {
+    match fault.fault {
+        LineFault::Digits | LineFault::Name => ", or the line ends with a carriage return",
+        LineFault::Long
+        | LineFault::Frame
+        | LineFault::Word
+        | LineFault::Missing
+        | LineFault::Extra
+        | LineFault::Pipe
+        | LineFault::Cause
+        | LineFault::Packet(_)
+        | LineFault::Cut => "",
+    }
+}
+
 impl<'a, E: Eprint> Telling<'a, E> {
     /// Tells to standard error that a line is none of a log's.
     pub fn tell_fault(&self, fault: LogFault) -> Result<(), Fault> {
-        eprintln!(self.rt; "{}, {fault}", self.name).map_err(Fault::Write)
+        let hint = hint_of(fault);
+        eprintln!(self.rt; "{}, {fault}{hint}", self.name).map_err(Fault::Write)
     }
 
     /// Tells a line that is none of a log's, where there is one.
