@@ -75,6 +75,16 @@ impl<L: Sink + Drop, W: Sink + Drop, F: FrameTeller + Drop> ToldLog<L, W, F> {
         self.trouble
     }
 
+    /// The sink of the log.
+    pub fn log(&self) -> &L {
+        &self.log
+    }
+
+    /// The sink of the words.
+    pub fn words(&self) -> &W {
+        &self.words
+    }
+
     /// The sinks of the log and of the words, where no more comes.
     pub fn into_sinks(self) -> (L, W)
         ensures { result.0 ≡ self.log }
