@@ -6,14 +6,17 @@ ghost use Rattle.fsw_outside.specs.TallyLaws.{tallied_of};
 ghost use Rattle.ground_runs.specs.DraftSinks.{told_while_well};
 
 use crate::draft_tellers::DraftTeller;
+use crate::fault_tellers::FaultTeller;
 use fsw_outside::{Failed, Sink};
-use std::io::Write;
+use std::io::{self, ErrorKind, Write};
 
 /// A sink that hands its bytes to a draft, and flushes it behind each piece. Until it fails, it tells the bytes that the draft tells.
 #[derive(Drop)]
 pub(crate) struct DraftSink<W: DraftTeller> {
     draft: W::Draft,
     faults: u64,
+    // the first error
+    error: Option<io::Error>,
 }
 
 impl<W: DraftTeller> DraftSink<W> {
@@ -22,7 +25,11 @@ impl<W: DraftTeller> DraftSink<W> {
         ensures draft { result.draft ≡ draft }
         ensures faults { result.faults ≡ 0 }
     {
-        DraftSink { draft, faults: 0 }
+        DraftSink {
+            draft,
+            faults: 0,
+            error: None,
+        }
     }
 
     /// The draft, with all that was written to it.
@@ -32,12 +39,15 @@ impl<W: DraftTeller> DraftSink<W> {
         self.draft
     }
 
-    /// Counts a fault.
-    fn fail(&mut self) -> Failed
+    /// Counts a fault, and keeps the first one's error.
+    fn fail(&mut self, error: io::Error) -> Failed
         ensures draft { self.new.draft ≡ self.old.draft }
         ensures faults { self.new.faults ≡ min (self.old.faults + 1) (2 ^ 64 - 1) }
         ensures later { self.old.faults ≤ self.new.faults }
     {
+        if self.error.is_none() {
+            self.error = Some(error);
+        }
         self.faults = self.faults.saturating_add(1);
         Failed
     }
@@ -56,12 +66,19 @@ impl<W: DraftTeller> Sink for DraftSink<W> {
 
     fn write(&mut self, piece: &[u8]) -> Result<usize, Failed> {
         let count = match self.draft.write(piece) {
-            Ok(0) | Err(_) => return Err(self.fail()),
+            Ok(0) => return Err(self.fail(io::Error::from(ErrorKind::WriteZero))),
+            Err(error) => return Err(self.fail(error)),
             Ok(count) => count,
         };
         match self.draft.flush() {
             Ok(()) => Ok(count),
-            Err(_) => Err(self.fail()),
+            Err(error) => Err(self.fail(error)),
         }
+    }
+}
+
+impl<W: DraftTeller> FaultTeller for DraftSink<W> {
+    fn error(&self) -> Option<&io::Error> {
+        self.error.as_ref()
     }
 }

@@ -5,9 +5,11 @@ ghost use Rattle.ground_runs.specs.Endings.{status_at, is_kept, writes_all};
 
 use crate::asked_run::Run;
 use crate::line_causes::{find_line, line_cause};
-use crate::second_looks::read_again;
-use ground_faults::{PAYLOAD, tell_entry};
-use ground_files::{Status, Workspace, is_stream, output_name, tell_no_memory};
+use crate::second_looks::{can_be_read_again, read_again};
+use ground_faults::{PAYLOAD, tell_entry, tell_headers};
+use ground_files::{
+    Status, Workspace, input_name, is_stream, output_name, tell_no_memory, tell_unwritten,
+};
 use ground_tools::Trouble;
 use packet_forms::behind;
 use rehearsal::{Report, Status as End};
@@ -26,7 +28,7 @@ fn line_of<W: Workspace>(alloc: Global, workspace: &mut W, path: &str, number: u
     ensures { W.held workspace.new ≡ W.held workspace.old }
 {
     let mut line = Vec::new(alloc);
-    if is_stream(path) {
+    if !can_be_read_again(workspace, path).unwrap_or(false) {
         return line;
     }
     if let Ok(mut text) = workspace.open(path) {
@@ -57,6 +59,7 @@ fn tell_found<R: Eprint + AllocGlobal>(
         Some(TableFault::Entry(kind, fault)) => {
             Ok(tell_entry(rt, path, kind, behind(file, PAYLOAD), fault)?)
         }
+        Some(TableFault::File(fault)) => tell_headers(rt, path, file, fault),
         Some(fault) => eprintln!(rt; "{path}: {fault} (reason {reason})"),
         None => tell_number(rt, path, report.line, reason),
     }
@@ -104,8 +107,8 @@ fn tell_line<R: Eprint + AllocGlobal, W: Workspace>(
     }
 }
 
-/// Tells why a file can't be read, as far as another try shows it.
-fn tell_unread<R: Eprint, W: Workspace>(rt: &R, workspace: &mut W, path: &str) -> io::Result<()>
+/// Tells why a regular file can't be read, as far as another try shows it.
+fn tell_tried<R: Eprint, W: Workspace>(rt: &R, workspace: &mut W, path: &str) -> io::Result<()>
     ensures { W.held workspace.new ≡ W.held workspace.old }
 {
     let mut piece = [0u8; 1];
@@ -116,6 +119,20 @@ fn tell_unread<R: Eprint, W: Workspace>(rt: &R, workspace: &mut W, path: &str) -
     match error {
         Some(error) => eprintln!(rt; "{path}: it can't be read: {error}"),
         None => eprintln!(rt; "{path}: it can't be read"),
+    }
+}
+
+/// Tells why an input can't be read. Only a regular file is tried again: the opening of a pipe may wait for ever.
+fn tell_unread<R: Eprint, W: Workspace>(rt: &R, workspace: &mut W, path: &str) -> io::Result<()>
+    ensures { W.held workspace.new ≡ W.held workspace.old }
+{
+    if is_stream(path) {
+        return eprintln!(rt; "{0}: it can't be read", input_name(path));
+    }
+    match workspace.is_file(path) {
+        Ok(true) => tell_tried(rt, workspace, path),
+        Ok(false) => eprintln!(rt; "{path}: it can't be read: it is no regular file"),
+        Err(error) => eprintln!(rt; "{path}: it can't be read: {error}"),
     }
 }
 
@@ -182,8 +199,13 @@ pub fn tell_end<R: Eprint + AllocGlobal, W: Workspace, T: CauseTeller>(
     status_of_end(report.status)
 }
 
-/// Tells what failed as the log was written or told, and answers the status.
-pub fn tell_trouble<R: Eprint>(rt: &R, run: &Run<'_>, trouble: Option<Trouble>) -> Status
+/// Tells what failed as the log was written or told, with the error where it is known, and answers the status.
+pub(crate) fn tell_trouble<R: Eprint>(
+    rt: &R,
+    run: &Run<'_>,
+    trouble: Option<Trouble>,
+    error: Option<&io::Error>,
+) -> Status
     ensures { writes_all result ≡ false }
 {
     let place = match trouble {
@@ -191,6 +213,9 @@ pub fn tell_trouble<R: Eprint>(rt: &R, run: &Run<'_>, trouble: Option<Trouble>) 
         Some(Trouble::Words) => output_name(run.output),
         None => run.log_name(),
     };
+    if let Some(error) = error {
+        return tell_unwritten(rt, place, error);
+    }
     let _told = eprintln!(rt; "{place}: it can't be written");
     Status::WriteFailed
 }

@@ -5,6 +5,7 @@ mod asked_run;
 mod draft_sinks;
 mod draft_tellers;
 mod endings;
+mod fault_tellers;
 mod given_files;
 mod line_causes;
 mod rehearsals;

@@ -54,10 +54,13 @@ fn is_known(line: &[u8]) -> bool {
 /// Why the first word of a line, or the number or the form of the others, is refused.
 fn word_cause(line: &[u8]) -> &'static str {
     if !is_known(line) {
-        return "no line of a scenario begins with this word";
+        return "no line of a scenario begins with this word; of a plan, `groundkit scenario` makes the scenario";
     }
     if begins_with(line, b"epoch") || begins_with(line, b"region") || begins_with(line, b"start") {
-        return "`epoch N` comes first, then each `region KIND START LEN`, then `start`, and KIND is RAM, EEPROM, MEM8, MEM16 or MEM32";
+        return "`epoch N` comes first, then each `region KIND START LEN`, then `start`, and KIND is RAM, EEPROM, MEM8, MEM16 or MEM32; of a plan, `groundkit scenario` makes the scenario";
+    }
+    if begins_with(line, b"send") {
+        return "`send` stands in a frame and has the bytes of one packet in hexadecimal digits; of a plan, `groundkit scenario` makes the scenario";
     }
     if begins_with(line, b"hold") {
         return "`hold` stands in a frame, and its application is HS, CS, SC, MM or MD";
@@ -65,7 +68,7 @@ fn word_cause(line: &[u8]) -> &'static str {
     if begins_with(line, b"end") {
         return "`end` stands alone, directly behind `start` or a `tick`";
     }
-    "the line stands out of its place, has words missing or too many, or a name out of form"
+    "the line stands out of its place, has words missing or too many, or a name that hasn't 1 to 19 letters, digits and underscores"
 }
 
 /// Why the regions, or an upset, are refused.

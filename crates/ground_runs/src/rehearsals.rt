@@ -9,9 +9,10 @@ use crate::asked_run::Run;
 use crate::draft_sinks::DraftSink;
 use crate::draft_tellers::DraftTeller;
 use crate::endings::CauseTeller;
+use crate::fault_tellers::FaultTeller;
 use crate::rehearsing::rehearse_on;
 use crate::run_ends::{Ending, end_drill, end_run};
-use fsw_outside::{Shelf, Sink};
+use fsw_outside::Shelf;
 use ground_tools::{FrameTeller, ToldLog};
 use rehearsal::Words;
 use std::thread::Threads;
@@ -55,7 +56,7 @@ where
     let Ok(report) = rehearse_on(rt, &what.words, &mut what.shelf, &mut sink) else {
         return (Ending::without_memory(rt), sink.into_draft());
     };
-    let status = end_drill(rt, workspace, run, &what.teller, &report);
+    let status = end_drill(rt, workspace, run, &what.teller, &report, sink.error());
     let frames = report.frames;
     (Ending { status, frames }, sink.into_draft())
 }
@@ -63,7 +64,7 @@ where
 /// A rehearsal that ended so, and its outputs.
 fn end_both<L, W, F>(ending: Ending, told: ToldLog<L, DraftSink<W>, F>) -> Rehearsed<L, W::Draft>
 where
-    L: Sink + Drop,
+    L: FaultTeller + Drop,
     W: DraftTeller,
     F: FrameTeller + Drop,
     ensures ending { result.ending ≡ ending }
@@ -91,7 +92,7 @@ where
     W: DraftTeller,
     S: Shelf + Drop,
     T: CauseTeller + Drop,
-    L: Sink + Drop,
+    L: FaultTeller + Drop,
     F: FrameTeller + Drop,
     ensures held { W.held workspace.new ≡ W.held workspace.old }
     ensures log { writes_all result.ending.status ≡ true → WritesLog what.words

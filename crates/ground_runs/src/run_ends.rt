@@ -6,11 +6,13 @@ ghost use Rattle.ground_runs.specs.Endings.{status_at, unjudged, writes_all};
 
 use crate::asked_run::Run;
 use crate::endings::{CauseTeller, tell_end, tell_trouble};
+use crate::fault_tellers::FaultTeller;
 use fsw_outside::Sink;
 use ground_files::{Status, Workspace, tell_no_memory};
 use ground_summaries::{summary_of, unwanted_of};
 use ground_tools::{FrameTeller, ToldLog, Trouble};
 use rehearsal::{Report, Status as End};
+use std::io;
 
 /// How a rehearsal ended, and of how many frames the log was written.
 #[derive(Clone, Copy)]
@@ -97,6 +99,19 @@ where
     }
 }
 
+/// The first error of the sink that is in trouble, of the log's where the words aren't.
+fn error_of<L, O, F>(told: &ToldLog<L, O, F>, trouble: Option<Trouble>) -> Option<&io::Error>
+where
+    L: FaultTeller + Drop,
+    O: FaultTeller + Drop,
+    F: FrameTeller + Drop,
+{
+    match trouble {
+        Some(_) => told.words().error(),
+        None => told.log().error(),
+    }
+}
+
 /// Ends a rehearsal: tells why it ended, or sums it up.
 pub(crate) fn end_run<R, W, T, L, O, F>(
     rt: &R,
@@ -110,8 +125,8 @@ where
     R: Eprint + AllocGlobal,
     W: Workspace,
     T: CauseTeller,
-    L: Sink + Drop,
-    O: Sink + Drop,
+    L: FaultTeller + Drop,
+    O: FaultTeller + Drop,
     F: FrameTeller + Drop,
     ensures held { W.held workspace.new ≡ W.held workspace.old }
     ensures log { told.new.log ≡ told.old.log }
@@ -121,7 +136,7 @@ where
 {
     let trouble = told.trouble();
     if trouble.is_some() || report.status == End::WriteFailed {
-        return tell_trouble(rt, run, trouble);
+        return tell_trouble(rt, run, trouble, error_of(told, trouble));
     }
     let status = tell_end(rt, workspace, teller, report);
     if status != Status::Done && report.frames == 0 {
@@ -129,22 +144,26 @@ where
     }
     match end_told(rt, run, report.frames, status, told) {
         Ok(status) => status,
-        Err(trouble) => tell_trouble(rt, run, Some(trouble)),
+        Err(trouble) => {
+            let trouble = Some(trouble);
+            tell_trouble(rt, run, trouble, error_of(told, trouble))
+        }
     }
 }
 
-/// Tells how the rehearsal of a generated scenario ended, and answers the status.
+/// Tells how the rehearsal of a generated scenario ended, whose output had this error, and answers the status.
 pub(crate) fn end_drill<R: Eprint + AllocGlobal, W: Workspace, T: CauseTeller>(
     rt: &R,
     workspace: &mut W,
     run: &Run<'_>,
     teller: &T,
     report: &Report,
+    error: Option<&io::Error>,
 ) -> Status
     ensures { W.held workspace.new ≡ W.held workspace.old }
 {
     if report.status == End::WriteFailed {
-        return tell_trouble(rt, run, Some(Trouble::Words));
+        return tell_trouble(rt, run, Some(Trouble::Words), error);
     }
     tell_end(rt, workspace, teller, report)
 }
