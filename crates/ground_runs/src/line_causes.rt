@@ -51,8 +51,11 @@ fn is_known(line: &[u8]) -> bool {
     WORDS.iter().any(|word| begins_with(line, word.as_bytes()))
 }
 
-/// Why the first word of a line, or the number or the form of the others, is refused.
+/// Why the first word of a line, or the number or the form of the others, is refused. Of a line of a pipe nothing is known.
 fn word_cause(line: &[u8]) -> &'static str {
+    if line.is_empty() {
+        return "the line begins with no word of a scenario, stands out of its place, or has words missing, too many or out of form; of a plan, `groundkit scenario` makes the scenario";
+    }
     if !is_known(line) {
         return "no line of a scenario begins with this word; of a plan, `groundkit scenario` makes the scenario";
     }
@@ -73,6 +76,9 @@ fn word_cause(line: &[u8]) -> &'static str {
 
 /// Why the regions, or an upset, are refused.
 fn map_cause(line: &[u8]) -> &'static str {
+    if line.is_empty() {
+        return "the regions make no map, or an upset lies in none of them";
+    }
     if begins_with(line, b"start") {
         return "the regions make no map: there are 1 to 8, they share no address, begin and end at multiples of 4, and have at most 4194304 bytes together";
     }
