@@ -6,7 +6,7 @@ use Rattle.clap.specs.Matches.{found_of, one_text, ReadsOne}
 use Rattle.clap.specs.Walk.{one_of}
 use Rattle.clap.specs.declared.parser.matches.ArgMatches.{ArgMatches}
 use Rattle.clap.proofs.WalkLemmas.{one_text-rows}
-use Rattle.ground_verbs.specs.Said.{rows_in, texts_of, SaysTime, SaysEpoch}
+use Rattle.ground_verbs.specs.Said.{rows_in, word_texts, SaysTime, SaysEpoch}
 
 module _ {E : Type 0} (G : List ℕ → Result ℕ E → Type 0) (parses : (t : List ℕ) (r : Result ℕ E) → G t r → ParsesUnsigned 32 10 t r) where
   -- what std reads of a text is the time in it
@@ -26,7 +26,7 @@ module _ {E : Type 0} (G : List ℕ → Result ℕ E → Type 0) (parses : (t : 
       go (Some t) is = time_read t epoch (some t is)
 
 -- the names that were found, or none
-pub names_found : (found : Option (Bor (List (Bor (List ℕ))))) (other : Bor (List (Bor (List ℕ)))) (said : Option (List (List ℕ))) → texts_of other.now ≡ []
-    → option_map (λ (names : Bor (List (Bor (List ℕ)))). texts_of names.now) found ≡ said → texts_of (unwrap_or found other).now ≡ unwrap_or said []
+pub names_found : (found : Option (Bor (List (Bor (List ℕ))))) (other : Bor (List (Bor (List ℕ)))) (said : Option (List (List ℕ))) → word_texts other.now ≡ []
+    → option_map (λ (names : Bor (List (Bor (List ℕ)))). word_texts names.now) found ≡ said → word_texts (unwrap_or found other).now ≡ unwrap_or said []
 names_found None other said empty is = rw (sym is) empty
 names_found (Some names) other said empty is = rw (sym is) refl

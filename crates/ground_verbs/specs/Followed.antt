@@ -19,17 +19,17 @@ use Rattle.ground_verbs.specs.Said.{IsAsked}
 use Rattle.ground_verbs.specs.Done.{IsDone}
 
 -- the status where clap gives this kind of error: help and the version are asked for, memory ran out, or the words are refused
-abbrev pub status_of : ErrorKind → Status
-status_of kinds.DisplayHelp = statuses.Done
-status_of kinds.DisplayVersion = statuses.Done
-status_of kinds.OutOfMemory = statuses.NoMemory
-status_of other = statuses.WordsRefused
+abbrev pub error_status : ErrorKind → Status
+error_status kinds.DisplayHelp = statuses.Done
+error_status kinds.DisplayVersion = statuses.Done
+error_status kinds.OutOfMemory = statuses.NoMemory
+error_status other = statuses.WordsRefused
 
 -- An error of the words came, one of these kinds, or memory ran out: nothing is another.
 pub record RefusesWords (faults : Kinds) (status : Status) (before : Held) (after : Option Held) : Type 0 where
   pub kind : ErrorKind
   pub is_fault : (kind ≡ kinds.OutOfMemory) ⊎ IsAmong kind faults
-  pub is_status : status ≡ status_of kind
+  pub is_status : status ≡ error_status kind
   pub same : after ≡ Some before
 
 -- No verb is named.

@@ -24,23 +24,23 @@ use Rattle.ground_verbs.specs.declared.asked.Page.{Page}
 use Rattle.ground_verbs.specs.declared.asked.Asked.{Asked}
 use Rattle.ground_verbs.specs.declared.asked.Asked.TheVariants as asks
 
-abbrev pub text_of : Bor (List ℕ) → List ℕ
-text_of text = text.now
+abbrev pub word_text : Bor (List ℕ) → List ℕ
+word_text text = text.now
 
-abbrev pub texts_of : List (Bor (List ℕ)) → List (List ℕ)
-texts_of texts = map text_of texts
+abbrev pub word_texts : List (Bor (List ℕ)) → List (List ℕ)
+word_texts texts = map word_text texts
 
 -- the words of a verb and their values
 abbrev pub rows_in : ArgMatches → List Row
 rows_in words = rows_of (found_of words)
 
 -- the name that a word gives; a standard stream where it gives none
-abbrev pub name_in : List ℕ → List Row → List ℕ
-name_in word rows = unwrap_or (first_of word rows) (codes "-")
+abbrev pub name_given : List ℕ → List Row → List ℕ
+name_given word rows = unwrap_or (first_of word rows) (codes "-")
 
 -- the names that a word gives, as often as it stands there
-abbrev pub names_in : List ℕ → List Row → List (List ℕ)
-names_in word rows = unwrap_or (all_of word rows) []
+abbrev pub names_given : List ℕ → List Row → List (List ℕ)
+names_given word rows = unwrap_or (all_of word rows) []
 
 -- whether a flag is given, by its value
 abbrev pub is_true : Option (List ℕ) → Bool
@@ -71,49 +71,49 @@ SaysEpoch rows epoch = SaysTime (one_of (codes "epoch") rows) epoch
 pub record SaysMake (what : Making) (rows : List Row) (wanted : Wanted) : Type 0 where
   pub making : wanted.making ≡ what
   pub epoch : SaysEpoch rows wanted.epoch
-  pub file : wanted.file.now ≡ name_in (codes "input") rows
-  pub output : wanted.output.now ≡ name_in (codes "output") rows
+  pub file : wanted.file.now ≡ name_given (codes "input") rows
+  pub output : wanted.output.now ≡ name_given (codes "output") rows
 
 pub record SaysShow (rows : List Row) (shown : Shown) : Type 0 where
   pub epoch : SaysEpoch rows shown.epoch
-  pub files : texts_of shown.files.now ≡ names_in (codes "files") rows
-  pub output : shown.output.now ≡ name_in (codes "output") rows
+  pub files : word_texts shown.files.now ≡ names_given (codes "files") rows
+  pub output : shown.output.now ≡ name_given (codes "output") rows
 
 pub record SaysBuild (rows : List Row) (build : Build) : Type 0 where
-  pub book : build.book.now ≡ name_in (codes "input") rows
-  pub folder : option_map text_of build.folder ≡ first_of (codes "output") rows
+  pub book : build.book.now ≡ name_given (codes "input") rows
+  pub folder : option_map word_text build.folder ≡ first_of (codes "output") rows
 
 pub record SaysCheck (rows : List Row) (check : Check) : Type 0 where
-  pub files : texts_of check.files.now ≡ names_in (codes "files") rows
-  pub map : option_map text_of check.map ≡ first_of (codes "map") rows
+  pub files : word_texts check.files.now ≡ names_given (codes "files") rows
+  pub map : option_map word_text check.map ≡ first_of (codes "map") rows
 
 pub record SaysRun (rows : List Row) (run : Run) : Type 0 where
-  pub scenario : run.scenario.now ≡ name_in (codes "scenario") rows
-  pub files : texts_of run.files.now ≡ names_in (codes "files") rows
-  pub workers : option_map text_of run.workers ≡ first_of (codes "workers") rows
+  pub scenario : run.scenario.now ≡ name_given (codes "scenario") rows
+  pub files : word_texts run.files.now ≡ names_given (codes "files") rows
+  pub workers : option_map word_text run.workers ≡ first_of (codes "workers") rows
   pub subjects : run.has_subjects ≡ is_given (codes "subjects") rows
   pub epoch : SaysEpoch rows run.epoch
   pub strict : run.is_strict ≡ is_given (codes "strict") rows
-  pub allowed : texts_of run.allowed.now ≡ names_in (codes "allow") rows
+  pub allowed : word_texts run.allowed.now ≡ names_given (codes "allow") rows
   pub inputs : run.tells_inputs ≡ not (is_given (codes "no-inputs") rows)
-  pub log : option_map text_of run.log ≡ first_of (codes "log") rows
-  pub output : run.output.now ≡ name_in (codes "output") rows
+  pub log : option_map word_text run.log ≡ first_of (codes "log") rows
+  pub output : run.output.now ≡ name_given (codes "output") rows
 
 pub record SaysExport (what : Export) (rows : List Row) (exported : Exported) : Type 0 where
   pub export : exported.export ≡ what
   pub epoch : SaysEpoch rows exported.epoch
-  pub file : exported.file.now ≡ name_in (codes "input") rows
-  pub output : exported.output.now ≡ name_in (codes "output") rows
+  pub file : exported.file.now ≡ name_given (codes "input") rows
+  pub output : exported.output.now ≡ name_given (codes "output") rows
 
 pub record SaysCompare (rows : List Row) (pair : LogPair) : Type 0 where
-  pub one : pair.one.now ≡ name_in (codes "one") rows
-  pub other : pair.other.now ≡ name_in (codes "other") rows
+  pub one : pair.one.now ≡ name_given (codes "one") rows
+  pub other : pair.other.now ≡ name_given (codes "other") rows
   pub epoch : SaysEpoch rows pair.epoch
-  pub output : pair.output.now ≡ name_in (codes "output") rows
+  pub output : pair.output.now ≡ name_given (codes "output") rows
 
 pub record SaysPage (what : Description) (rows : List Row) (page : Page) : Type 0 where
   pub description : page.description ≡ what
-  pub output : page.output.now ≡ name_in (codes "output") rows
+  pub output : page.output.now ≡ name_given (codes "output") rows
 
 -- the completions for a shell, by its name
 abbrev pub completions_for : Option (List ℕ) → Description

@@ -2,7 +2,7 @@
 
 ghost use Rattle.std.specs.Prelude.{◌≡◌, option_map};
 ghost use Rattle.clap.specs.Walk.{first_of};
-ghost use Rattle.ground_verbs.specs.Said.{rows_in, text_of, texts_of, name_in, names_in, is_given, completions_for, SaysEpoch, SaysMake, SaysShow, SaysBuild, SaysCheck, SaysRun, SaysExport, SaysCompare, SaysPage, IsAsked};
+ghost use Rattle.ground_verbs.specs.Said.{rows_in, word_text, word_texts, name_given, names_given, is_given, completions_for, SaysEpoch, SaysMake, SaysShow, SaysBuild, SaysCheck, SaysRun, SaysExport, SaysCompare, SaysPage, IsAsked};
 
 use clap::ArgMatches;
 use ground_books::Build;
@@ -55,14 +55,14 @@ pub enum Asked<'a> {
 
 /// The value of a word, where it has one.
 fn value<'a>(words: &'a ArgMatches<'_>, word: &str) -> Option<&'a str>
-    ensures { option_map text_of result ≡ first_of word.now (rows_in words.now) }
+    ensures { option_map word_text result ≡ first_of word.now (rows_in words.now) }
 {
     words.get_str(word)
 }
 
 /// The name that a word gives; a standard stream where it gives none.
 fn name<'a>(words: &'a ArgMatches<'_>, word: &str) -> &'a str
-    ensures { result.now ≡ name_in word.now (rows_in words.now) }
+    ensures { result.now ≡ name_given word.now (rows_in words.now) }
 {
     match value(words, word) {
         Some(name) => name,
@@ -72,7 +72,7 @@ fn name<'a>(words: &'a ArgMatches<'_>, word: &str) -> &'a str
 
 /// The names that a word gives.
 fn names<'a>(words: &'a ArgMatches<'_>, word: &str) -> &'a [&'a str]
-    ensures { texts_of result.now ≡ names_in word.now (rows_in words.now) }
+    ensures { word_texts result.now ≡ names_given word.now (rows_in words.now) }
 {
     words.get_strs(word).unwrap_or(&[])
 }
@@ -183,7 +183,7 @@ fn described<'a>(description: Description, words: &'a ArgMatches<'_>) -> Page<'a
 
 /// The completions for a shell, by its name.
 fn completions_for(shell: Option<&str>) -> Description
-    ensures { result ≡ completions_for (option_map text_of shell.entry) }
+    ensures { result ≡ completions_for (option_map word_text shell.entry) }
 {
     match shell {
         Some(shell) => {

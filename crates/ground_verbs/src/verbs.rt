@@ -8,7 +8,7 @@ ghost use Rattle.verb_words.specs.Verbs.{verb_named};
 ghost use Rattle.ground_files.specs.Workspaces.{Held};
 ghost use Rattle.ground_verbs.specs.Said.{rows_in};
 ghost use Rattle.ground_verbs.specs.Done.{IsRehearsed, IsDone};
-ghost use Rattle.ground_verbs.specs.Followed.{status_of, DoesNamed, DoesAny, FollowsWords};
+ghost use Rattle.ground_verbs.specs.Followed.{error_status, DoesNamed, DoesAny, FollowsWords};
 
 use crate::asked::{Asked, read_verb};
 use crate::describing::describe;
@@ -28,7 +28,7 @@ use verb_words::{Verb, command};
 
 /// The status where the words are refused, or where they ask for help or the version.
 fn status_of_words(error: &Error) -> Status
-    ensures { result ≡ status_of (kind_of error.now) }
+    ensures { result ≡ error_status (kind_of error.now) }
 {
     match error.kind() {
         ErrorKind::DisplayHelp | ErrorKind::DisplayVersion => Status::Done,
@@ -120,7 +120,7 @@ where
 
 /// Tells help, or why words are refused, and answers the status.
 fn tell_words<R: Print + Eprint>(rt: &R, error: &Error) -> Status
-    ensures { result ≡ status_of (kind_of error.now) }
+    ensures { result ≡ error_status (kind_of error.now) }
 {
     // There is no other place to tell it.
     let _told = error.print(rt);
