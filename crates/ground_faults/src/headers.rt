@@ -1,6 +1,6 @@
 //! Why the headers of a file are refused, in words.
 
-use packet_forms::{be32, behind, front};
+use packet_forms::{be32, behind, crc16, front};
 use row_forms::split_word;
 use std::io;
 use std::str::from_utf8;
@@ -46,54 +46,104 @@ fn text_hint(file: &[u8]) -> Option<&'static str> {
     None
 }
 
-/// How many bytes the headers say that stand behind them, and how many do; none where the headers are cut off.
-fn sizes(file: &[u8]) -> Option<(usize, usize)> {
-    if file.len() < LOAD_HEADERS {
-        return None;
+/// The number in four bytes of a file; 0 where they aren't there.
+fn number_at(file: &[u8], at: usize) -> u32 {
+    let rest = behind(file, at);
+    if rest.len() < 4 {
+        return 0;
     }
-    if be32(file, 4) != TABLE {
-        return Some((be32(file, 68) as usize, file.len() - LOAD_HEADERS));
-    }
-    if file.len() < TABLE_HEADERS {
-        return None;
-    }
-    Some((be32(file, 72) as usize, file.len() - TABLE_HEADERS))
+    be32(rest, 0)
 }
 
-/// Tells why the number of a file's bytes is refused.
-fn tell_size<R: Eprint>(rt: &R, name: &str, file: &[u8]) -> io::Result<()> {
-    let reason = FileFault::Size.number();
-    match sizes(file) {
-        Some((said, there)) => {
-            if said == there {
-                return eprintln!(rt;
-                    "{name}: such a table or load hasn't the {there} bytes that its header says (reason {reason})"
-                );
-            }
-            eprintln!(rt;
-                "{name}: its header says {said} bytes, and {there} stand behind the headers (reason {reason})"
-            )
-        }
-        None => eprintln!(rt; "{name}: the file ends within its headers (reason {reason})"),
-    }
-}
-
-/// Tells that no table has the name in a file.
-fn tell_name<R: Eprint>(rt: &R, name: &str, file: &[u8]) -> io::Result<()> {
-    let reason = FileFault::Name.number();
+/// The name of a table in its file.
+fn table_name(file: &[u8]) -> &str {
     let field = front(behind(file, NAME), NAME_BYTES);
     let end = field
         .iter()
         .position(|byte| *byte == 0)
         .unwrap_or(field.len());
-    match from_utf8(front(field, end)) {
-        Ok(found) => eprintln!(rt; "{name}: no table has the name {found:?} (reason {reason})"),
-        Err(_) => eprintln!(rt; "{name}: no table has its name (reason {reason})"),
+    from_utf8(front(field, end)).unwrap_or("")
+}
+
+/// Tells why the number of a table's bytes is refused.
+fn tell_table_size<R: Eprint>(rt: &R, name: &str, file: &[u8]) -> io::Result<()> {
+    let reason = FileFault::Size.number();
+    let said = number_at(file, 72) as usize;
+    let there = behind(file, TABLE_HEADERS).len();
+    if said != there {
+        return eprintln!(rt;
+            "{name}: its header says {said} bytes, and {there} stand behind the headers (reason {reason})"
+        );
+    }
+    let table = table_name(file);
+    eprintln!(rt;
+        "{name}: the table {table} hasn't {there} bytes (reason {reason}; docs/FILES.md says how many)"
+    )
+}
+
+/// Tells why the number of bytes to be loaded is refused.
+fn tell_load_size<R: Eprint>(rt: &R, name: &str, file: &[u8]) -> io::Result<()> {
+    let reason = FileFault::Size.number();
+    let said = number_at(file, 68) as usize;
+    let there = behind(file, LOAD_HEADERS).len();
+    if said != there {
+        return eprintln!(rt;
+            "{name}: its header says {said} bytes, and {there} stand behind the headers (reason {reason})"
+        );
+    }
+    eprintln!(rt; "{name}: 1 to 65536 bytes can be loaded, and these are {there} (reason {reason})")
+}
+
+/// Tells that the bytes to be loaded have another CRC than the header says.
+fn tell_check<R: Eprint>(rt: &R, name: &str, file: &[u8]) -> io::Result<()> {
+    let reason = FileFault::LoadCrc.number();
+    let said = number_at(file, 72);
+    let there = u32::from(crc16(0, behind(file, LOAD_HEADERS)));
+    eprintln!(rt;
+        "{name}: its header says the CRC 0x{said:08X}, and the bytes to be loaded have 0x{there:08X} (reason {reason})"
+    )
+}
+
+/// Tells a fault of headers, by what stands in them.
+fn tell_field<R: Eprint>(rt: &R, name: &str, file: &[u8], fault: FileFault) -> io::Result<()> {
+    let reason = fault.number();
+    match fault {
+        FileFault::Short => eprintln!(rt; "{name}: {fault} (reason {reason})"),
+        FileFault::ContentType => {
+            let found = number_at(file, 0);
+            eprintln!(rt;
+                "{name}: its first four bytes are 0x{found:08X}, and those of a table or a load are 0x63464531 (reason {reason})"
+            )
+        }
+        FileFault::Subtype => {
+            let found = number_at(file, 4);
+            eprintln!(rt;
+                "{name}: its subtype is {found}, and 8, a table, and 100, a load, are taken (reason {reason})"
+            )
+        }
+        FileFault::Partial => {
+            let found = number_at(file, 68);
+            eprintln!(rt;
+                "{name}: its table begins at offset {found}, and whole tables are taken, at offset 0 (reason {reason})"
+            )
+        }
+        FileFault::Name => {
+            let found = table_name(file);
+            eprintln!(rt; "{name}: no table has the name {found:?} (reason {reason})")
+        }
+        FileFault::Size => {
+            if number_at(file, 4) == TABLE {
+                tell_table_size(rt, name, file)
+            } else {
+                tell_load_size(rt, name, file)
+            }
+        }
+        FileFault::LoadCrc => tell_check(rt, name, file),
     }
 }
 
-/// Tells why the headers of a file are refused, with the number of the reason (docs/FILES.md): of a text what makes the file of it, of a wrong
-/// number of bytes or a wrong name which it is.
+/// Tells why the headers of a file are refused, by what stands in them, with the number of the reason (docs/FILES.md); of a text what makes
+/// the file of it.
 pub fn tell_headers<R: Eprint>(
     rt: &R,
     name: &str,
@@ -101,16 +151,8 @@ pub fn tell_headers<R: Eprint>(
     fault: FileFault,
 ) -> io::Result<()> {
     let reason = fault.number();
-    if let Some(hint) = text_hint(file) {
-        return eprintln!(rt; "{name}: {hint} (reason {reason})");
-    }
-    match fault {
-        FileFault::Size => tell_size(rt, name, file),
-        FileFault::Name => tell_name(rt, name, file),
-        FileFault::Short
-        | FileFault::ContentType
-        | FileFault::Subtype
-        | FileFault::Partial
-        | FileFault::LoadCrc => eprintln!(rt; "{name}: {fault} (reason {reason})"),
+    match text_hint(file) {
+        Some(hint) => eprintln!(rt; "{name}: {hint} (reason {reason})"),
+        None => tell_field(rt, name, file, fault),
     }
 }
