@@ -1,6 +1,6 @@
 -- Files of a workspace over memory, by their places.
 use Rattle.std.proofs.Common.{◌≡◌, ℕ, zero, suc, ◌+◌, ◌<◌, true, false, List, [], ◌∷◌, ◌++◌, length, drop, set, get_or, Option, Some, None, refl, sym, ap, ◌∙◌, arith, add-one, string_bytes}
-use Rattle.std.specs.Prelude.{bytes_eq, option_map, if◌then◌else◌, Bool}
+use Rattle.std.specs.Prelude.{bytes_eq, option_map, if◌then◌else◌, Bool, is_some}
 use Rattle.std.proofs.lemmas.List.{map_push}
 use Rattle.std.proofs.Math.Seq.{drop-cons}
 use Rattle.fsw_outside.specs.Files.{Stored, file_named}
@@ -65,6 +65,20 @@ named_by false files name place file first is found later = named_behind (first_
 pub named_at : (files : List KeptFile) (name : List ℕ) (place : ℕ) (file : KeptFile) → first_place files name ≡ Some place → file ≡ get_or files place file → (place < length files) × (file_named (stored_of files) name ≡ Some file.bytes.items)
 named_at [] name place file is found = cc
 named_at (first ∷ files) name place file is found = named_by (bytes_eq (string_bytes first.name) name) files name place file first is found (λ at there same. named_at files name at file there same)
+
+-- a file that has a place is there
+there_behind : (there : Option ℕ) (files : List KeptFile) (name : List ℕ) (place : ℕ) → option_map suc there ≡ Some place → ((at : ℕ) → there ≡ Some at → is_some (file_named (stored_of files) name) ≡ true) → is_some (file_named (stored_of files) name) ≡ true
+there_behind None files name place is later = cc
+there_behind (Some at) files name place is later = later at refl
+
+there_by : (test : Bool) (files : List KeptFile) (name : List ℕ) (place : ℕ) (first : KeptFile) → (if test then Some 0 else option_map suc (first_place files name)) ≡ Some place
+    → ((at : ℕ) → first_place files name ≡ Some at → is_some (file_named (stored_of files) name) ≡ true) → is_some (if test then Some first.bytes.items else file_named (stored_of files) name) ≡ true
+there_by true files name place first is later = refl
+there_by false files name place first is later = there_behind (first_place files name) files name place is later
+
+pub is_there : (files : List KeptFile) (name : List ℕ) (place : ℕ) → first_place files name ≡ Some place → is_some (file_named (stored_of files) name) ≡ true
+is_there [] name place is = cc
+is_there (first ∷ files) name place is = there_by (bytes_eq (string_bytes first.name) name) files name place first is (λ at there. is_there files name at there)
 
 -- a file that gets other bytes
 put_behind : (there : Option ℕ) (files : List KeptFile) (name bytes : List ℕ) (place : ℕ) (file new first : KeptFile) → option_map suc there ≡ Some place → file ≡ get_or (first ∷ files) place file

@@ -126,6 +126,7 @@ impl Workspace for MemoryFiles {
         Ok(())
     }
 
+    #[tactic(auto, using(crate::proofs::PlaceLemmas::is_there))]
     fn is_file(&self, path: &str) -> io::Result<bool> {
         match place_of(&self.files, path) {
             Some(_) => Ok(true),

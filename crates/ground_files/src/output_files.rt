@@ -1,6 +1,7 @@
 //! Outputs by the names that the words give: `-` is standard output.
 
-ghost use Rattle.std.specs.Prelude.{◌≡◌, Some, OnOk, OnErr};
+ghost use Rattle.std.specs.Prelude.{◌≡◌, true, Some, OnOk, OnErr};
+ghost use Rattle.ground_files.specs.Verbs.{IsOver};
 ghost use Rattle.ground_files.specs.Workspaces.{Held, put_at, KeepsFiles};
 
 use crate::stream_names::{is_stream, output_name};
@@ -25,7 +26,10 @@ pub fn put_output<W: Workspace>(workspace: &mut W, name: &str, bytes: &[u8]) -> 
 }
 
 /// Whether an output is a file that is read: it would be replaced by what is made of it.
-pub fn replaces<W: Workspace>(workspace: &W, output: &str, input: &str) -> bool {
+pub fn replaces<W: Workspace>(workspace: &W, output: &str, input: &str) -> bool
+    ensures { result ≡ true → (now : Held) → W.held workspace.now ≡ Some now
+        → IsOver output.now input.now now }
+{
     if is_stream(output) || is_stream(input) || !workspace.is_file(output).unwrap_or(false) {
         return false;
     }

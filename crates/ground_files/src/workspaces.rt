@@ -1,6 +1,6 @@
 //! Files by name and the standard streams.
 
-ghost use Rattle.std.specs.Prelude.{◌≡◌, ℕ, List, [], Option, Some, option_map, false, is_ok, ◌&&◌, IfOk, OnOk};
+ghost use Rattle.std.specs.Prelude.{◌≡◌, ℕ, List, [], Option, Some, option_map, false, is_ok, is_some, ◌&&◌, IfOk, OnOk, string_bytes};
 ghost use Rattle.fsw_outside.specs.Files.{file_named};
 ghost use Rattle.ground_files.specs.Workspaces.{Held, without_input, settled_at, KeepsFiles};
 
@@ -47,10 +47,14 @@ pub trait Workspace {
             → KeepsFiles (held self.old) (held self.new) };
 
     /// Whether a path is that of a regular file, which can be read twice.
-    fn is_file(&self, path: &str) -> io::Result<bool>;
+    fn is_file(&self, path: &str) -> io::Result<bool>
+        ensures file { IfOk result (λ is. (now : Held) → held self.now ≡ Some now
+            → is ≡ is_some (file_named now.files path.now)) };
 
-    /// The path behind symbolic links, where there is a file, and else the path.
-    fn real_path(&self, path: &str) -> Result<String, AllocError>;
+    /// The path behind symbolic links, where there is a file, and else the path. A workspace that tells what it holds has no links.
+    fn real_path(&self, path: &str) -> Result<String, AllocError>
+        ensures place { IfOk result (λ place. (now : Held) → held self.now ≡ Some now
+            → string_bytes place ≡ path.now) };
 
     /// Makes a folder and those above it, where they aren't there.
     fn make_folder(&mut self, path: &str) -> io::Result<()>
