@@ -99,6 +99,23 @@ pub kind_named : (file : List ℕ) → file_fault_of file ≡ None → is_load f
 unfolding kind_of_file
 kind_named file ok unloaded = rw (ok, unloaded) refl
 
+-- it is to be loaded where it has no kind, and else it is a table
+pub loaded_where : (file : List ℕ) → file_fault_of file ≡ None → kind_of_file file ≡ None → is_load file ≡ true
+loaded_where file ok none = by_load (is_load file) refl
+  where
+    by_load : (b : Bool) → is_load file ≡ b → is_load file ≡ true
+    by_load true load = load
+    by_load false unloaded = absurd (named file ok unloaded (sym (kind_named file ok unloaded) ∙ none))
+
+pub tabled_where : (file : List ℕ) (kind : TableKind) → kind_of_file file ≡ Some kind → is_load file ≡ false
+unfolding kind_of_file
+tabled_where file kind is = by_tests (is_none (file_fault_of file)) (is_load file) is
+  where
+    by_tests : (well load : Bool) → (if well && not load then named_kind (table_name file) else None) ≡ Some kind → load ≡ false
+    by_tests true true wrong = cc
+    by_tests false true wrong = cc
+    by_tests well false right = refl
+
 -- something holds of the kind of each of these tables
 abbrev Every : (TableKind → Type 0) → List KnownTable → Type 0
 Every P [] = Unit {0}

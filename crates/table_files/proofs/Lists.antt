@@ -1,19 +1,18 @@
 -- Lists of files: a file of the list, one file more, and the files of numbers.
-use Rattle.std.proofs.Common.{◌↔◌, All, cond, slice_get, ◌≡◌, ℕ, ◌-◌, ◌<◌, ◌≤◌, nat_le, Bool, true, false, List, [], ◌∷◌, ◌++◌, length, map, get_or, refl, sym, ap, subst, ◌∙◌, arith, zero, suc, Option, Some, None, length-append, Vec, Global}
+use Rattle.std.proofs.Common.{◌↔◌, All, cond, slice_get, ◌≡◌, ℕ, ◌-◌, ◌<◌, ◌≤◌, nat_le, Bool, true, false, List, [], ◌∷◌, ◌++◌, length, map, get_or, refl, sym, ap, ◌∙◌, arith, zero, suc, Option, Some, None, length-append}
 use Rattle.std.proofs.lemmas.Bool.Decides.{nat_tests}
 use Rattle.std.specs.Prelude.{filter, option_map}
-use Rattle.std.proofs.lemmas.List.{get_or-map, length-map}
 use Rattle.std.proofs.lemmas.List.Elements.{All-append}
 use Rattle.table_files.specs.declared.kinds.TableKind.{TableKind}
 use Rattle.table_files.specs.Headers.{file_fault_of, IsFile, is_load, kind_of_file}
 use Rattle.table_files.proofs.Accepted.{loaded_size}
 use Rattle.table_files.specs.Files.{file_at, kind_in, kind_at, load_in, nth, loads_of, IsLoadable, AreFiles}
 
--- a file of the list has no fault
-pub accepted_at : (held : List (Vec ℕ Global)) (i : ℕ) (file : Vec ℕ Global) → All IsFile (map (λ f. f.items) held) → file ≡ get_or held i file → i < length held → IsFile file.items
-accepted_at held i file files found within =
-    let there : get_or (map (λ (f : Vec ℕ Global). f.items) held) i [] ≡ file.items = get_or-map (λ (f : Vec ℕ Global). f.items) held i file [] within ∙ ap (λ (f : Vec ℕ Global). f.items) (sym found) in
-    subst IsFile there (files i [] (rw (length-map held (λ (f : Vec ℕ Global). f.items)) within))
+-- the file of a place, whatever would stand for one that isn't there
+pub at_place : (files : List (List ℕ)) (i : ℕ) (one other : List ℕ) → i < length files → get_or files i one ≡ get_or files i other
+at_place [] i one other within = absurd (omega arith)
+at_place (file ∷ files) zero one other within = refl
+at_place (file ∷ files) (suc i) one other within = at_place files i one other (omega arith)
 
 -- one file more
 pub one_more : (files : List (List ℕ)) (file : List ℕ) → AreFiles files → length files < 100 → file_fault_of file ≡ None → AreFiles (files ++ file ∷ [])
@@ -37,11 +36,11 @@ nth_map f xs zero = refl
 nth_map f xs (suc i) = get_map f xs i
 
 -- address and bytes of the n-th load file
-pub load_there : (held lent : List (Vec ℕ Global)) (files : List (List ℕ)) (n : ℕ) (found : Option (List ℕ)) → map (λ f. f.items) held ≡ files → lent ≡ held
-    → found ≡ nth (filter is_load (map (λ f. f.items) lent)) n → option_map load_in found ≡ nth (loads_of files) n
+pub load_there : (held lent files : List (List ℕ)) (n : ℕ) (found : Option (List ℕ)) → held ≡ files → lent ≡ held
+    → found ≡ nth (filter is_load lent) n → option_map load_in found ≡ nth (loads_of files) n
 unfolding loads_of
 load_there held lent files n found view is same =
-    ap (option_map load_in) (same ∙ ap (λ (fs : List (List ℕ)). nth (filter is_load fs) n) (ap (map (λ (f : Vec ℕ Global). f.items)) is ∙ view)) ∙ sym (nth_map load_in (filter is_load files) n)
+    ap (option_map load_in) (same ∙ ap (λ (fs : List (List ℕ)). nth (filter is_load fs) n) (is ∙ view)) ∙ sym (nth_map load_in (filter is_load files) n)
 
 -- the load files of files without a fault have 1 to 65,536 bytes each
 all_more : {A : Type 0} (P : A → Type 0) (x : A) (xs : List A) → P x → All P xs → All P (x ∷ xs)

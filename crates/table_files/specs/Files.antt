@@ -24,6 +24,11 @@ pub record AreFiles (files : List (List ℕ)) : Type 0 where
 abbrev pub load_in : List ℕ → ℕ × List ℕ
 load_in file = (address_of_file file, payload_of_file file)
 
+-- a file has no fault, and this is the kind of its table: none where it is to be loaded
+pub record IsKnownAs (file : List ℕ) (kind : Option TableKind) : Type 0 where
+  pub accepted : IsFile file
+  pub kind_is : kind ≡ kind_of_file file
+
 -- the load files among the files, each by its address and its bytes, in the order of adding
 unfoldable pub loads_of : List (List ℕ) → List (ℕ × List ℕ)
 loads_of files = map load_in (filter is_load files)

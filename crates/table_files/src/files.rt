@@ -1,11 +1,12 @@
 //! The files that were handed over.
-ghost use Rattle.std.specs.Prelude.{◌≡◌, ◌<◌, ◌≤◌, [], ◌∷◌, ◌++◌, length, filter, map, All, option_map, true, IsOkAnd, OnOk, OnErr, IfErr, IfSome, None};
+ghost use Rattle.std.specs.Prelude.{◌≡◌, ◌<◌, ◌≤◌, [], ◌∷◌, ◌++◌, length, filter, option_map, true, IsOkAnd, OnOk, OnErr, IfErr, IfSome, None};
 ghost use Rattle.table_files.specs.Headers.{IsFile, file_fault_of, is_load, Shows};
 ghost use Rattle.table_files.specs.Files.{AreFiles, Refuses, file_at, kind_at, loads_of, nth, IsLoadable};
 
 use crate::fault::AddFault;
-use crate::headers::{FileImage, find_fault, image_of, is_load, load_in};
+use crate::headers::{FileImage, find_fault, is_load, load_in};
 use crate::kinds::TableKind;
+use crate::known_file::KnownFile;
 use fsw_outside::NoMemory;
 use std::alloc::Global;
 use std::marker::Model;
@@ -14,19 +15,19 @@ use std::marker::Model;
 /// `read_file` accepts each. Several may be tables of one kind.
 #[derive(Drop)]
 pub struct Files {
-    files: Vec<Vec<u8>>,
+    files: Vec<KnownFile>,
 }
 
 impl Model for Files {
-    ghost use Rattle.std.specs.Prelude.{ℕ, List, map};
+    ghost use Rattle.std.specs.Prelude.{ℕ, List};
 
     ghost Value = { List (List ℕ) };
 
     ghost use Rattle.table_files.specs.Files.{AreFiles};
 
-    ghost view = { λ f. map (λ file. file.items) f.files.items };
+    ghost view = { λ f. f.files.items };
 
-    ghost invariant = { λ f. AreFiles (map (λ file. file.items) f.files.items) };
+    ghost invariant = { λ f. AreFiles f.files.items };
 }
 
 impl Files {
@@ -61,7 +62,7 @@ impl Files {
         if let Some(fault) = find_fault(&bytes) {
             return Err(AddFault::File(fault));
         }
-        let Ok(()) = self.files.push(bytes) else {
+        let Ok(()) = self.files.push(KnownFile::new(bytes)) else {
             return Err(AddFault::NoMemory);
         };
         Ok(())
@@ -73,7 +74,7 @@ impl Files {
         requires most { file ≤ length self.now }
         ensures { Shows (file_at self.now file) result }
     {
-        image_of(&self.files[file as usize - 1])
+        self.files[file as usize - 1].image()
     }
 
     /// The kind of the table file of this number, counted from 1 in the order of adding; None exactly where no table file
@@ -87,10 +88,7 @@ impl Files {
         if file as usize > self.files.len() {
             return None;
         }
-        match self.get(file) {
-            FileImage::Table { kind, payload: _ } => Some(kind),
-            FileImage::Load { at: _, bytes: _ } => None,
-        }
+        self.files[file as usize - 1].kind()
     }
 
     /// Address and bytes of the n-th load file, counted from 1 among the load files alone in the order of adding; None
@@ -107,11 +105,9 @@ impl Files {
     }
 }
 
-/// The n-th load file, counted from 1; none of the files has a fault.
-fn nth_load(files: &[Vec<u8>], n: u32) -> Option<&[u8]>
-    requires { All IsFile (map (λ file. file.items) files.now) }
-    ensures file { option_map (λ file. file.now) result
-        ≡ nth (filter is_load (map (λ file. file.items) files.now)) n }
+/// The n-th load file, counted from 1.
+fn nth_load(files: &[KnownFile], n: u32) -> Option<&[u8]>
+    ensures file { option_map (λ file. file.now) result ≡ nth (filter is_load files.now) n }
     ensures load { IfSome result (λ file. IsFile file.now × (is_load file.now ≡ true)) }
 {
     if n == 0 {
@@ -119,9 +115,9 @@ fn nth_load(files: &[Vec<u8>], n: u32) -> Option<&[u8]>
     }
     let mut before = n - 1;
     for file in files {
-        if is_load(file) {
+        if is_load(file.bytes()) {
             if before == 0 {
-                return Some(file);
+                return Some(file.bytes());
             }
             before -= 1;
         }

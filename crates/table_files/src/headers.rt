@@ -29,7 +29,7 @@ const LOAD: u32 = 100;
 const HEADER: usize = 64;
 
 /// How many bytes both headers of a table have.
-const TABLE_HEADERS: usize = 116;
+pub(crate) const TABLE_HEADERS: usize = 116;
 
 /// How many bytes both headers of bytes to be loaded have.
 const LOAD_HEADERS: usize = 80;

@@ -5,6 +5,7 @@ mod fault;
 mod files;
 mod headers;
 mod kinds;
+mod known_file;
 pub mod laws;
 mod loading;
 
