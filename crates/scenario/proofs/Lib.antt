@@ -7,5 +7,6 @@ pub mod NextLemmas
 pub mod SendLemmas
 pub mod BeginLemmas
 pub mod PassLemmas
+pub mod TakeLemmas
 pub mod FirstLemmas
 pub mod DrillLemmas

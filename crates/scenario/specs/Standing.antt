@@ -1,5 +1,5 @@
 -- When a reader stands for a text of which these items were given, and what it has.
-use Rattle.std.specs.Prelude.{◌≡◌, ◌≤◌, ℕ, ◌+◌, ◌==◌, Bool, true, false, ◌&&◌, ◌||◌, if◌then◌else◌, nat_lt, List, [], ◌∷◌, ◌++◌, length, Option, Some, None, is_some, unwrap_or}
+use Rattle.std.specs.Prelude.{◌≡◌, ◌≤◌, ℕ, ◌+◌, ◌==◌, Bool, true, false, ◌&&◌, ◌||◌, if◌then◌else◌, nat_lt, List, [], ◌∷◌, ◌++◌, length, take, slice_index, Option, Some, None, is_some, unwrap_or}
 use Rattle.std.specs.List.{AllByRecursion}
 use Rattle.scenario.specs.declared.progress.Header.{Header}
 use Rattle.scenario.specs.declared.item.Item.{Item as Answer}
@@ -93,3 +93,12 @@ pub record Passes (r : Reader) (said : Option Sentence) (given : Answer) (q : Re
   pub follows : (old : Before) (line : List ℕ) → Follows r.progress old → Follows q.progress (passed old (record { bytes = line; takes = left r }) said)
   pub keeps : KeepsFrame r.progress said q.progress
   pub answer : given ≡ unwrap_or (item_said said) (end_answer r.finished q.progress.place q.progress.lines)
+
+-- the line `tick` with its LF
+abbrev pub tick_line : List ℕ
+tick_line = 116 ∷ 105 ∷ 99 ∷ 107 ∷ 10 ∷ []
+
+-- whether the line `tick` was taken that a piece begins with: it was fed, and its frame is given, which is where the bytes fed so far end
+abbrev pub TakesTick : Bool → List ℕ → Text → List Given → Reader → Type 0
+TakesTick true piece t gave r = Stands r (fed t (take 5 piece)) (gave ++ frame_in r ∷ []) × (slice_index (reading (fed t (take 5 piece))).stops (length gave) ≡ length (fed t (take 5 piece)).bytes)
+TakesTick false piece t gave r = Stands r t gave

@@ -1,5 +1,6 @@
 //! The reader of a text that comes in pieces.
 ghost use Rattle.scenario.specs.Answers.{item_said};
+ghost use Rattle.scenario.specs.Standing.{tick_line};
 ghost use Rattle.std.specs.Prelude.{◌≡◌, ◌≤◌, ◌<◌, ◌+◌, ◌==◌, ◌++◌, ◌∷◌, [], ℕ, List, true, false, length, not, take, min, position, slice_index, IfOk, Some};
 ghost use Rattle.std.specs.List.{prefix_len};
 
@@ -71,6 +72,17 @@ fn near_lf(bytes: &[u8]) -> usize
     }
 }
 
+/// Whether a piece begins with the line `tick` and its LF.
+#[inline(always)]
+fn begins_with_tick(piece: &[u8]) -> bool
+    ensures { result ≡ true → (rest : List ℕ) × (piece.now ≡ tick_line ++ rest) }
+{
+    match piece {
+        [b't', b'i', b'c', b'k', b'\n', ..] => true,
+        _ => false,
+    }
+}
+
 /// What is answered at a line that gives an item.
 fn item_of(said: &Option<Sentence>) -> Option<Item>
     ensures { result ≡ item_said said.now }
@@ -97,7 +109,7 @@ impl Reader {
     ghost use Rattle.scenario.specs.Texts.{Text, Given, Head, Whole, Bad, reading};
     ghost use Rattle.scenario.specs.Reasons.{number_of};
     ghost use Rattle.scenario.specs.declared.reason.Reason.{Reason};
-    ghost use Rattle.scenario.specs.Standing.{Stands, Waits, Shows, fed, closed, has_line, left, header_in, frame_in, is_finished, Passes};
+    ghost use Rattle.scenario.specs.Standing.{Stands, Waits, Shows, fed, closed, has_line, left, header_in, frame_in, is_finished, Passes, TakesTick};
     ghost use Rattle.scenario.specs.Following.{HasRoomFor};
 
     /// A reader of a text of which nothing was fed yet.
@@ -148,6 +160,35 @@ impl Reader {
                 self.append(front);
                 front.len()
             }
+        }
+    }
+
+    /// Takes the line `tick` with its LF that the piece begins with, where no line has begun and it is a good one: then it answers
+    /// true, five bytes were fed, and the frame can be looked at. Else nothing was fed.
+    ///
+    /// Most lines of a long text are such lines, and here they are neither searched for their LF nor copied.
+    #[inline(always)]
+    pub fn take_tick(&mut self, piece: &[u8]) -> bool
+        ensures stands { (t : Text) (gave : List Given) → Stands self.old t gave
+            → TakesTick result piece.now t gave self.new }
+        ensures enough { result ≡ true → 5 ≤ length piece.now }
+        ensures shows { result ≡ true → Shows self.new }
+        ensures left { left self.new ≡ left self.old }
+        ensures finished { is_finished self.new ≡ is_finished self.old }
+    {
+        if !self.is_between_lines() {
+            return false;
+        }
+        if !begins_with_tick(piece) {
+            return false;
+        }
+        self.progress.begin();
+        match self.progress.reads_tick(b"tick", 5) {
+            Ok(()) => {
+                self.progress.pass_tick(5);
+                true
+            }
+            Err(_) => false,
         }
     }
 
@@ -239,6 +280,15 @@ impl Reader {
         ensures { result ≡ has_line self.now }
     {
         self.whole || self.line.len() >= LINE_ROOM || self.finished && self.line.len() > 0
+    }
+
+    /// Whether no line has begun, and the text's end wasn't told.
+    #[inline(always)]
+    fn is_between_lines(&self) -> bool
+        ensures { result ≡ true → (self.now.line.value ≡ []) × (self.now.whole ≡ false)
+            × (is_finished self.now ≡ false) }
+    {
+        self.line.len() == 0 && !self.whole && !self.finished
     }
 
     /// How many bytes the line takes, its LF included.
