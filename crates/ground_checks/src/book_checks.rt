@@ -1,6 +1,6 @@
 //! What is wrong with a book, in words.
 
-ghost use Rattle.std.specs.Prelude.{◌≡◌, ◌≢◌, ◌+◌, ◌<◌, ◌^◌, length, true};
+ghost use Rattle.std.specs.Prelude.{◌≡◌, ◌≢◌, ◌⊎◌, ◌+◌, ◌<◌, ◌^◌, length, true};
 ghost use Rattle.ground_files.specs.declared.verb_status.Status.TheVariants as statuses;
 ghost use Rattle.load_books.specs.Books.{is_book_text};
 
@@ -177,17 +177,32 @@ fn warn_of_files<R: Eprint + AllocGlobal>(
     Ok(())
 }
 
-/// Tells what is odd in the tables of a book, with its lines and by its own plan, whatever the memory of the plan gives; and why it is refused,
-/// where it is. Which of its tables stand by isn't told.
-pub fn warn_of_book<R: Eprint + AllocGlobal>(rt: &R, name: &str, text: &[u8]) -> Status {
+/// Tells what is odd in the tables of a book, unless it is refused.
+fn warn_of_text<R: Eprint + AllocGlobal>(
+    rt: &R,
+    name: &str,
+    text: &[u8],
+) -> Result<(), AllocError>
+    requires { 1 + length text.now < 2 ^ 32 }
+{
+    let book = match read_book(rt.alloc(), &book_forms(), text) {
+        Ok(book) => book,
+        Err(BookError::Memory(error)) => return Err(error),
+        Err(BookError::Book(_)) => return Ok(()),
+    };
+    let looked = with_plan(rt.alloc(), book, text)?;
+    warn_of_files(rt, &looked, name)
+}
+
+/// Tells what is odd in the tables of a book, with its lines and by its own plan, whatever the memory of the plan gives. Of a text that isn't a
+/// book, and of a book that is refused, nothing is told. Which of its tables stand by isn't told.
+pub fn warn_of_book<R: Eprint + AllocGlobal>(rt: &R, name: &str, text: &[u8]) -> Status
+    ensures { (result ≡ statuses.Done) ⊎ (result ≡ statuses.NoMemory) }
+{
     if !is_book(text) {
         return Status::Done;
     }
-    let looked = match looked_book(rt, name, text) {
-        Ok(looked) => looked,
-        Err(status) => return status,
-    };
-    match warn_of_files(rt, &looked, name) {
+    match warn_of_text(rt, name, text) {
         Ok(()) => Status::Done,
         Err(_) => tell_no_memory(rt),
     }
