@@ -1,6 +1,6 @@
 //! What is wrong with a book, in words.
 
-ghost use Rattle.std.specs.Prelude.{◌≡◌, ◌≢◌, ◌⊎◌, ◌+◌, ◌<◌, ◌^◌, length, true};
+ghost use Rattle.std.specs.Prelude.{◌≡◌, ◌⊎◌, ◌+◌, ◌<◌, ◌^◌, length, true, IfErr};
 ghost use Rattle.ground_files.specs.declared.verb_status.Status.TheVariants as statuses;
 ghost use Rattle.load_books.specs.Books.{is_book_text};
 
@@ -32,7 +32,7 @@ pub(crate) fn tell_unread_book<R: Eprint + AllocGlobal>(
     text: &[u8],
     error: &BookError,
 ) -> Status
-    ensures { result ≢ statuses.Done }
+    ensures { (result ≡ statuses.FileRefused) ⊎ (result ≡ statuses.NoMemory) }
 {
     match error {
         BookError::Memory(_) => tell_no_memory(rt),
@@ -72,6 +72,8 @@ fn looked_book<'a, R: Eprint + AllocGlobal>(
     text: &'a [u8],
 ) -> Result<LookedBook<'a>, Status>
     requires { 1 + length text.now < 2 ^ 32 }
+    ensures { IfErr result (λ status. (status ≡ statuses.FileRefused)
+        ⊎ (status ≡ statuses.NoMemory)) }
 {
     let book = match read_book(rt.alloc(), &book_forms(), text) {
         Ok(book) => book,

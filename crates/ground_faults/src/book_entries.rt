@@ -1,6 +1,6 @@
 //! Refused entries of the tables in a book, in words and with the line of the book.
 
-ghost use Rattle.std.specs.Prelude.{◌≢◌};
+ghost use Rattle.std.specs.Prelude.{◌≡◌, ◌⊎◌};
 ghost use Rattle.ground_files.specs.declared.verb_status.Status.TheVariants as statuses;
 
 use crate::book_parts::{PartText, part_texts};
@@ -217,7 +217,7 @@ fn tell_first<R: Eprint + AllocGlobal>(
 
 /// The status of a book that is refused, once that was told.
 fn status_told<R: Eprint>(rt: &R, told: Result<(), AllocError>) -> Status
-    ensures { result ≢ statuses.Done }
+    ensures { (result ≡ statuses.FileRefused) ⊎ (result ≡ statuses.NoMemory) }
 {
     match told {
         Ok(()) => Status::FileRefused,
@@ -232,7 +232,7 @@ pub fn tell_book_fault<R: Eprint + AllocGlobal>(
     text: &[u8],
     fault: &BookFault,
 ) -> Status
-    ensures { result ≢ statuses.Done }
+    ensures { (result ≡ statuses.FileRefused) ⊎ (result ≡ statuses.NoMemory) }
 {
     if let BookFault::Table(line, TableFault::Entry(kind, fault)) = *fault {
         let told = tell_first(rt, name, text, line, RefusedEntry { kind, fault });
@@ -253,7 +253,7 @@ pub fn tell_book<R: Eprint + AllocGlobal>(
     text: &[u8],
     fault: &BookFault,
 ) -> Status
-    ensures { result ≢ statuses.Done }
+    ensures { (result ≡ statuses.FileRefused) ⊎ (result ≡ statuses.NoMemory) }
 {
     if let BookFault::Table(_, TableFault::Entry(_, _)) = *fault {
         return status_told(rt, tell_parts(rt, name, text));
