@@ -1,2 +1,3 @@
 pub mod MadeLemmas
+pub mod CauseLemmas
 pub mod VerbLemmas

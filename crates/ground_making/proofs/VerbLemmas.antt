@@ -6,16 +6,18 @@ use Rattle.fsw_outside.specs.Files.{Stored}
 use Rattle.ground_files.specs.declared.verb_status.Status.{Status}
 use Rattle.ground_files.specs.declared.verb_status.Status.TheVariants as statuses
 use Rattle.ground_files.specs.Workspaces.{Held, is_dash, input_bytes, input_taken, file_put, put_at, files_of, input_of, KeepsFiles}
-use Rattle.ground_files.specs.Verbs.{MakesOutput, KeepsAllFiles}
+use Rattle.ground_files.specs.Verbs.{MakesOutput, KeepsAllFiles, KeepsOtherFiles, IsOver}
 use Rattle.load_texts.specs.Loaded.{file_asked}
 use Rattle.load_texts.specs.Loads.{is_load_text, SaysLoad}
 use Rattle.ground_making.specs.declared.making.Making.TheVariants as makings
 use Rattle.ground_making.specs.declared.shown_files.Shown.{Shown}
 use Rattle.ground_making.specs.Made.{IsMadeAs}
 use Rattle.ground_making.specs.Named.{asked_bytes}
-use Rattle.ground_making.specs.MadeFiles.{Asked, IsMadeIn, PutsMade, EndsMaking}
+use Rattle.ground_making.specs.MadeFiles.{Asked, IsMadeIn, PutsMade, IsRefusedIn, IsRefusedInput, IsOverIn, IsOverRead, EndsMaking}
+use Rattle.ground_making.specs.Causes.{IsCaused}
 use Rattle.ground_making.proofs.MadeLemmas.{load_made, bytes_made}
-use Rattle.ground_making.specs.ShownFiles.{asked_of, inputs_taken, AppendsText, ShowsAll, some_put, KeepsOtherFiles, EndsShowingSeveral, EndsShowing}
+use Rattle.ground_making.proofs.CauseLemmas.{cause_map, cause_read}
+use Rattle.ground_making.specs.ShownFiles.{asked_of, inputs_taken, AppendsText, ShowsAll, RefusesOne, IsOverOne, some_put, EndsShowingSeveral, EndsShowing}
 
 -- ---- one file
 
@@ -45,19 +47,33 @@ bytes_put asked bytes made written before old new not is whole put was = record 
   is_put = put before was ∙ ap (λ (all : List ℕ). Some (put_at asked.output all before)) whole;
 }
 
-pub ends_kept : (asked : Asked) (status : Status) (before : Held) (old new : Option Held) → status ≢ statuses.Done → old ≡ Some before → option_map files_of new ≡ option_map files_of old → EndsMaking asked status before new
-ends_kept asked status before old new undone was same = record {
+-- nothing was made
+ends_kept : (asked : Asked) (status : Status) (before : Held) (old new : Option Held) → status ≢ statuses.Done → old ≡ Some before → option_map files_of new ≡ option_map files_of old → IsCaused (IsOverRead asked before) (IsRefusedInput asked before) status → EndsMaking asked status before new
+ends_kept asked status before old new undone was same cause = record {
   done = λ done. absurd (undone done);
   undone = λ _. kept_all before old new was same;
+  cause = cause;
 }
+
+pub ends_over : (asked : Asked) (before : Held) (old : Option Held) → old ≡ Some before → ((now : Held) → old ≡ Some now → IsOver asked.output asked.file now) → EndsMaking asked statuses.WordsRefused before old
+ends_over asked before old was over = ends_kept asked statuses.WordsRefused before old old (λ done. cc) was refl (inl (over before was))
+
+pub ends_unread : (asked : Asked) (status : Status) (before : Held) (old new : Option Held) → status ≡ statuses.ReadFailed → old ≡ Some before → option_map files_of new ≡ option_map files_of old → EndsMaking asked status before new
+ends_unread asked status before old new unread was same =
+    ends_kept asked status before old new (λ done. let wrong : statuses.ReadFailed ≡ statuses.Done = sym unread ∙ done in cc) was same
+    (subst (IsCaused (IsOverRead asked before) (IsRefusedInput asked before)) (sym unread) tt)
 
 taken : (name : List ℕ) (before : Held) (old mid : Option Held) → old ≡ Some before → mid ≡ option_map (input_taken name) old → mid ≡ Some (input_taken name before)
 taken name before old mid was is = is ∙ ap (option_map (input_taken name)) was
 
-pub ends_made : (asked : Asked) (status : Status) (before : Held) (read given : List ℕ) (old mid new : Option Held) → old ≡ Some before → mid ≡ option_map (input_taken asked.file) old → input_bytes asked.file before ≡ Some read → given ≡ read → (status ≡ statuses.Done → (now : Held) → mid ≡ Some now → PutsMade asked given now new) → (status ≢ statuses.Done → KeepsFiles mid new) → EndsMaking asked status before new
-ends_made asked status before read given old mid new was is here same done undone = record {
+pub ends_made : (asked : Asked) (status : Status) (before : Held) (read given : List ℕ) (old mid new : Option Held) → old ≡ Some before → mid ≡ option_map (input_taken asked.file) old → input_bytes asked.file before ≡ Some read → given ≡ read → (status ≡ statuses.Done → (now : Held) → mid ≡ Some now → PutsMade asked given now new) → (status ≢ statuses.Done → KeepsFiles mid new)
+    → ((now : Held) → mid ≡ Some now → IsCaused (IsOverIn asked now given) (IsRefusedIn asked now given) status) → EndsMaking asked status before new
+ends_made asked status before read given old mid new was is here same done undone cause = record {
   done = λ d. by_put (done d (input_taken asked.file before) (taken asked.file before old mid was is));
   undone = λ u. (undone u).files ∙ ap (option_map files_of) (taken asked.file before old mid was is);
+  cause = cause_read asked before read status here
+      (subst (λ (bytes : List ℕ). IsCaused (IsOverIn asked (input_taken asked.file before) bytes) (IsRefusedIn asked (input_taken asked.file before) bytes) status) same
+      (cause (input_taken asked.file before) (taken asked.file before old mid was is)));
 }
   where
     by_put : PutsMade asked given (input_taken asked.file before) new → MakesOutput asked.file asked.output (IsMadeIn asked) before new
@@ -113,14 +129,6 @@ texts_more shown asked name names more first mid before front all next same are 
     subst (λ (a : Asked). AppendsText a (inputs_taken names before) all next) same (appends (inputs_taken names before) there) in
     subst (λ (ns : List (List ℕ)). ShowsAll shown before front ns next) (sym are) (shows_more shown before front names name all next shows appended)
 
--- ---- what is put
-
-pub others_kept : (output : List ℕ) (before : Held) (old new : Option Held) → old ≡ Some before → KeepsFiles old new → KeepsOtherFiles output before new
-others_kept output before old new was kept = inl (kept_all before old new was kept.files)
-
-pub others_put : (output bytes : List ℕ) (before : Held) (new : Option Held) → new ≡ Some (put_at output bytes before) → KeepsOtherFiles output before new
-others_put output bytes before new is = inr (bytes, ap (option_map files_of) is)
-
 done_or_not : (status : Status) → (status ≡ statuses.Done) ⊎ (status ≢ statuses.Done)
 done_or_not statuses.Done = inl refl
 done_or_not statuses.WordsRefused = inr (λ e. absurd (cc))
@@ -130,6 +138,47 @@ done_or_not statuses.ReadFailed = inr (λ e. absurd (cc))
 done_or_not statuses.WriteFailed = inr (λ e. absurd (cc))
 done_or_not statuses.NoMemory = inr (λ e. absurd (cc))
 done_or_not statuses.Unwanted = inr (λ e. absurd (cc))
+
+-- ---- files that are refused
+
+refuses_front : (shown : Shown) (held : Held) (names more : List (List ℕ)) → RefusesOne shown held names → RefusesOne shown held (names ++ more)
+refuses_front shown held [] more one = absurd one
+refuses_front shown held (name ∷ names) more (inl here) = inl here
+refuses_front shown held (name ∷ names) more (inr later) = inr (refuses_front shown (input_taken name held) names more later)
+
+refuses_last : (shown : Shown) (held : Held) (names : List (List ℕ)) (name : List ℕ) → IsRefusedInput (asked_of shown name) (inputs_taken names held) → RefusesOne shown held (names ++ name ∷ [])
+refuses_last shown held [] name refused = inl refused
+refuses_last shown held (n ∷ names) name refused = inr (refuses_last shown (input_taken n held) names name refused)
+
+cause_earlier : (shown : Shown) (before : Held) (names : List (List ℕ)) (name : List ℕ) (status one result : Status) → (status ≡ statuses.Done) ⊎ (status ≢ statuses.Done) → (status ≢ statuses.Done → result ≡ status) → (status ≡ statuses.Done → result ≡ one)
+    → IsCaused ⊥ (RefusesOne shown before names) status → IsCaused ⊥ (IsRefusedInput (asked_of shown name) (inputs_taken names before)) one → IsCaused ⊥ (RefusesOne shown before (names ++ name ∷ [])) result
+cause_earlier shown before names name status one result (inl done) first next cause last =
+    cause_map ⊥ (IsRefusedInput (asked_of shown name) (inputs_taken names before)) ⊥ (RefusesOne shown before (names ++ name ∷ [])) result (λ never. never) (refuses_last shown before names name)
+    (subst (IsCaused ⊥ (IsRefusedInput (asked_of shown name) (inputs_taken names before))) (sym (next done)) last)
+cause_earlier shown before names name status one result (inr undone) first next cause last =
+    cause_map ⊥ (RefusesOne shown before names) ⊥ (RefusesOne shown before (names ++ name ∷ [])) result (λ never. never) (refuses_front shown before names (name ∷ []))
+    (subst (IsCaused ⊥ (RefusesOne shown before names)) (sym (first undone)) cause)
+
+pub cause_more : (shown : Shown) (asked : Asked) (name : List ℕ) (names more : List (List ℕ)) (first mid : Option Held) (before : Held) (status one result : Status) → asked ≡ asked_of shown name → more ≡ names ++ name ∷ [] → mid ≡ option_map (inputs_taken names) first → first ≡ Some before
+    → (status ≢ statuses.Done → result ≡ status) → (status ≡ statuses.Done → result ≡ one) → IsCaused ⊥ (RefusesOne shown before names) status → ((held : Held) → mid ≡ Some held → IsCaused ⊥ (IsRefusedInput asked held) one) → IsCaused ⊥ (RefusesOne shown before more) result
+cause_more shown asked name names more first mid before status one result same are was is undone done cause last =
+    let there : mid ≡ Some (inputs_taken names before) = was ∙ ap (option_map (inputs_taken names)) is in
+    let of_one : IsCaused ⊥ (IsRefusedInput (asked_of shown name) (inputs_taken names before)) one =
+    subst (λ (a : Asked). IsCaused ⊥ (IsRefusedInput a (inputs_taken names before)) one) same (last (inputs_taken names before) there) in
+    subst (λ (ns : List (List ℕ)). IsCaused ⊥ (RefusesOne shown before ns) result) (sym are)
+    (cause_earlier shown before names name status one result (done_or_not status) undone done cause of_one)
+
+-- the output is a file that is reached
+pub over_one : (shown : Shown) (files : List (Bor (List ℕ))) (place : ℕ) (d : Bor (List ℕ)) (held : Held) → place < length files → IsOver shown.output.now (get_or files place d).now held → IsOverOne shown held (map (λ (file : Bor (List ℕ)). file.now) files)
+over_one shown files place d held within over = (place, (get_or files place d).now, grind (arith, common_steps), grind (arith, common_steps), over)
+
+-- ---- what is put
+
+pub others_kept : (output : List ℕ) (before : Held) (old new : Option Held) → old ≡ Some before → KeepsFiles old new → KeepsOtherFiles output before new
+others_kept output before old new was kept = inl (kept_all before old new was kept.files)
+
+pub others_put : (output bytes : List ℕ) (before : Held) (new : Option Held) → new ≡ Some (put_at output bytes before) → KeepsOtherFiles output before new
+others_put output bytes before new is = inr (bytes, ap (option_map files_of) is)
 
 pub others_written : (status : Status) (output bytes : List ℕ) (before : Held) (old new : Option Held) → old ≡ Some before → (status ≡ statuses.Done → (held : Held) → old ≡ Some held → new ≡ Some (put_at output bytes held)) → (status ≢ statuses.Done → KeepsFiles old new) → KeepsOtherFiles output before new
 others_written status output bytes before old new was put kept = by_status (done_or_not status)
@@ -147,18 +196,46 @@ others_from output names before new (inr put) = inr (put.0, put.1 ∙ ap (λ (fi
 
 -- ---- how the verb ends
 
-pub several_kept : (shown : Shown) (names : List (List ℕ)) (status : Status) (before : Held) (old new : Option Held) → status ≢ statuses.Done → old ≡ Some before → option_map files_of new ≡ option_map files_of old → EndsShowingSeveral shown names status before new
-several_kept shown names status before old new undone was same = record {
+several_kept : (shown : Shown) (names : List (List ℕ)) (status : Status) (before : Held) (old new : Option Held) → status ≢ statuses.Done → old ≡ Some before → option_map files_of new ≡ option_map files_of old → IsCaused (IsOverOne shown before names) (RefusesOne shown before names) status → EndsShowingSeveral shown names status before new
+several_kept shown names status before old new undone was same cause = record {
   done = λ done. absurd (undone done);
   undone = λ _. inl (kept_all before old new was same);
+  over = λ _. kept_all before old new was same;
+  cause = cause;
 }
 
-pub several_put : (shown : Shown) (names : List (List ℕ)) (status : Status) (text : List ℕ) (before : Held) (old mid new : Option Held) → old ≡ Some before → mid ≡ option_map (inputs_taken names) old → (status ≡ statuses.Done → ShowsAll shown before [] names text) → (status ≡ statuses.Done → (now : Held) → mid ≡ Some now → new ≡ Some (some_put shown.output.now text now)) → ((now : Held) → mid ≡ Some now → KeepsOtherFiles shown.output.now now new) → EndsShowingSeveral shown names status before new
-several_put shown names status text before old mid new was is shows put kept =
+pub several_over : (shown : Shown) (names : List (List ℕ)) (before : Held) (old : Option Held) → old ≡ Some before → ((now : Held) → old ≡ Some now → IsOverOne shown now names) → EndsShowingSeveral shown names statuses.WordsRefused before old
+several_over shown names before old was over = several_kept shown names statuses.WordsRefused before old old (λ done. cc) was refl (over before was)
+
+pub several_unmade : (shown : Shown) (names : List (List ℕ)) (status : Status) (before : Held) (old new : Option Held) → status ≡ statuses.NoMemory → old ≡ Some before → option_map files_of new ≡ option_map files_of old → EndsShowingSeveral shown names status before new
+several_unmade shown names status before old new memory was same =
+    several_kept shown names status before old new (λ done. let wrong : statuses.NoMemory ≡ statuses.Done = sym memory ∙ done in cc) was same
+    (subst (IsCaused (IsOverOne shown before names) (RefusesOne shown before names)) (sym memory) tt)
+
+-- the status of what was written is that of what was read, or the write failed
+done_before : (status result : Status) → (result ≡ status) ⊎ (result ≡ statuses.WriteFailed) → result ≡ statuses.Done → status ≡ statuses.Done
+done_before status result (inl same) done = sym same ∙ done
+done_before status result (inr failed) done = absurd (let wrong : statuses.WriteFailed ≡ statuses.Done = sym failed ∙ done in cc)
+
+cause_shown : (shown : Shown) (names : List (List ℕ)) (before : Held) (status result : Status) → (result ≡ status) ⊎ (result ≡ statuses.WriteFailed) → IsCaused ⊥ (RefusesOne shown before names) status → IsCaused (IsOverOne shown before names) (RefusesOne shown before names) result
+cause_shown shown names before status result (inl same) cause =
+    cause_map ⊥ (RefusesOne shown before names) (IsOverOne shown before names) (RefusesOne shown before names) result (λ never. absurd never) (λ refused. refused)
+    (subst (IsCaused ⊥ (RefusesOne shown before names)) (sym same) cause)
+cause_shown shown names before status result (inr failed) cause = subst (IsCaused (IsOverOne shown before names) (RefusesOne shown before names)) (sym failed) tt
+
+never_over : (status result : Status) (file : Type 0) → (result ≡ status) ⊎ (result ≡ statuses.WriteFailed) → IsCaused ⊥ file status → result ≡ statuses.WordsRefused → ⊥
+never_over status result file (inl same) cause over = subst (IsCaused ⊥ file) (sym same ∙ over) cause
+never_over status result file (inr failed) cause over = absurd (let wrong : statuses.WriteFailed ≡ statuses.WordsRefused = sym failed ∙ over in cc)
+
+pub several_put : (shown : Shown) (names : List (List ℕ)) (status result : Status) (text : List ℕ) (before : Held) (old mid new : Option Held) → old ≡ Some before → mid ≡ option_map (inputs_taken names) old → (result ≡ status) ⊎ (result ≡ statuses.WriteFailed) → (status ≡ statuses.Done → ShowsAll shown before [] names text) → (result ≡ statuses.Done → (now : Held) → mid ≡ Some now → new ≡ Some (some_put shown.output.now text now)) → ((now : Held) → mid ≡ Some now → KeepsOtherFiles shown.output.now now new)
+    → IsCaused ⊥ (RefusesOne shown before names) status → EndsShowingSeveral shown names result before new
+several_put shown names status result text before old mid new was is same shows put kept cause =
     let there : mid ≡ Some (inputs_taken names before) = is ∙ ap (option_map (inputs_taken names)) was in
     record {
-      done = λ d. record { text = text; is_text = shows d; is_put = put d (inputs_taken names before) there };
+      done = λ d. record { text = text; is_text = shows (done_before status result same d); is_put = put d (inputs_taken names before) there };
       undone = λ _. others_from shown.output.now names before new (kept (inputs_taken names before) there);
+      over = λ over. absurd (never_over status result (RefusesOne shown before names) same cause over);
+      cause = cause_shown shown names before status result same cause;
     }
 
 pub shows_one : (shown : Shown) (names : List (List ℕ)) (name : List ℕ) (status : Status) (before : Held) (after : Option Held) → names ≡ name ∷ [] → EndsMaking (asked_of shown name) status before after → EndsShowing shown names status before after

@@ -1,14 +1,15 @@
 -- What the verb that shows files does.
-use Rattle.std.specs.Prelude.{◌≡◌, ◌≢◌, ℕ, List, [], ◌∷◌, ◌++◌, map, codes, Option, Some, option_map, ◌⊎◌}
+use Rattle.std.specs.Prelude.{◌≡◌, ◌≢◌, ℕ, List, [], ◌∷◌, ◌++◌, map, codes, Option, Some, ◌⊎◌, Any}
 use Rattle.std.specs.Borrow.{Bor}
 use Rattle.ground_files.specs.declared.verb_status.Status.{Status}
 use Rattle.ground_files.specs.declared.verb_status.Status.TheVariants as statuses
 use Rattle.ground_files.specs.Inputs.{input_shown}
-use Rattle.ground_files.specs.Workspaces.{Held, input_taken, put_at, files_of}
-use Rattle.ground_files.specs.Verbs.{KeepsAllFiles}
+use Rattle.ground_files.specs.Workspaces.{Held, input_taken, put_at}
+use Rattle.ground_files.specs.Verbs.{KeepsAllFiles, KeepsOtherFiles, IsOver}
 use Rattle.ground_making.specs.declared.making.Making.TheVariants as makings
 use Rattle.ground_making.specs.declared.shown_files.Shown.{Shown}
-use Rattle.ground_making.specs.MadeFiles.{Asked, IsMadeOfInput, EndsMaking}
+use Rattle.ground_making.specs.Causes.{IsCaused}
+use Rattle.ground_making.specs.MadeFiles.{Asked, IsMadeOfInput, IsRefusedInput, EndsMaking}
 
 -- what is asked for of one of the files
 abbrev pub asked_of : Shown → List ℕ → Asked
@@ -54,15 +55,22 @@ pub record PutsAll (shown : Shown) (names : List (List ℕ)) (before : Held) (af
   pub is_text : ShowsAll shown before [] names text
   pub is_put : after ≡ Some (some_put shown.output.now text (inputs_taken names before))
 
--- No file is another, or that of the output alone is.
-abbrev pub KeepsOtherFiles : List ℕ → Held → Option Held → Type 0
-KeepsOtherFiles output before after =
-    KeepsAllFiles before after ⊎ ((bytes : List ℕ) × (option_map files_of after ≡ Some (put_at output bytes before).files))
+-- One of the files has bytes, once those before it were read, of which nothing is made.
+abbrev pub RefusesOne : Shown → Held → List (List ℕ) → Type 0
+RefusesOne shown held [] = ⊥
+RefusesOne shown held (name ∷ names) = IsRefusedInput (asked_of shown name) held ⊎ RefusesOne shown (input_taken name held) names
 
--- How several files are shown: all, or no file but the output is another.
+-- The output is one of the files.
+abbrev pub IsOverOne : Shown → Held → List (List ℕ) → Type 0
+IsOverOne shown held names = Any (λ (name : List ℕ). IsOver shown.output.now name held) names
+
+-- How several files are shown: all, or no file but the output is another, which is as before where it is one of the files; and the status has
+-- its cause.
 pub record EndsShowingSeveral (shown : Shown) (names : List (List ℕ)) (status : Status) (before : Held) (after : Option Held) : Type 0 where
   pub done : status ≡ statuses.Done → PutsAll shown names before after
   pub undone : status ≢ statuses.Done → KeepsOtherFiles shown.output.now before after
+  pub over : status ≡ statuses.WordsRefused → KeepsAllFiles before after
+  pub cause : IsCaused (IsOverOne shown before names) (RefusesOne shown before names) status
 
 -- How the verb ends: one file is made its text, and several are shown.
 abbrev pub EndsShowing : Shown → List (List ℕ) → Status → Held → Option Held → Type 0

@@ -1,14 +1,19 @@
 //! Books among the texts that are read.
 
-ghost use Rattle.std.specs.Prelude.{◌≡◌, ◌<◌, ◌+◌, ◌^◌, true, length, IfOk};
+ghost use Rattle.std.specs.Prelude.{◌≡◌, ◌≢◌, ◌<◌, ◌+◌, ◌^◌, true, length, IfOk, IfErr, Option, ℕ};
 ghost use Rattle.load_books.specs.Books.{is_book_text};
+ghost use Rattle.ground_making.specs.declared.making.Making.TheVariants as makings;
+ghost use Rattle.ground_making.specs.declared.making.Refusal.TheVariants as refusals;
 ghost use Rattle.ground_making.specs.Made.{IsScenarioOfBook};
+ghost use Rattle.ground_making.specs.Refused.{book_error_refusal, IsRefusedFor};
 
 use crate::making::{MOST_BYTES, Refusal};
 use load_books::{BookError, book_forms, is_book_text, read_book};
 use std::alloc::Global;
 
 impl From<BookError> for Refusal {
+    ghost from_gives = { λ error refusal. refusal ≡ book_error_refusal error };
+
     fn from(error: BookError) -> Refusal {
         match error {
             BookError::Memory(_) => Refusal::Memory,
@@ -26,8 +31,11 @@ pub fn is_book(bytes: &[u8]) -> bool
 
 /// The scenario of a book.
 pub(crate) fn book_scenario(alloc: Global, text: &[u8]) -> Result<Vec<u8>, Refusal>
-    requires { 1 + length text.now < 2 ^ 32 }
-    ensures { IfOk result (λ scenario. IsScenarioOfBook text.now scenario.items) }
+    requires short { 1 + length text.now < 2 ^ 32 }
+    requires book { is_book_text text.now ≡ true }
+    ensures made { IfOk result (λ scenario. IsScenarioOfBook text.now scenario.items) }
+    ensures refused { IfErr result (λ refusal. (epoch : Option ℕ) → refusal ≢ refusals.Memory
+        → IsRefusedFor makings.Scenario epoch text.now refusal) }
 {
     match read_book(alloc, &book_forms(), text) {
         Ok(book) => Ok(book.scenario),

@@ -1,12 +1,14 @@
 //! The verbs that make a file of another.
 
-ghost use Rattle.std.specs.Prelude.{◌≡◌, ◌≢◌, ◌<◌, ◌+◌, ◌^◌, true, false, length, Some, IfOk, OnOk, IfErr};
+ghost use Rattle.std.specs.Prelude.{◌≡◌, ◌≢◌, ◌⊎◌, ◌<◌, ◌+◌, ◌^◌, true, false, length, Some, IfOk, OnOk, IfErr};
 ghost use Rattle.ground_files.specs.declared.verb_status.Status.TheVariants as statuses;
 ghost use Rattle.ground_files.specs.Workspaces.{Held, put_at, KeepsFiles};
 ghost use Rattle.load_texts.specs.Loads.{is_load_text};
 ghost use Rattle.ground_making.specs.declared.making.Making.TheVariants as makings;
 ghost use Rattle.ground_making.specs.Made.{IsMadeAs};
-ghost use Rattle.ground_making.specs.MadeFiles.{asked_by, PutsMade, EndsMaking};
+ghost use Rattle.ground_making.specs.Refused.{IsRefusedAs};
+ghost use Rattle.ground_making.specs.Causes.{IsCaused, IsToldBy};
+ghost use Rattle.ground_making.specs.MadeFiles.{asked_by, PutsMade, IsOverIn, IsRefusedIn, EndsMaking};
 
 use crate::making::{MOST_BYTES, Making, Refusal, load_of, look_at};
 use crate::named_files::bytes_asked;
@@ -42,6 +44,7 @@ pub(crate) fn write_made<R: Eprint, W: Workspace>(
         → W.held workspace.new ≡ Some (put_at output.now made.now before) }
     ensures undone { result ≢ statuses.Done
         → KeepsFiles (W.held workspace.old) (W.held workspace.new) }
+    ensures status { (result ≡ statuses.Done) ⊎ (result ≡ statuses.WriteFailed) }
 {
     match put_output(workspace, output, made) {
         Ok(()) => Status::Done,
@@ -56,7 +59,8 @@ fn tell_unmade<R: Eprint + AllocGlobal>(
     bytes: &[u8],
     refusal: &Refusal,
 ) -> Status
-    ensures { result ≢ statuses.Done }
+    ensures undone { result ≢ statuses.Done }
+    ensures told { IsToldBy refusal.now result }
 {
     let name = input_name(wanted.file);
     match *refusal {
@@ -83,6 +87,9 @@ fn make_load<R: Eprint + AllocGlobal, W: Workspace>(
         → PutsMade (asked_by wanted.now) text.now before (W.held workspace.new) }
     ensures undone { result ≢ statuses.Done
         → KeepsFiles (W.held workspace.old) (W.held workspace.new) }
+    ensures cause { (before : Held) → W.held workspace.old ≡ Some before
+        → IsCaused (IsOverIn (asked_by wanted.now) before text.now)
+        (IsRefusedIn (asked_by wanted.now) before text.now) result }
 {
     let named = match bytes_asked(rt, workspace, wanted, text) {
         Ok(bytes) => bytes,
@@ -121,6 +128,8 @@ pub(crate) fn made_of<R: Eprint + AllocGlobal>(
         IsMadeAs wanted.now.making wanted.now.epoch bytes.now made.items) }
     ensures short { OnOk result (1 + length bytes.now < 2 ^ 32) }
     ensures undone { IfErr result (λ status. status ≢ statuses.Done) }
+    ensures cause { IfErr result (IsCaused ⊥
+        (IsRefusedAs wanted.now.making wanted.now.epoch bytes.now)) }
 {
     match wanted.making.make(rt.alloc(), wanted.epoch, bytes) {
         Ok(made) => {
@@ -146,6 +155,9 @@ fn make_bytes<R: Eprint + AllocGlobal, W: Workspace>(
         → PutsMade (asked_by wanted.now) bytes.now before (W.held workspace.new) }
     ensures undone { result ≢ statuses.Done
         → KeepsFiles (W.held workspace.old) (W.held workspace.new) }
+    ensures cause { (before : Held) → W.held workspace.old ≡ Some before
+        → IsCaused (IsOverIn (asked_by wanted.now) before bytes.now)
+        (IsRefusedIn (asked_by wanted.now) before bytes.now) result }
 {
     match made_of(rt, wanted, bytes) {
         Ok(made) => write_made(rt, workspace, wanted.output, made.as_slice()),
@@ -165,7 +177,7 @@ fn wants_load(wanted: &Wanted<'_>, bytes: &[u8]) -> bool
 }
 
 /// Makes a file into what is wanted, and writes that.
-#[tactic(auto, using(crate::proofs::VerbLemmas::ends_kept, crate::proofs::VerbLemmas::taken_files))]
+#[tactic(auto, using(crate::proofs::VerbLemmas::ends_unread, crate::proofs::VerbLemmas::taken_files))]
 fn make_file<R: Eprint + AllocGlobal, W: Workspace>(
     rt: &R,
     workspace: &mut W,
@@ -186,7 +198,7 @@ fn make_file<R: Eprint + AllocGlobal, W: Workspace>(
 }
 
 /// Makes what a verb of one file makes.
-#[tactic(auto, using(crate::proofs::VerbLemmas::ends_kept))]
+#[tactic(auto, using(crate::proofs::VerbLemmas::ends_over))]
 pub fn make_one<R: Eprint + AllocGlobal, W: Workspace>(
     rt: &R,
     workspace: &mut W,

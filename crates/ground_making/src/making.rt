@@ -1,14 +1,18 @@
 //! What files and texts are made into.
 
-ghost use Rattle.std.specs.Prelude.{◌≡◌, ◌<◌, ◌+◌, ◌^◌, true, false, length, map, IfOk, OnOk, None, Some};
+ghost use Rattle.std.specs.Prelude.{◌≡◌, ◌≢◌, ◌<◌, ◌+◌, ◌^◌, true, false, length, map, IfOk, IfErr, OnOk, Option, None, Some, ℕ};
 ghost use Rattle.telecommands.specs.Commands.{are_good};
 ghost use Rattle.telecommands.specs.Dictionary.{dictionary, placed};
 ghost use Rattle.table_files.specs.Headers.{kind_of_file, file_fault_of, is_load};
 ghost use Rattle.table_forms.specs.Judging.{refusal_of};
 ghost use Rattle.table_forms.specs.Layouts.{are_layouts, placed as placed_layouts, all_layouts};
 ghost use Rattle.load_texts.specs.Loads.{SaysLoad};
+ghost use Rattle.load_books.specs.Books.{is_book_text};
 ghost use Rattle.shown_plans.specs.Shown.{is_scenario_text};
+ghost use Rattle.ground_making.specs.declared.making.Making.TheVariants as makings;
+ghost use Rattle.ground_making.specs.declared.making.Refusal.TheVariants as refusals;
 ghost use Rattle.ground_making.specs.Made.{IsFileOf, IsTableText, IsLoadText, IsTextOf, IsScenarioOfPlan, IsScenarioIn, IsMadeAs};
+ghost use Rattle.ground_making.specs.Refused.{table_refusal, table_error_refusal, load_error_refusal, plan_error_refusal, IsRefusedFor, IsLoadRefusedFor};
 
 use crate::books::book_scenario;
 use crate::scenarios::plan_of;
@@ -77,7 +81,9 @@ impl Refusal {
 }
 
 /// Why a table or its text is refused.
-fn refused(fault: TableFault) -> Refusal {
+fn refused(fault: TableFault) -> Refusal
+    ensures { result ≡ table_refusal fault }
+{
     match fault {
         TableFault::Entry(kind, fault) => Refusal::Entry(kind, fault),
         other => Refusal::Text(other),
@@ -85,12 +91,16 @@ fn refused(fault: TableFault) -> Refusal {
 }
 
 impl From<AllocError> for Refusal {
+    ghost from_gives = { λ _ refusal. refusal ≡ refusals.Memory };
+
     fn from(_: AllocError) -> Refusal {
         Refusal::Memory
     }
 }
 
 impl From<ReadError> for Refusal {
+    ghost from_gives = { λ error refusal. refusal ≡ table_error_refusal error };
+
     fn from(error: ReadError) -> Refusal {
         match error {
             ReadError::Memory(_) => Refusal::Memory,
@@ -100,6 +110,8 @@ impl From<ReadError> for Refusal {
 }
 
 impl From<load_texts::ReadError> for Refusal {
+    ghost from_gives = { λ error refusal. refusal ≡ load_error_refusal error };
+
     fn from(error: load_texts::ReadError) -> Refusal {
         match error {
             load_texts::ReadError::Memory(_) => Refusal::Memory,
@@ -109,6 +121,8 @@ impl From<load_texts::ReadError> for Refusal {
 }
 
 impl From<PlanError> for Refusal {
+    ghost from_gives = { λ error refusal. refusal ≡ plan_error_refusal error };
+
     fn from(error: PlanError) -> Refusal {
         match error {
             PlanError::Memory(_) => Refusal::Memory,
@@ -119,6 +133,7 @@ impl From<PlanError> for Refusal {
 
 /// What tables' texts are read by, with times counted from `epoch`.
 fn forms(epoch: Option<u32>) -> TextForms<'static>
+    ensures counted { result.epoch ≡ epoch }
     ensures listed_commands { map placed result.commands.now ≡ dictionary }
     ensures listed_layouts { placed_layouts result.layouts.now ≡ all_layouts }
     ensures commands { are_good result.commands.now ≡ true }
@@ -137,7 +152,9 @@ pub const MOST_BYTES: usize = 4_294_967_294;
 /// The file of a table's text: it is taken as the table that the text's first line names.
 fn file_of(alloc: Global, epoch: Option<u32>, text: &[u8]) -> Result<Vec<u8>, Refusal>
     requires { 1 + length text.now < 2 ^ 32 }
-    ensures { IfOk result (λ file. IsFileOf text.now file.items) }
+    ensures made { IfOk result (λ file. IsFileOf text.now file.items) }
+    ensures refused { IfErr result (λ refusal. refusal ≢ refusals.Memory
+        → IsRefusedFor makings.Table epoch text.now refusal) }
 {
     match read_table(alloc, &forms(epoch), text) {
         Ok(file) => Ok(file),
@@ -149,7 +166,9 @@ fn file_of(alloc: Global, epoch: Option<u32>, text: &[u8]) -> Result<Vec<u8>, Re
 /// address and bytes.
 pub fn load_of(alloc: Global, named: &[u8], text: &[u8]) -> Result<Vec<u8>, Refusal>
     requires { 1 + length text.now < 2 ^ 32 }
-    ensures { IfOk result (λ file. SaysLoad named.now text.now file.items) }
+    ensures made { IfOk result (λ file. SaysLoad named.now text.now file.items) }
+    ensures refused { IfErr result (λ refusal. refusal ≢ refusals.Memory
+        → IsLoadRefusedFor named.now text.now refusal) }
 {
     match read_load(alloc, header_fields(), named, text) {
         Ok(file) => Ok(file),
@@ -161,7 +180,9 @@ pub fn load_of(alloc: Global, named: &[u8], text: &[u8]) -> Result<Vec<u8>, Refu
 #[tactic(auto, using(crate::proofs::MadeLemmas::plan_given, crate::proofs::MadeLemmas::table_given, crate::proofs::MadeLemmas::load_given))]
 fn text_of(alloc: Global, epoch: Option<u32>, file: &[u8]) -> Result<Vec<u8>, Refusal>
     requires { 1 + length file.now < 2 ^ 32 }
-    ensures { IfOk result (λ text. IsTextOf epoch file.now text.items) }
+    ensures made { IfOk result (λ text. IsTextOf epoch file.now text.items) }
+    ensures refused { IfErr result (λ refusal. refusal ≢ refusals.Memory
+        → IsRefusedFor makings.Text epoch file.now refusal) }
 {
     if is_scenario_text(file) {
         return plan_of(alloc, file);
@@ -182,7 +203,9 @@ fn show_of(
     file: &[u8],
 ) -> Result<Vec<u8>, Refusal>
     requires { kind_of_file file.now ≡ Some kind }
-    ensures { IfOk result (λ text. epoch ≡ None → IsTableText kind file.now text.items) }
+    ensures made { IfOk result (λ text. epoch ≡ None
+        → IsTableText kind file.now text.items) }
+    ensures memory { IfErr result (λ refusal. refusal ≡ refusals.Memory) }
 {
     let mut text = Vec::new(alloc);
     match show_table(alloc, &forms(epoch), kind, file, &mut text) {
@@ -193,7 +216,8 @@ fn show_of(
 
 /// The text of a table, with its times told from the epoch on, where there is one.
 fn from_epoch(alloc: Global, epoch: Option<u32>, text: Vec<u8>) -> Result<Vec<u8>, Refusal>
-    ensures { IfOk result (λ told. epoch ≡ None → told.items ≡ text.items) }
+    ensures made { IfOk result (λ told. epoch ≡ None → told.items ≡ text.items) }
+    ensures memory { IfErr result (λ refusal. refusal ≡ refusals.Memory) }
 {
     match epoch {
         Some(epoch) => Ok(with_times(alloc, epoch, text.as_slice())?),
@@ -206,7 +230,8 @@ fn from_epoch(alloc: Global, epoch: Option<u32>, text: Vec<u8>) -> Result<Vec<u8
 fn show_load_of(alloc: Global, file: &[u8]) -> Result<Vec<u8>, Refusal>
     requires well { file_fault_of file.now ≡ None }
     requires load { is_load file.now ≡ true }
-    ensures { IfOk result (λ text. IsLoadText file.now text.items) }
+    ensures made { IfOk result (λ text. IsLoadText file.now text.items) }
+    ensures memory { IfErr result (λ refusal. refusal ≡ refusals.Memory) }
 {
     let mut text = Vec::new(alloc);
     match show_load(alloc, header_fields(), file, &mut text) {
@@ -219,7 +244,9 @@ fn show_load_of(alloc: Global, file: &[u8]) -> Result<Vec<u8>, Refusal>
 #[tactic(auto, using(crate::proofs::MadeLemmas::book_given, crate::proofs::MadeLemmas::schedule_given))]
 fn scenario_of(alloc: Global, text: &[u8]) -> Result<Vec<u8>, Refusal>
     requires { 1 + length text.now < 2 ^ 32 }
-    ensures { IfOk result (λ scenario. IsScenarioIn text.now scenario.items) }
+    ensures made { IfOk result (λ scenario. IsScenarioIn text.now scenario.items) }
+    ensures refused { IfErr result (λ refusal. (epoch : Option ℕ) → refusal ≢ refusals.Memory
+        → IsRefusedFor makings.Scenario epoch text.now refusal) }
 {
     if is_book_text(text) {
         return book_scenario(alloc, text);
@@ -229,8 +256,11 @@ fn scenario_of(alloc: Global, text: &[u8]) -> Result<Vec<u8>, Refusal>
 
 /// The scenario that a plan says.
 fn plan_scenario(alloc: Global, plan: &[u8]) -> Result<Vec<u8>, Refusal>
-    requires { 1 + length plan.now < 2 ^ 32 }
-    ensures { IfOk result (λ scenario. IsScenarioOfPlan plan.now scenario.items) }
+    requires short { 1 + length plan.now < 2 ^ 32 }
+    requires other { is_book_text plan.now ≡ false }
+    ensures made { IfOk result (λ scenario. IsScenarioOfPlan plan.now scenario.items) }
+    ensures refused { IfErr result (λ refusal. (epoch : Option ℕ) → refusal ≢ refusals.Memory
+        → IsRefusedFor makings.Scenario epoch plan.now refusal) }
 {
     match schedule_plan(alloc, commands(), plan) {
         Ok(scenario) => Ok(scenario),
@@ -258,6 +288,8 @@ impl Making {
     pub fn make(self, alloc: Global, epoch: Option<u32>, bytes: &[u8]) -> Result<Vec<u8>, Refusal>
         ensures made { IfOk result (λ made. IsMadeAs self epoch bytes.now made.items) }
         ensures short { OnOk result (1 + length bytes.now < 2 ^ 32) }
+        ensures refused { IfErr result (λ refusal. refusal ≢ refusals.Memory
+            → IsRefusedFor self epoch bytes.now refusal) }
     {
         if bytes.len() > MOST_BYTES {
             return Err(Refusal::Long);

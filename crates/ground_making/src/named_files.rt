@@ -3,9 +3,12 @@
 ghost use Rattle.std.specs.Prelude.{◌≡◌, ◌≢◌, ◌≤◌, ◌<◌, ◌+◌, ◌^◌, ℕ, List, length, Some, IfOk, IfErr, string_bytes};
 ghost use Rattle.fsw_outside.specs.Files.{file_named};
 ghost use Rattle.ground_files.specs.declared.verb_status.Status.TheVariants as statuses;
+ghost use Rattle.ground_files.specs.Verbs.{IsOver};
 ghost use Rattle.ground_files.specs.Workspaces.{Held};
 ghost use Rattle.load_texts.specs.Loaded.{file_asked, named_by};
-ghost use Rattle.ground_making.specs.Named.{path_beside, asked_bytes};
+ghost use Rattle.ground_making.specs.Causes.{IsCaused};
+ghost use Rattle.ground_making.specs.Named.{path_beside, asked_bytes, IsTooLarge, IsUnloaded, AsksForUnloaded};
+ghost use Rattle.ground_making.specs.MadeFiles.{asked_by, IsOverAsked};
 
 use crate::made_files::Wanted;
 use ground_files::{
@@ -36,8 +39,10 @@ fn path_beside(alloc: Global, text: &str, path: &str) -> Result<String, AllocErr
 /// The bytes of a reader, and of one that has more than can be loaded one byte more than can be.
 #[tactic(auto, using(ground_files::proofs::ReadLemmas::all_read))]
 fn read_few<F: Read + Drop>(alloc: Global, from: F) -> io::Result<Vec<u8>>
-    ensures { IfOk result (λ bytes. length bytes.items ≤ 65536 → (given : List ℕ)
+    ensures all { IfOk result (λ bytes. length bytes.items ≤ 65536 → (given : List ℕ)
         → F.remaining from ≡ Some given → bytes.items ≡ given) }
+    ensures few { IfOk result (λ bytes. (given : List ℕ) → F.remaining from ≡ Some given
+        → length bytes.items ≤ length given) }
 {
     let mut bytes = Vec::new(alloc);
     let mut few = from.take(MOST_LOADED as u64 + 1);
@@ -51,6 +56,8 @@ fn read_named<W: Workspace>(alloc: Global, workspace: &mut W, path: &str) -> io:
     ensures bytes { IfOk result (λ bytes. length bytes.items ≤ 65536 → (before : Held)
         → W.held workspace.old ≡ Some before
         → file_named before.files path.now ≡ Some bytes.items) }
+    ensures large { IfOk result (λ bytes. 65536 < length bytes.items → (before : Held)
+        → W.held workspace.old ≡ Some before → IsTooLarge path.now before.files) }
 {
     read_few(alloc, workspace.open(path)?)
 }
@@ -67,6 +74,9 @@ fn read_path<R: Eprint + AllocGlobal, W: Workspace>(
     ensures bytes { IfOk result (λ bytes. (before : Held) → W.held workspace.old ≡ Some before
         → file_named before.files path.now ≡ Some bytes.items) }
     ensures undone { IfErr result (λ status. status ≢ statuses.Done) }
+    ensures cause { IfErr result (λ status. (before : Held) → W.held workspace.old ≡ Some before
+        → IsCaused (IsOver wanted.now.output.now path.now before)
+        (IsTooLarge path.now before.files) status) }
 {
     if replaces(workspace, wanted.output, path) {
         tell_replaced(rt, wanted.output);
@@ -101,6 +111,10 @@ fn named_bytes<R: Eprint + AllocGlobal, W: Workspace>(
         → asked_bytes wanted.now.file.now before.files (Some (named_by asked.now))
         ≡ Some bytes.items) }
     ensures undone { IfErr result (λ status. status ≢ statuses.Done) }
+    ensures cause { IfErr result (λ status. (before : Held) → W.held workspace.old ≡ Some before
+        → IsCaused (IsOver wanted.now.output.now
+        (path_beside wanted.now.file.now (named_by asked.now).path) before)
+        (IsUnloaded wanted.now.file.now before.files (named_by asked.now)) status) }
 {
     let line = asked.line;
     let Ok(path) = from_utf8(asked.path) else {
@@ -127,6 +141,9 @@ pub(crate) fn bytes_asked<R: Eprint + AllocGlobal, W: Workspace>(
         → asked_bytes wanted.now.file.now before.files (file_asked text.now)
         ≡ Some bytes.items) }
     ensures undone { IfErr result (λ status. status ≢ statuses.Done) }
+    ensures cause { IfErr result (λ status. (before : Held) → W.held workspace.old ≡ Some before
+        → IsCaused (IsOverAsked (asked_by wanted.now) before text.now)
+        (AsksForUnloaded wanted.now.file.now before.files text.now) status) }
 {
     match asked_file(text) {
         Some(asked) => named_bytes(rt, workspace, wanted, &asked),

@@ -1,7 +1,8 @@
 //! What is told where nothing is made.
 
-ghost use Rattle.std.specs.Prelude.{◌≢◌};
+ghost use Rattle.std.specs.Prelude.{◌≡◌, ◌≢◌, ◌⊎◌};
 ghost use Rattle.ground_files.specs.declared.verb_status.Status.TheVariants as statuses;
+ghost use Rattle.ground_making.specs.Causes.{IsToldBy};
 
 use crate::making::Refusal;
 use ground_faults::{
@@ -33,7 +34,8 @@ pub fn tell_refusal<R: Eprint + AllocGlobal>(
     bytes: &[u8],
     refusal: &Refusal,
 ) -> Status
-    ensures { result ≢ statuses.Done }
+    ensures undone { result ≢ statuses.Done }
+    ensures told { IsToldBy refusal.now result }
 {
     if refusal.is_of_text() {
         tell_line_ends(rt, name, bytes);
@@ -62,7 +64,7 @@ pub(crate) fn status_told<R: Eprint + AllocGlobal>(
     name: &str,
     told: Result<(), AllocError>,
 ) -> Status
-    ensures { result ≢ statuses.Done }
+    ensures { (result ≡ statuses.FileRefused) ⊎ (result ≡ statuses.NoMemory) }
 {
     match told {
         Ok(()) => Status::FileRefused,

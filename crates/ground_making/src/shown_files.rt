@@ -1,11 +1,14 @@
 //! The verb that shows files.
 
-ghost use Rattle.std.specs.Prelude.{◌≡◌, ◌≢◌, ◌++◌, [], Some, option_map, IfOk, OnOk, IfErr};
+ghost use Rattle.std.specs.Prelude.{◌≡◌, ◌≢◌, ◌⊎◌, ◌++◌, true, [], Some, option_map, IfOk, OnOk, IfErr};
 ghost use Rattle.ground_files.specs.declared.verb_status.Status.TheVariants as statuses;
 ghost use Rattle.ground_files.specs.Inputs.{input_shown};
 ghost use Rattle.ground_files.specs.Workspaces.{Held, input_taken, files_of};
-ghost use Rattle.ground_making.specs.MadeFiles.{asked_by, IsMadeOfInput};
-ghost use Rattle.ground_making.specs.ShownFiles.{asked_of, names_in, gap, with_text, inputs_taken, ShowsAll, AppendsText, some_put, KeepsOtherFiles, EndsShowingSeveral, EndsShowing};
+ghost use Rattle.ground_files.specs.Verbs.{KeepsOtherFiles};
+ghost use Rattle.ground_making.specs.declared.making.Making.TheVariants as makings;
+ghost use Rattle.ground_making.specs.Causes.{IsCaused};
+ghost use Rattle.ground_making.specs.MadeFiles.{asked_by, IsMadeOfInput, IsRefusedInput};
+ghost use Rattle.ground_making.specs.ShownFiles.{asked_of, names_in, gap, with_text, inputs_taken, ShowsAll, AppendsText, RefusesOne, IsOverOne, some_put, EndsShowingSeveral, EndsShowing};
 
 use crate::made_files::{Wanted, made_of, make_one, write_made};
 use crate::making::Making;
@@ -45,11 +48,14 @@ fn text_of<R: Eprint + AllocGlobal, W: Workspace>(
     workspace: &mut W,
     wanted: &Wanted<'_>,
 ) -> Result<Vec<u8>, Status>
+    requires { wanted.now.making ≡ makings.Text }
     ensures held { W.held workspace.new ≡ option_map (input_taken wanted.now.file.now)
         (W.held workspace.old) }
     ensures text { IfOk result (λ text. (before : Held) → W.held workspace.old ≡ Some before
         → IsMadeOfInput (asked_by wanted.now) before text.items) }
     ensures undone { IfErr result (λ status. status ≢ statuses.Done) }
+    ensures cause { IfErr result (λ status. (before : Held) → W.held workspace.old ≡ Some before
+        → IsCaused ⊥ (IsRefusedInput (asked_by wanted.now) before) status) }
 {
     match read_input(rt.alloc(), workspace, wanted.file) {
         Ok(bytes) => made_of(rt, wanted, bytes.as_slice()),
@@ -86,11 +92,14 @@ fn push_file<R: Eprint + AllocGlobal, W: Workspace>(
     wanted: &Wanted<'_>,
     out: &mut Vec<u8>,
 ) -> Result<Status, AllocError>
+    requires { wanted.now.making ≡ makings.Text }
     ensures held { W.held workspace.new ≡ option_map (input_taken wanted.now.file.now)
         (W.held workspace.old) }
     ensures text { IfOk result (λ status. status ≡ statuses.Done → (before : Held)
         → W.held workspace.old ≡ Some before
         → AppendsText (asked_by wanted.now) before out.old.items out.new.items) }
+    ensures cause { IfOk result (λ status. (before : Held) → W.held workspace.old ≡ Some before
+        → IsCaused ⊥ (IsRefusedInput (asked_by wanted.now) before) status) }
 {
     match text_of(rt, workspace, wanted) {
         Ok(text) => {
@@ -103,8 +112,9 @@ fn push_file<R: Eprint + AllocGlobal, W: Workspace>(
 
 /// The first of two statuses that isn't `Done`.
 fn earlier(one: Status, other: Status) -> Status
-    ensures one { result ≡ statuses.Done → one ≡ statuses.Done }
-    ensures other { result ≡ statuses.Done → other ≡ statuses.Done }
+    ensures one { one ≢ statuses.Done → result ≡ one }
+    ensures other { one ≡ statuses.Done → result ≡ other }
+    ensures done { result ≡ statuses.Done → one ≡ statuses.Done }
 {
     if one == Status::Done { other } else { one }
 }
@@ -124,6 +134,8 @@ fn push_files<R: Eprint + AllocGlobal, W: Workspace>(
     ensures texts { IfOk result (λ status. status ≡ statuses.Done → (before : Held)
         → W.held workspace.old ≡ Some before
         → ShowsAll shown.now before out.old.items (names_in shown.now) out.new.items) }
+    ensures cause { IfOk result (λ status. (before : Held) → W.held workspace.old ≡ Some before
+        → IsCaused ⊥ (RefusesOne shown.now before (names_in shown.now)) status) }
 {
     let mut status = Status::Done;
     'files: for file in shown.files {
@@ -134,7 +146,10 @@ fn push_files<R: Eprint + AllocGlobal, W: Workspace>(
 }
 
 /// Whether the output is one of the files.
-fn replaces_one<W: Workspace>(workspace: &W, shown: &Shown<'_>) -> bool {
+fn replaces_one<W: Workspace>(workspace: &W, shown: &Shown<'_>) -> bool
+    ensures { result ≡ true → (now : Held) → W.held workspace.now ≡ Some now
+        → IsOverOne shown.now now (names_in shown.now) }
+{
     for file in shown.files {
         if replaces(workspace, shown.output, file) {
             return true;
@@ -152,7 +167,7 @@ fn write_shown<R: Eprint, W: Workspace>(
     status: Status,
     text: &[u8],
 ) -> Status
-    ensures status { result ≡ statuses.Done → status ≡ statuses.Done }
+    ensures status { (result ≡ status) ⊎ (result ≡ statuses.WriteFailed) }
     ensures done { result ≡ statuses.Done → (before : Held) → W.held workspace.old ≡ Some before
         → W.held workspace.new ≡ Some (some_put output.now text.now before) }
     ensures others { (before : Held) → W.held workspace.old ≡ Some before
@@ -165,7 +180,7 @@ fn write_shown<R: Eprint, W: Workspace>(
 }
 
 /// Shows several files, each behind a comment with its name.
-#[tactic(auto, using(crate::proofs::VerbLemmas::several_kept, crate::proofs::VerbLemmas::several_put))]
+#[tactic(auto, using(crate::proofs::VerbLemmas::several_over, crate::proofs::VerbLemmas::several_unmade, crate::proofs::VerbLemmas::several_put))]
 fn show_several<R: Eprint + AllocGlobal, W: Workspace>(
     rt: &R,
     workspace: &mut W,
