@@ -8,7 +8,7 @@ use Rattle.table_files.specs.Headers.{kind_of_file, file_fault_of, is_load}
 use Rattle.table_texts.specs.Lines.{kept_of}
 use Rattle.table_forms.specs.declared.forms.TextForms.{TextForms}
 use Rattle.table_forms.specs.Layouts.{placed as placed_layouts, all_layouts}
-use Rattle.table_forms.specs.Reading.{first_said, IsTakenAs, file_text}
+use Rattle.table_forms.specs.Reading.{first_said, table_said, IsTakenAs, file_text}
 use Rattle.load_texts.specs.Headers.{placed_field, all_fields}
 use Rattle.load_texts.specs.Loads.{load_text}
 use Rattle.load_books.specs.declared.forms.BookForms.{BookForms}
@@ -19,9 +19,15 @@ use Rattle.shown_plans.specs.KeptFrames.{IsPlanOf}
 use Rattle.ground_making.specs.declared.making.Making.{Making}
 use Rattle.ground_making.specs.declared.making.Making.TheVariants as makings
 
--- a text and the file of its table: the file is taken as the table that the text's first line names
-abbrev pub IsFileOf : List ℕ → List ℕ → Type 0
-IsFileOf text file = IsTakenAs (first_said (kept_of 1 text)) file
+-- a text and the file of its table, in the words of the commands and the layouts of the documents and with times counted from `epoch`: the file
+-- is the one that the text says, and it is taken as the table that the text's first line names
+pub record IsFileOf (epoch : Option ℕ) (text file : List ℕ) : Type 0 where
+  pub forms : TextForms
+  pub counted : forms.epoch ≡ epoch
+  pub commands : map placed forms.commands.now ≡ dictionary
+  pub layouts : placed_layouts forms.layouts.now ≡ all_layouts
+  pub is_said : table_said forms text ≡ Ok file
+  pub is_taken : IsTakenAs (first_said (kept_of 1 text)) file
 
 -- ---- texts of files
 
@@ -78,6 +84,6 @@ pub record IsScenarioIn (text scenario : List ℕ) : Type 0 where
 
 -- what bytes are made into
 abbrev pub IsMadeAs : Making → Option ℕ → List ℕ → List ℕ → Type 0
-IsMadeAs makings.Table epoch bytes made = IsFileOf bytes made
+IsMadeAs makings.Table epoch bytes made = IsFileOf epoch bytes made
 IsMadeAs makings.Text epoch bytes made = IsTextOf epoch bytes made
 IsMadeAs makings.Scenario epoch bytes made = IsScenarioIn bytes made

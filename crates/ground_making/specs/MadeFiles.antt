@@ -27,7 +27,7 @@ asked_by wanted = record { making = wanted.making; epoch = wanted.epoch; file = 
 
 -- what the bytes of a file of this name are made into, among these files
 abbrev pub IsMadeAmong : Making → Option ℕ → List ℕ → List Stored → List ℕ → List ℕ → Type 0
-IsMadeAmong makings.Table epoch name files bytes made = IsFileIn name files bytes made
+IsMadeAmong makings.Table epoch name files bytes made = IsFileIn epoch name files bytes made
 IsMadeAmong makings.Text epoch name files bytes made = IsTextOf epoch bytes made
 IsMadeAmong makings.Scenario epoch name files bytes made = IsScenarioIn bytes made
 

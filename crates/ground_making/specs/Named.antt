@@ -31,9 +31,9 @@ pub record SaysLoadIn (name : List ℕ) (files : List Stored) (text load : List 
   pub says : SaysLoad named text load
 
 -- a text, of this name among these files, and its file: one to be loaded, or one of a table
-pub record IsFileIn (name : List ℕ) (files : List Stored) (text file : List ℕ) : Type 0 where
+pub record IsFileIn (epoch : Option ℕ) (name : List ℕ) (files : List Stored) (text file : List ℕ) : Type 0 where
   pub load : is_load_text text ≡ true → SaysLoadIn name files text file
-  pub table : is_load_text text ≡ false → IsFileOf text file
+  pub table : is_load_text text ≡ false → IsFileOf epoch text file
 
 -- ---- texts of which no file is made
 

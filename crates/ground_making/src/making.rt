@@ -152,7 +152,7 @@ pub const MOST_BYTES: usize = 4_294_967_294;
 /// The file of a table's text: it is taken as the table that the text's first line names.
 fn file_of(alloc: Global, epoch: Option<u32>, text: &[u8]) -> Result<Vec<u8>, Refusal>
     requires { 1 + length text.now < 2 ^ 32 }
-    ensures made { IfOk result (λ file. IsFileOf text.now file.items) }
+    ensures made { IfOk result (λ file. IsFileOf epoch text.now file.items) }
     ensures refused { IfErr result (λ refusal. refusal ≢ refusals.Memory
         → IsRefusedFor makings.Table epoch text.now refusal) }
 {
