@@ -1,3 +1,4 @@
+pub mod CauseLemmas
 mod BuiltLemmas
 mod ManifestLemmas
 mod PlacedLemmas

@@ -1,11 +1,13 @@
 //! The verb that writes the files of a book.
 
-ghost use Rattle.std.specs.Prelude.{◌≡◌, ◌<◌, ◌++◌, ◌∷◌, [], length, map, Some, option_map, OnOk, OnErr, IfOk, IfErr, string_bytes};
+ghost use Rattle.std.specs.Prelude.{◌≡◌, ◌≢◌, ◌⊎◌, ◌<◌, ◌++◌, ◌∷◌, [], true, length, map, Some, option_map, OnOk, OnErr, IfOk, IfErr, string_bytes};
 ghost use Rattle.std.specs.List.{AllByRecursion};
 ghost use Rattle.ground_files.specs.declared.verb_status.Status.TheVariants as statuses;
 ghost use Rattle.ground_files.specs.Workspaces.{Held, put_at};
+ghost use Rattle.ground_making.specs.declared.making.Refusal.TheVariants as refusals;
+ghost use Rattle.ground_making.specs.Causes.{IsCaused};
 ghost use Rattle.ground_books.specs.Built.{built_seen, IsBuiltOf};
-ghost use Rattle.ground_books.specs.Placed.{path_in, placed_in, written_as, IsDrafted, KeepsFilesOnly, put_all, PutsFirst, Puts, Builds};
+ghost use Rattle.ground_books.specs.Placed.{path_in, placed_in, written_as, IsDrafted, KeepsFilesOnly, put_all, PutsFirst, Puts, IsStreamAsked, IsOneOver, IsTextRefused, Builds};
 
 use crate::book_files::{BuiltFile, built_files};
 use ground_checks::warn_of_book;
@@ -200,9 +202,10 @@ fn keep_files<R: Eprint, W: Workspace>(
     workspace: &mut W,
     files: &mut [Written<W::Draft>],
 ) -> Status
-    ensures { (before : Held) → W.held workspace.old ≡ Some before
+    ensures puts { (before : Held) → W.held workspace.old ≡ Some before
         → AllByRecursion (IsDrafted W.Draft.contents) files.old
         → Puts (map written_as files.old) result before (W.held workspace.new) }
+    ensures status { (result ≡ statuses.Done) ⊎ (result ≡ statuses.WriteFailed) }
 {
     match keep_drafts(workspace, files) {
         Ok(()) => Status::Done,
@@ -216,8 +219,9 @@ fn write_files<R: Eprint, W: Workspace>(
     workspace: &mut W,
     files: &mut [Written<W::Draft>],
 ) -> Status
-    ensures { (before : Held) → W.held workspace.old ≡ Some before
+    ensures puts { (before : Held) → W.held workspace.old ≡ Some before
         → Puts (map written_as files.old) result before (W.held workspace.new) }
+    ensures status { (result ≡ statuses.Done) ⊎ (result ≡ statuses.WriteFailed) }
 {
     match write_drafts(workspace, files) {
         Ok(()) => keep_files(rt, workspace, files),
@@ -231,7 +235,10 @@ fn replaces_book<R: Eprint, W: Workspace>(
     workspace: &W,
     book: &str,
     files: &[Written<W::Draft>],
-) -> bool {
+) -> bool
+    ensures { result ≡ true → (now : Held) → W.held workspace.now ≡ Some now
+        → IsOneOver book.now now (map written_as files.now) }
+{
     for file in files {
         let path = file.path.as_str();
         if replaces(workspace, path, book) {
@@ -249,9 +256,13 @@ fn fill_folder<R: Eprint + AllocGlobal, W: Workspace>(
     build: &Build<'_>,
     files: Vec<BuiltFile>,
 ) -> Status
-    ensures { (before : Held) → W.held workspace.old ≡ Some before
+    ensures puts { (before : Held) → W.held workspace.old ≡ Some before
         → Puts (map (placed_in (option_map (λ f. f.now) build.now.folder))
         (map built_seen files.items)) result before (W.held workspace.new) }
+    ensures cause { (before : Held) → W.held workspace.old ≡ Some before
+        → IsCaused (IsOneOver build.now.book.now before
+        (map (placed_in (option_map (λ f. f.now) build.now.folder)) (map built_seen files.items)))
+        ⊥ result }
 {
     let folder = build.folder.unwrap_or(".");
     let mut files = match placed(rt.alloc(), build.folder, files) {
@@ -269,7 +280,9 @@ fn fill_folder<R: Eprint + AllocGlobal, W: Workspace>(
 
 /// The files of a book's text.
 fn built(alloc: Global, text: &[u8]) -> Result<Vec<BuiltFile>, Refusal>
-    ensures { IfOk result (λ files. IsBuiltOf text.now (map built_seen files.items)) }
+    ensures built { IfOk result (λ files. IsBuiltOf text.now (map built_seen files.items)) }
+    ensures refused { IfErr result (λ refusal. refusal ≢ refusals.Memory
+        → IsTextRefused text.now) }
 {
     if text.len() > MOST_BYTES {
         return Err(Refusal::Long);
@@ -288,9 +301,13 @@ fn write_book<R: Eprint + AllocGlobal, W: Workspace>(
     text: &[u8],
     files: Vec<BuiltFile>,
 ) -> Status
-    ensures { (before : Held) → W.held workspace.old ≡ Some before
+    ensures puts { (before : Held) → W.held workspace.old ≡ Some before
         → Puts (map (placed_in (option_map (λ f. f.now) build.now.folder))
         (map built_seen files.items)) result before (W.held workspace.new) }
+    ensures cause { (before : Held) → W.held workspace.old ≡ Some before
+        → IsCaused (IsOneOver build.now.book.now before
+        (map (placed_in (option_map (λ f. f.now) build.now.folder)) (map built_seen files.items)))
+        ⊥ result }
 {
     match warn_of_book(rt, input_name(build.book), text) {
         Status::Done => fill_folder(rt, workspace, build, files),
@@ -299,7 +316,10 @@ fn write_book<R: Eprint + AllocGlobal, W: Workspace>(
 }
 
 /// Whether a stream is asked for in the place of a folder.
-fn is_stream_asked(folder: Option<&str>) -> bool {
+fn is_stream_asked(folder: Option<&str>) -> bool
+    ensures { result ≡ true
+        → IsStreamAsked (option_map (λ f. f.now) folder.entry) }
+{
     match folder {
         Some(folder) => is_stream(folder),
         None => false,
