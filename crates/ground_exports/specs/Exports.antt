@@ -1,7 +1,7 @@
 -- What a log is made into, and what the verbs that do so leave.
 use Rattle.std.specs.Prelude.{◌≡◌, ℕ, Bool, true, false, List, [], Option, Some, None}
 use Rattle.ground_files.specs.Workspaces.{Held, input_bytes}
-use Rattle.ground_files.specs.Verbs.{MakesOutput, KeepsAllFiles}
+use Rattle.ground_files.specs.Verbs.{MakesOutput, KeepsAllFiles, IsOver}
 use Rattle.ground_files.specs.declared.verb_status.Status.{Status}
 use Rattle.ground_files.specs.declared.verb_status.Status.TheVariants as statuses
 use Rattle.ground_logs.specs.Making.{IsMadeOf}
@@ -34,13 +34,18 @@ abbrev pub MakesExport : Exported → Bool → Held → Option Held → Type 0
 MakesExport asked whole = MakesOutput asked.file.now asked.output.now
     (λ held read made. IsExportOf asked.export asked.epoch read whole (Some []) (Some made))
 
--- What a status says of what was held before and is now.
+-- The output that is asked for is the log itself: nothing is made, and nothing is another.
+pub record RefusesExport (asked : Exported) (before : Held) (after : Option Held) : Type 0 where
+  pub over : IsOver asked.output.now asked.file.now before
+  pub same : after ≡ Some before
+
+-- What a status says of what was held before and is now: ScenarioRefused and Unwanted never come.
 abbrev pub IsExported : Exported → Status → Held → Option Held → Type 0
 IsExported asked statuses.Done = MakesExport asked true
 IsExported asked statuses.FileRefused = MakesExport asked false
-IsExported asked statuses.WordsRefused = λ before after. after ≡ Some before
-IsExported asked statuses.ScenarioRefused = KeepsAllFiles
+IsExported asked statuses.WordsRefused = RefusesExport asked
+IsExported asked statuses.ScenarioRefused = λ before after. ⊥
 IsExported asked statuses.ReadFailed = KeepsAllFiles
 IsExported asked statuses.WriteFailed = KeepsAllFiles
 IsExported asked statuses.NoMemory = KeepsAllFiles
-IsExported asked statuses.Unwanted = KeepsAllFiles
+IsExported asked statuses.Unwanted = λ before after. ⊥

@@ -15,3 +15,6 @@ returns-in-Ok-false g c = λ before told.
     c.status_made-in-Ok-false.result before _ _ _ _ _ _ (λ now made. made) c.in-Ok-false.is c.in-Ok-false.field-0-test c.is_ok.ensures.value told
     c.in-Ok.ensures.held c.write_export-made.ensures.held c.in-Ok.ensures.empty c.write_export-made.ensures.made c.settle-settled.ensures.held
     c.settle-settled.ensures.dropped c.status_made-in-Ok-false.ensures
+
+pub returns-then-replaces : goal.returns-then-replaces
+returns-then-replaces g c = λ before is. record { over = c.replaces.ensures c.if-replaces.true before is; same = is }
