@@ -9,7 +9,7 @@ use Rattle.ground_differences.specs.declared.comparing.Compared.{Compared}
 use Rattle.ground_differences.specs.declared.comparing.LogPair.{LogPair}
 use Rattle.ground_differences.specs.Written.{IsWrittenOn}
 use Rattle.ground_differences.specs.Compared.{IsFoundOf}
-use Rattle.ground_differences.specs.Differences.{status_found, PutsOutput, HasTold, IsSaidOf, HasFound}
+use Rattle.ground_differences.specs.Differences.{status_found, logs_taken, PutsOutput, HasTold, IsSaidOf, IsCompared}
 use Rattle.ground_differences.proofs.WrittenLemmas.{written_known}
 
 -- an output that isn't kept leaves the files that there were
@@ -88,14 +88,18 @@ said_ends (Ok done) settled compared ending status one other text text_other is 
 said_ends (Err fault) settled compared ending status one other text text_other is is_found one_is other_is found ends =
     let wrong : ⊥ = cc in absurd wrong
 
--- what a status says of the bytes that were read is what it says of the logs
-pub found_by : (pair : LogPair) (status : Status) (before : Held) (one other : List ℕ) → input_bytes pair.one.now before ≡ Some one
-    → input_bytes pair.other.now (input_taken pair.one.now before) ≡ Some other → IsSaidOf status one other → HasFound pair status before
-found_by pair statuses.Done before one other is_one is_other said = record { one = one; other = other; is_one = is_one; is_other = is_other; said = said }
-found_by pair statuses.Unwanted before one other is_one is_other said = record { one = one; other = other; is_one = is_one; is_other = is_other; said = said }
-found_by pair statuses.FileRefused before one other is_one is_other said = record { one = one; other = other; is_one = is_one; is_other = is_other; said = said }
-found_by pair statuses.WordsRefused before one other is_one is_other said = tt
-found_by pair statuses.ScenarioRefused before one other is_one is_other said = tt
-found_by pair statuses.ReadFailed before one other is_one is_other said = tt
-found_by pair statuses.WriteFailed before one other is_one is_other said = tt
-found_by pair statuses.NoMemory before one other is_one is_other said = tt
+-- what was told, and what is said of the bytes that were read, is what is said of the logs
+pub compared_by : (pair : LogPair) (status : Status) (before : Held) (after : Option Held) (one other : List ℕ)
+    → input_bytes pair.one.now before ≡ Some one → input_bytes pair.other.now (input_taken pair.one.now before) ≡ Some other
+    → HasTold pair.output.now status (logs_taken pair before) after → IsSaidOf status one other → IsCompared pair status before after
+compared_by pair statuses.Done before after one other is_one is_other told said =
+    record { found = record { one = one; other = other; is_one = is_one; is_other = is_other; said = said }; told = told }
+compared_by pair statuses.Unwanted before after one other is_one is_other told said =
+    record { found = record { one = one; other = other; is_one = is_one; is_other = is_other; said = said }; told = told }
+compared_by pair statuses.FileRefused before after one other is_one is_other told said =
+    record { found = record { one = one; other = other; is_one = is_one; is_other = is_other; said = said }; told = told }
+compared_by pair statuses.WordsRefused before after one other is_one is_other told said = absurd told
+compared_by pair statuses.ScenarioRefused before after one other is_one is_other told said = told
+compared_by pair statuses.ReadFailed before after one other is_one is_other told said = told
+compared_by pair statuses.WriteFailed before after one other is_one is_other told said = told
+compared_by pair statuses.NoMemory before after one other is_one is_other told said = told

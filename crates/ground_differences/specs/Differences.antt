@@ -1,7 +1,7 @@
 -- What a comparison of two logs leaves.
-use Rattle.std.specs.Prelude.{◌≡◌, ℕ, Bool, true, false, ◌&&◌, List, Option, Some, None}
-use Rattle.ground_files.specs.Workspaces.{Held, input_bytes, input_taken, put_at}
-use Rattle.ground_files.specs.Verbs.{KeepsAllFiles}
+use Rattle.std.specs.Prelude.{◌≡◌, ℕ, Bool, true, false, ◌&&◌, List, Option, Some, None, ◌⊎◌}
+use Rattle.ground_files.specs.Workspaces.{Held, is_dash, input_bytes, input_taken, put_at}
+use Rattle.ground_files.specs.Verbs.{KeepsAllFiles, IsOver}
 use Rattle.ground_files.specs.declared.verb_status.Status.{Status}
 use Rattle.ground_files.specs.declared.verb_status.Status.TheVariants as statuses
 use Rattle.ground_logs.specs.Making.{lines_of, is_log}
@@ -24,8 +24,8 @@ abbrev pub HasTold : List ℕ → Status → Held → Option Held → Type 0
 HasTold output statuses.Done = PutsOutput output
 HasTold output statuses.Unwanted = PutsOutput output
 HasTold output statuses.FileRefused = PutsOutput output
-HasTold output statuses.WordsRefused = KeepsAllFiles
-HasTold output statuses.ScenarioRefused = KeepsAllFiles
+HasTold output statuses.WordsRefused = λ before after. ⊥
+HasTold output statuses.ScenarioRefused = λ before after. ⊥
 HasTold output statuses.ReadFailed = KeepsAllFiles
 HasTold output statuses.WriteFailed = KeepsAllFiles
 HasTold output statuses.NoMemory = KeepsAllFiles
@@ -55,8 +55,8 @@ abbrev pub IsSaidOf : Status → List ℕ → List ℕ → Type 0
 IsSaidOf statuses.Done = AreSameLogs
 IsSaidOf statuses.Unwanted = AreOtherLogs
 IsSaidOf statuses.FileRefused = AreNotLogs
-IsSaidOf statuses.WordsRefused = λ one other. Unit {0}
-IsSaidOf statuses.ScenarioRefused = λ one other. Unit {0}
+IsSaidOf statuses.WordsRefused = λ one other. ⊥
+IsSaidOf statuses.ScenarioRefused = λ one other. ⊥
 IsSaidOf statuses.ReadFailed = λ one other. Unit {0}
 IsSaidOf statuses.WriteFailed = λ one other. Unit {0}
 IsSaidOf statuses.NoMemory = λ one other. Unit {0}
@@ -69,18 +69,36 @@ pub record OfLogs (pair : LogPair) (says : List ℕ → List ℕ → Type 0) (be
   pub is_other : input_bytes pair.other.now (input_taken pair.one.now before) ≡ Some other
   pub said : says one other
 
--- What a status says of the logs that were held before.
-abbrev pub HasFound : LogPair → Status → Held → Type 0
-HasFound pair statuses.Done = OfLogs pair AreSameLogs
-HasFound pair statuses.Unwanted = OfLogs pair AreOtherLogs
-HasFound pair statuses.FileRefused = OfLogs pair AreNotLogs
-HasFound pair statuses.WordsRefused = λ before. Unit {0}
-HasFound pair statuses.ScenarioRefused = λ before. Unit {0}
-HasFound pair statuses.ReadFailed = λ before. Unit {0}
-HasFound pair statuses.WriteFailed = λ before. Unit {0}
-HasFound pair statuses.NoMemory = λ before. Unit {0}
+-- Two logs were compared: this is so of them, and their differences were put into the output.
+pub record Compares (pair : LogPair) (says : List ℕ → List ℕ → Type 0) (before : Held) (after : Option Held) : Type 0 where
+  pub found : OfLogs pair says before
+  pub told : PutsOutput pair.output.now (logs_taken pair before) after
 
--- What a status says of what was held before and is now.
-pub record IsCompared (pair : LogPair) (status : Status) (before : Held) (after : Option Held) : Type 0 where
-  pub told : HasTold pair.output.now status (logs_taken pair before) after
-  pub found : HasFound pair status before
+-- Both logs are standard input.
+pub record AreOneStream (pair : LogPair) : Type 0 where
+  pub one : is_dash pair.one.now ≡ true
+  pub other : is_dash pair.other.now ≡ true
+
+-- The output is one of the logs.
+abbrev pub IsOverLog : LogPair → Held → Type 0
+IsOverLog pair held = IsOver pair.output.now pair.one.now held ⊎ IsOver pair.output.now pair.other.now held
+
+-- Two logs can't be compared: they are one stream, or the output is one of them.
+abbrev pub AreUnfit : LogPair → Held → Type 0
+AreUnfit pair held = AreOneStream pair ⊎ IsOverLog pair held
+
+-- Two logs weren't compared, since they can't be: nothing is another.
+pub record RefusesPair (pair : LogPair) (before : Held) (after : Option Held) : Type 0 where
+  pub unfit : AreUnfit pair before
+  pub same : after ≡ Some before
+
+-- What a status says of what was held before and is now: ScenarioRefused never comes.
+abbrev pub IsCompared : LogPair → Status → Held → Option Held → Type 0
+IsCompared pair statuses.Done = Compares pair AreSameLogs
+IsCompared pair statuses.Unwanted = Compares pair AreOtherLogs
+IsCompared pair statuses.FileRefused = Compares pair AreNotLogs
+IsCompared pair statuses.WordsRefused = RefusesPair pair
+IsCompared pair statuses.ScenarioRefused = λ before after. ⊥
+IsCompared pair statuses.ReadFailed = KeepsAllFiles
+IsCompared pair statuses.WriteFailed = KeepsAllFiles
+IsCompared pair statuses.NoMemory = KeepsAllFiles

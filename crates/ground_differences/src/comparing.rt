@@ -1,12 +1,12 @@
 //! Two logs that are compared.
 
-ghost use Rattle.std.specs.Prelude.{◌≡◌, ℕ, List, Some, IfOk, OnOk, option_map};
+ghost use Rattle.std.specs.Prelude.{◌≡◌, ℕ, true, List, Some, IfOk, OnOk, option_map};
 ghost use Rattle.ground_files.specs.Workspaces.{Held, input_taken, input_bytes};
 ghost use Rattle.ground_files.specs.Inputs.{source_remaining};
 ghost use Rattle.ground_differences.specs.Written.{IsWrittenOn};
 ghost use Rattle.ground_differences.specs.Frames.{next_frame};
 ghost use Rattle.ground_differences.specs.Compared.{ComparesOn, ComparesAll, IsFoundOf};
-ghost use Rattle.ground_differences.specs.Differences.{IsCompared, HasTold, IsSaidOf, status_found};
+ghost use Rattle.ground_differences.specs.Differences.{IsCompared, AreUnfit, HasTold, IsSaidOf, status_found};
 
 use crate::frame_source::FrameSource;
 use crate::frame_teller::{Found, Teller};
@@ -231,7 +231,10 @@ fn open_given<'a, R: AllocGlobal + Eprint, W: Workspace>(
 }
 
 /// Why two logs aren't compared: the words name an input twice, or one that is written.
-fn refuse<R: Eprint, W: Workspace>(rt: &R, workspace: &W, pair: &LogPair<'_>) -> bool {
+fn refuse<R: Eprint, W: Workspace>(rt: &R, workspace: &W, pair: &LogPair<'_>) -> bool
+    ensures { result ≡ true → (now : Held) → W.held workspace.now ≡ Some now
+        → AreUnfit pair.now now }
+{
     if is_stream(pair.one) && is_stream(pair.other) {
         let _told = eprintln!(rt; "standard input can be one log alone");
         return true;
