@@ -4,6 +4,7 @@ ghost use Rattle.std.specs.Prelude.{◌≡◌, ℕ, Bool, List, Some, IfOk};
 ghost use Rattle.log_lines.specs.declared.line.LogLine.{LogLine};
 
 use crate::log_source::{LogSource, Next};
+use crate::strange_lines::StrangeLines;
 use crate::telling::Telling;
 use ground_files::Fault;
 use log_lines::LogLine;
@@ -14,6 +15,7 @@ use std::io::{self, ErrorKind, Read};
 pub struct GoodLines<'a, L: Read + Drop, E: Eprint> {
     telling: &'a Telling<'a, E>,
     source: LogSource<L>,
+    strange: StrangeLines,
     is_whole: bool,
 }
 
@@ -29,6 +31,7 @@ impl<'a, L: Read + Drop, E: Eprint> GoodLines<'a, L, E> {
         GoodLines {
             telling,
             source: LogSource::new(log),
+            strange: StrangeLines::new(),
             is_whole: true,
         }
     }
@@ -55,9 +58,13 @@ impl<'a, L: Read + Drop, E: Eprint> GoodLines<'a, L, E> {
                 Next::Line(line) => return Ok(Some(line)),
                 Next::Fault(fault) => {
                     self.is_whole = false;
-                    self.telling.tell_fault(fault)?;
+                    let (piece, end) = self.source.piece();
+                    self.strange.tell(self.telling, fault, piece, end)?;
                 }
-                Next::End => return Ok(None),
+                Next::End => {
+                    self.strange.tell_rest(self.telling)?;
+                    return Ok(None);
+                }
             }
         }
         Err(Fault::Read(io::Error::from(ErrorKind::FileTooLarge)))

@@ -5,7 +5,9 @@ mod good_lines;
 mod line_maker;
 mod log_maker;
 mod log_source;
+mod other_files;
 mod sentences;
+mod strange_lines;
 mod telling;
 
 pub use good_lines::GoodLines;

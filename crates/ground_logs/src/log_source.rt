@@ -82,6 +82,11 @@ impl<L: Read + Drop> LogSource<L> {
         Err(io::Error::from(ErrorKind::FileTooLarge))
     }
 
+    /// The piece that was read last, and where in it that ends which `next` took.
+    pub(crate) fn piece(&self) -> (&[u8], usize) {
+        (&self.piece, self.at)
+    }
+
     /// Takes what is left of the piece, or else of the next one, as far as the end of a line.
     fn advance(&mut self) -> io::Result<Taken>
         ensures { IfOk result (λ taken. (said : List Said) → IsToSay L.remaining self.old said

@@ -8,8 +8,8 @@ ghost use Rattle.ground_logs.specs.Told.{IsSentence};
 use crate::line_maker::LineMaker;
 use crate::log_maker::LogMaker;
 use crate::sentences::Sentences;
+use crate::strange_lines::StrangeLines;
 use ground_files::Fault;
-use log_lines::{LineFault, LogFault};
 use packet_forms::{behind, front};
 use std::alloc::Global;
 use std::io::{self, Read, Write};
@@ -50,37 +50,7 @@ pub fn write_made<W: Write>(bytes: &[u8], out: &mut W) -> Result<(), Fault>
     }
 }
 
-/// What else may be so of a line that is none of a log's.
-fn hint_of(fault: LogFault) -> &'static str {
-    match fault.fault {
-        LineFault::Digits | LineFault::Name => ", or the line ends with a carriage return",
-        LineFault::Long
-        | LineFault::Frame
-        | LineFault::Word
-        | LineFault::Missing
-        | LineFault::Extra
-        | LineFault::Pipe
-        | LineFault::Cause
-        | LineFault::Packet(_)
-        | LineFault::Cut => "",
-    }
-}
-
 impl<'a, E: Eprint> Telling<'a, E> {
-    /// Tells to standard error that a line is none of a log's.
-    pub fn tell_fault(&self, fault: LogFault) -> Result<(), Fault> {
-        let hint = hint_of(fault);
-        eprintln!(self.rt; "{}, {fault}{hint}", self.name).map_err(Fault::Write)
-    }
-
-    /// Tells a line that is none of a log's, where there is one.
-    fn tell_any(&self, fault: Option<LogFault>) -> Result<(), Fault> {
-        match fault {
-            Some(fault) => self.tell_fault(fault),
-            None => Ok(()),
-        }
-    }
-
     /// Writes what is made of the lines that end in a piece, as far as the first one that is none of a log's, which it tells. Says how
     /// much of the piece this is.
     fn make_part<M: LineMaker + Drop, W: Write>(
@@ -88,6 +58,7 @@ impl<'a, E: Eprint> Telling<'a, E> {
         lines: &mut LogMaker<M>,
         piece: &[u8],
         out: &mut W,
+        strange: &mut StrangeLines,
     ) -> Result<usize, Fault>
         requires { 0 < length piece.now }
         ensures made { IfOk result (λ taken. Writes M.makes lines.old lines.new
@@ -98,7 +69,9 @@ impl<'a, E: Eprint> Telling<'a, E> {
         let mut made: Vec<u8> = Vec::new(self.alloc);
         let told = lines.take(piece, &mut made)?;
         write_made(made.as_slice(), out)?;
-        self.tell_any(told.fault)?;
+        if let Some(fault) = told.fault {
+            strange.tell(self, fault, piece, told.taken)?;
+        }
         Ok(told.taken)
     }
 
@@ -108,34 +81,46 @@ impl<'a, E: Eprint> Telling<'a, E> {
         lines: &mut LogMaker<M>,
         piece: &[u8],
         out: &mut W,
+        strange: &mut StrangeLines,
     ) -> Result<(), Fault>
         ensures { OnOk result (Writes M.makes lines.old lines.new piece.now
             (W.contents out.old) (W.contents out.new)) }
     {
         let mut taken = 0;
         'parts: while taken < piece.len() {
-            let part = self.make_part(lines, behind(piece, taken), out)?;
+            let part = self.make_part(lines, behind(piece, taken), out, strange)?;
             taken += part;
         }
         Ok(())
     }
 
-    /// Tells a last line that is cut off. Says whether all lines are a log's.
-    fn end<M: LineMaker + Drop>(&self, lines: &LogMaker<M>) -> Result<bool, Fault>
+    /// Tells a last line that is cut off, and how many lines are none of a log's that weren't told. Says whether all lines are a log's.
+    /// `piece` was read last.
+    fn end<M: LineMaker + Drop>(
+        &self,
+        lines: &LogMaker<M>,
+        piece: &[u8],
+        strange: &mut StrangeLines,
+    ) -> Result<bool, Fault>
         ensures { IfOk result (λ whole. (text bytes : List ℕ) → Stands M.makes lines.now text bytes
             → whole ≡ is_log text) }
     {
         match lines.finish() {
             Some(fault) => {
-                self.tell_fault(fault)?;
+                strange.tell(self, fault, piece, 0)?;
+                strange.tell_rest(self)?;
                 Ok(false)
             }
-            None => Ok(lines.is_whole()),
+            None => {
+                strange.tell_rest(self)?;
+                Ok(lines.is_whole())
+            }
         }
     }
 
-    /// Writes what `maker` makes of a log's lines, in the order in which they stand. Says whether all of them are a log's: one that is
-    /// none is told to standard error, by its number and why it is none, and of the others something is made all the same.
+    /// Writes what `maker` makes of a log's lines, in the order in which they stand. Says whether all of them are a log's: those that are
+    /// none are told to standard error, the first few by their numbers and why they are none, and of the others something is made all the
+    /// same.
     pub fn make<M: LineMaker + Drop, R: Read, W: Write>(
         &self,
         maker: M,
@@ -146,13 +131,14 @@ impl<'a, E: Eprint> Telling<'a, E> {
             → IsMadeOf (M.makes maker) text whole (W.contents out.old) (W.contents out.new)) }
     {
         let mut lines = LogMaker::new(maker);
+        let mut strange = StrangeLines::new();
         let mut piece = [0u8; PIECE];
         'pieces: for _turn in 0..u64::MAX {
             let count = read_piece(log, &mut piece)?;
             if count == 0 {
-                return self.end(&lines);
+                return self.end(&lines, &piece, &mut strange);
             }
-            self.make_piece(&mut lines, front(&piece, count), out)?;
+            self.make_piece(&mut lines, front(&piece, count), out, &mut strange)?;
         }
         Err(Fault::Read(io::Error::from(io::ErrorKind::FileTooLarge)))
     }
