@@ -1,5 +1,6 @@
 //! Why the headers of a file are refused, in words.
 
+use crate::line_ends::has_order_mark;
 use packet_forms::{be32, behind, crc16, front};
 use row_forms::split_word;
 use std::io;
@@ -23,10 +24,13 @@ const NAME: usize = 76;
 
 const NAME_BYTES: usize = 40;
 
-/// What a text is that was given in the place of a file; none where it isn't one.
+/// What a text is that was given in the place of a file; none where that isn't known.
 fn text_hint(file: &[u8]) -> Option<&'static str> {
     if file.len() > MOST_BYTES {
         return None;
+    }
+    if has_order_mark(file) {
+        return Some("it begins with a byte order mark: save it without");
     }
     let Some(line) = next_line(file, 1) else {
         return None;
