@@ -1,5 +1,5 @@
 -- What is done of what is asked for, and what that leaves.
-use Rattle.std.specs.Prelude.{◌≡◌, ◌≢◌, ℕ, List, Option, Some, IfSome, ◌⊎◌}
+use Rattle.std.specs.Prelude.{◌≡◌, ℕ, List, Option, Some, IfSome, ◌⊎◌}
 use Rattle.std.specs.Borrow.{Bor}
 use Rattle.rehearsal.specs.Promise.{ShelfUse}
 use Rattle.ground_files.specs.declared.verb_status.Status.{Status}
@@ -20,10 +20,21 @@ use Rattle.ground_verbs.specs.declared.asked.Page.{Page}
 use Rattle.ground_verbs.specs.declared.asked.Asked.{Asked}
 use Rattle.ground_verbs.specs.declared.asked.Asked.TheVariants as asks
 
--- A page was put in its place, or no file is another.
-pub record WritesPage (page : Page) (status : Status) (before : Held) (after : Option Held) : Type 0 where
-  pub done : status ≡ statuses.Done → (text : List ℕ) × (after ≡ Some (put_at page.output.now text before))
-  pub undone : status ≢ statuses.Done → KeepsAllFiles before after
+-- A page was put in its place.
+pub record PutsPage (page : Page) (before : Held) (after : Option Held) : Type 0 where
+  pub text : List ℕ
+  pub is_put : after ≡ Some (put_at page.output.now text before)
+
+-- What a status says of a page that was asked for: it is in its place, it couldn't be written, or memory ran out; no other status comes.
+abbrev pub WritesPage : Page → Status → Held → Option Held → Type 0
+WritesPage page statuses.Done = PutsPage page
+WritesPage page statuses.WordsRefused = λ before after. ⊥
+WritesPage page statuses.FileRefused = λ before after. ⊥
+WritesPage page statuses.ScenarioRefused = λ before after. ⊥
+WritesPage page statuses.ReadFailed = λ before after. ⊥
+WritesPage page statuses.WriteFailed = KeepsAllFiles
+WritesPage page statuses.NoMemory = KeepsAllFiles
+WritesPage page statuses.Unwanted = λ before after. ⊥
 
 -- What a rehearsal of a scenario, whose shelf is seen so, leaves of the log that it keeps.
 abbrev pub LeavesScenarioLog : {S : Type 0} → (S → ShelfUse S) → Run → List ℕ → Status → Held → Option Held → Type 0

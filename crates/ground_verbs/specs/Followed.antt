@@ -25,11 +25,15 @@ error_status kinds.DisplayVersion = statuses.Done
 error_status kinds.OutOfMemory = statuses.NoMemory
 error_status other = statuses.WordsRefused
 
+-- The status of an error of the words: that of its kind, or, where help or the version couldn't be printed that was asked for, that of a failed write.
+abbrev pub IsErrorStatus : ErrorKind → Status → Type 0
+IsErrorStatus kind status = (status ≡ error_status kind) ⊎ ((error_status kind ≡ statuses.Done) × (status ≡ statuses.WriteFailed))
+
 -- An error of the words came, one of these kinds, or memory ran out: nothing is another.
 pub record RefusesWords (faults : Kinds) (status : Status) (before : Held) (after : Option Held) : Type 0 where
   pub kind : ErrorKind
   pub is_fault : (kind ≡ kinds.OutOfMemory) ⊎ IsAmong kind faults
-  pub is_status : status ≡ error_status kind
+  pub is_status : IsErrorStatus kind status
   pub same : after ≡ Some before
 
 -- No verb is named.

@@ -8,7 +8,7 @@ ghost use Rattle.verb_words.specs.Verbs.{verb_named};
 ghost use Rattle.ground_files.specs.Workspaces.{Held};
 ghost use Rattle.ground_verbs.specs.Said.{rows_in};
 ghost use Rattle.ground_verbs.specs.Done.{IsRehearsed, IsDone};
-ghost use Rattle.ground_verbs.specs.Followed.{error_status, DoesNamed, DoesAny, FollowsWords};
+ghost use Rattle.ground_verbs.specs.Followed.{error_status, IsErrorStatus, DoesNamed, DoesAny, FollowsWords};
 
 use crate::asked::{Asked, read_verb};
 use crate::describing::describe;
@@ -20,7 +20,7 @@ use ground_books::build_book;
 use ground_checks::{check_files, warn_of_order};
 use ground_differences::compare_logs;
 use ground_exports::export_log;
-use ground_files::{Status, tell_no_memory};
+use ground_files::{Status, output_name, tell_no_memory, tell_unwritten};
 use ground_making::{make_one, show_files};
 use ground_runs::{DraftTeller, Run, run_scenario};
 use std::thread::Threads;
@@ -120,11 +120,13 @@ where
 
 /// Tells help, or why words are refused, and answers the status.
 fn tell_words<R: Print + Eprint>(rt: &R, error: &Error) -> Status
-    ensures { result ≡ error_status (kind_of error.now) }
+    ensures { IsErrorStatus (kind_of error.now) result }
 {
-    // There is no other place to tell it.
-    let _told = error.print(rt);
-    status_of_words(error)
+    match (status_of_words(error), error.print(rt)) {
+        (Status::Done, Err(unwritten)) => tell_unwritten(rt, output_name("-"), &unwritten),
+        // Of words that are refused there is no other place to tell it.
+        (status, _) => status,
+    }
 }
 
 /// Does what the words ask for, of which the first is the program's name: reads and writes by the names in them in `workspace`, and takes

@@ -9,7 +9,7 @@ use Rattle.ground_verbs.proofs.FoundLemmas.{found_as_said, no_fault, some_fault}
 use Rattle.ground_verbs.proofs.verbs.groundkit.Goals as goal
 
 pub returns-in_default : goal.returns-in_default
-returns-in_default g c = λ before is. (None, inl (record { kind = kinds.OutOfMemory; is_fault = inl refl; is_status = c.tell_no_memory.ensures; same = is }))
+returns-in_default g c = λ before is. (None, inl (record { kind = kinds.OutOfMemory; is_fault = inl refl; is_status = inl c.tell_no_memory.ensures; same = is }))
 
 pub returns-in-Ok-try_get_matches_from : goal.returns-in-Ok-try_get_matches_from
 returns-in-Ok-try_get_matches_from g c = λ before is.
