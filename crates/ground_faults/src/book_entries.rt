@@ -215,7 +215,7 @@ fn tell_first<R: Eprint + AllocGlobal>(
     tell_part_entry(rt, name, line, None, &[], refused)
 }
 
-/// The status of a book that is refused, once that was told.
+/// The status of a book that is refused, once that was told: that of a refused file, unless memory ran out.
 fn status_told<R: Eprint>(rt: &R, told: Result<(), AllocError>) -> Status
     ensures { (result ≡ statuses.FileRefused) ⊎ (result ≡ statuses.NoMemory) }
 {
