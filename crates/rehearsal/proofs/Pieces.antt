@@ -131,13 +131,30 @@ read_filled text closed pending start before after same parts ended read = recor
   ended = ended;
 }
 
--- some of what is pending was fed
-pub fed_on : (old new : Reader) (f g : Fed) (text : Text) (gave : List Given) (taken : ℕ) → Holds old f text gave → text.closed ≡ false → taken ≤ length f.pending
-    → Stands new (fed text (take taken f.pending)) gave → g ≡ record f { pending = drop taken f.pending } → Holds new g (fed text (take taken f.pending)) gave
-fed_on old new f g text gave taken h is_open within stands is = rw is (record {
+-- some of what is pending was fed, and these items are given then
+pub fed_on : (old new : Reader) (f g : Fed) (text : Text) (gave more : List Given) (taken : ℕ) → Holds old f text gave → text.closed ≡ false → taken ≤ length f.pending
+    → Stands new (fed text (take taken f.pending)) more → g ≡ record f { pending = drop taken f.pending } → Holds new g (fed text (take taken f.pending)) more
+fed_on old new f g text gave more taken h is_open within stands is = rw is (record {
   stands = stands;
   closed = h.closed;
   nothing = λ ended. cc;
   total = rw (length-append text.bytes (take taken f.pending), length-take-le taken f.pending within, length-drop taken f.pending) (omega (arith, h.total));
   few = rw (length-drop taken f.pending) (omega (arith, h.few));
 })
+
+-- a text of which bytes are pending isn't closed
+pub open_with : (reader : Reader) (f : Fed) (text : Text) (gave : List Given) → Holds reader f text gave → 0 < length f.pending → text.closed ≡ false
+open_with reader f text gave h some = by_ended f.ended refl where
+  by_ended : (b : Bool) → f.ended ≡ b → text.closed ≡ false
+  by_ended false e = h.closed ∙ e
+  by_ended true e = absurd (let none = ap length (h.nothing e) in omega (arith, some, none))
+
+-- no more work is left once a line of the pending bytes was taken
+pub less_taken : (old new : Reader) (f g : Fed) (taken : ℕ) → taken ≤ length f.pending → g ≡ record f { pending = drop taken f.pending } → left new ≡ left old → work_left new g ≤ work_left old f
+unfolding work_left
+less_taken old new f g taken within is same = rw (is, same, length-drop taken f.pending) (omega arith)
+
+-- no more work is left where nothing was taken
+pub less_kept : (old new : Reader) (f g : Fed) → g ≡ f → left new ≡ left old → work_left new g ≤ work_left old f
+unfolding work_left
+less_kept old new f g is same = rw (is, same) (omega arith)

@@ -136,10 +136,49 @@ impl Feed {
         let taken = reader.feed(self.pending());
         self.advance(taken);
     }
+
+    /// Feeds the line `tick` that is pending, where one is and can be taken, and answers whether: its frame is the reader's next item.
+    #[inline(always)]
+    fn give_tick(&mut self, reader: &mut Reader) -> bool
+        ensures taken { result ≡ true → (text : Text) (gave : List Given)
+            → Holds reader.old self.old text gave
+            → (now : Text) × Gives Next.Frame reader.new self.new now gave
+            × IsFedOn text self.old.pending now self.new.pending }
+        ensures kept { result ≡ false → (text : Text) (gave : List Given)
+            → Holds reader.old self.old text gave → Holds reader.new self.new text gave }
+        ensures same { result ≡ false → self.new ≡ self.old }
+        ensures shows { result ≡ true → Shows reader.new }
+        ensures less { work_left reader.new self.new ≤ work_left reader.old self.old }
+    {
+        if !reader.take_tick(self.pending()) {
+            return false;
+        }
+        self.advance(5);
+        true
+    }
 }
 
-/// The next item of the text, as far as the pending bytes say it.
+/// The next item of the text, as far as the pending bytes say it. A line that only says `tick` is taken where it lies.
+#[inline(always)]
 pub fn next_item(reader: &mut Reader, feed: &mut Feed) -> Next
+    requires holds { (text : Text) × (gave : List Given) × Holds reader.old feed.old text gave }
+    ensures gives { (text : Text) (gave : List Given) → Holds reader.old feed.old text gave
+        → (now : Text) × Gives result reader.new feed.new now gave
+        × IsFedOn text feed.old.pending now feed.new.pending }
+    ensures shows { result ≡ Next.Frame → Shows reader.new }
+    ensures dry { result ≡ Next.Dry → (feed.new.pending ≡ []) × (feed.new.ended ≡ false)
+        × (feed.new.total ≤ 16777856) }
+    ensures less { work_left reader.new feed.new ≤ work_left reader.old feed.old }
+{
+    if feed.give_tick(reader) {
+        return Next::Frame;
+    }
+    next_by_lines(reader, feed)
+}
+
+/// The next item of the text, as far as the pending bytes say it, by the lines that they are fed to.
+#[inline(never)]
+fn next_by_lines(reader: &mut Reader, feed: &mut Feed) -> Next
     requires holds { (text : Text) × (gave : List Given) × Holds reader.old feed.old text gave }
     ensures gives { (text : Text) (gave : List Given) → Holds reader.old feed.old text gave
         → (now : Text) × Gives result reader.new feed.new now gave

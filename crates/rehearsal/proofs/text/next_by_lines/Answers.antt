@@ -2,7 +2,7 @@ use Rattle.std.proofs.Common.{take, sym, ◌∙◌, refl, arith}
 use Rattle.scenario.specs.Standing.{fed}
 use Rattle.rehearsal.proofs.TextFacts.{ended_is}
 use Rattle.rehearsal.proofs.Pieces.{held, few_read, fed_on_again, fed_none, none_left, less_after, left_after}
-use Rattle.rehearsal.proofs.text.next_item.Goals as goal
+use Rattle.rehearsal.proofs.text.next_by_lines.Goals as goal
 
 pub items-init : goal.items-init
 items-init c = record { fed = λ text gave h. (text, h, fed_none text c.args.feed.now.pending); less = omega arith }

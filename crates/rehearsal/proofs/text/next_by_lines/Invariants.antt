@@ -1,7 +1,7 @@
 use Rattle.std.proofs.Common.{◌≤◌, List}
 use Rattle.scenario.specs.Texts.{Text, Given}
 use Rattle.rehearsal.specs.Text.{IsFedOn, Holds, work_left}
-use Rattle.rehearsal.proofs.text.next_item.Given as goal
+use Rattle.rehearsal.proofs.text.next_by_lines.Given as goal
 
 -- some of what was pending was fed
 abbrev pub invariant-items : goal.invariant-items

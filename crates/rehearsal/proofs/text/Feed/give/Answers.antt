@@ -14,6 +14,6 @@ pub returns-clause-holds : goal.returns-clause-holds
 returns-clause-holds c = λ text gave h is_open.
     let stands = subst (λ (piece : List ℕ). Stands c.feed-taken.new.self (fed text (take c.feed-taken.result piece)) gave) c.pending.ensures (c.feed-taken.ensures.stands text gave h.stands) in (
       c.feed-taken.result,
-      fed_on c.args.reader.now c.feed-taken.new.self c.args.self.now c.advance.new.self text gave c.feed-taken.result h is_open (rw (← c.pending.ensures) c.feed-taken.ensures.taken) stands c.advance.ensures,
+      fed_on c.args.reader.now c.feed-taken.new.self c.args.self.now c.advance.new.self text gave gave c.feed-taken.result h is_open (rw (← c.pending.ensures) c.feed-taken.ensures.taken) stands c.advance.ensures,
       ap (λ (f : Fed). f.pending) c.advance.ensures,
     )
