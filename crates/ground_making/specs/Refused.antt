@@ -1,5 +1,5 @@
 -- Why nothing is made of the bytes of a file.
-use Rattle.std.specs.Prelude.{◌≡◌, ◌≢◌, ◌≤◌, ℕ, true, false, length, List, map, Option, Some, Ok, Err}
+use Rattle.std.specs.Prelude.{◌≡◌, ◌≢◌, ◌≤◌, ◌⊎◌, ℕ, true, false, length, List, map, Option, Some, Ok, Err}
 use Rattle.telecommands.specs.declared.command.Command.{Command}
 use Rattle.telecommands.specs.Dictionary.{dictionary, placed}
 use Rattle.row_forms.specs.declared.field.Field.{Field}
@@ -9,6 +9,7 @@ use Rattle.table_forms.specs.declared.fault.TableFault.TheVariants as table_faul
 use Rattle.table_forms.specs.declared.fault.ReadError.{ReadError}
 use Rattle.table_forms.specs.declared.fault.ReadError.TheVariants as table_errors
 use Rattle.table_forms.specs.declared.forms.TextForms.{TextForms}
+use Rattle.table_forms.specs.Judging.{refusal_of}
 use Rattle.table_forms.specs.Layouts.{placed as placed_layouts, all_layouts}
 use Rattle.table_forms.specs.Reading.{table_said}
 use Rattle.load_texts.specs.declared.fault.LoadFault.{LoadFault}
@@ -139,3 +140,7 @@ IsLoadRefusedFor named text refusal = (fault : LoadFault) × (refusal ≡ refusa
 -- nothing is made of bytes
 abbrev pub IsRefusedAs : Making → Option ℕ → List ℕ → Type 0
 IsRefusedAs making epoch bytes = (refusal : Refusal) × IsRefusedFor making epoch bytes refusal
+
+-- a file that isn't taken, and why: it is too long, or it is refused by the readers of files and entries
+abbrev pub IsUntaken : List ℕ → Refusal → Type 0
+IsUntaken file refusal = ((refusal ≡ refusals.Long) × IsLong file) ⊎ ((fault : TableFault) × (refusal ≡ table_refusal fault) × (refusal_of file ≡ Some fault))

@@ -24,7 +24,8 @@ impl From<BookError> for Refusal {
 
 /// Whether bytes are the text of a book, and no more than one has.
 pub fn is_book(bytes: &[u8]) -> bool
-    ensures { result ≡ true → is_book_text bytes.now ≡ true }
+    ensures short { result ≡ true → 1 + length bytes.now < 2 ^ 32 }
+    ensures exact { 1 + length bytes.now < 2 ^ 32 → result ≡ is_book_text bytes.now }
 {
     bytes.len() <= MOST_BYTES && is_book_text(bytes)
 }

@@ -12,7 +12,7 @@ ghost use Rattle.shown_plans.specs.Shown.{is_scenario_text};
 ghost use Rattle.ground_making.specs.declared.making.Making.TheVariants as makings;
 ghost use Rattle.ground_making.specs.declared.making.Refusal.TheVariants as refusals;
 ghost use Rattle.ground_making.specs.Made.{IsFileOf, IsTableText, IsLoadText, IsTextOf, IsScenarioOfPlan, IsScenarioIn, IsMadeAs};
-ghost use Rattle.ground_making.specs.Refused.{table_refusal, table_error_refusal, load_error_refusal, plan_error_refusal, IsRefusedFor, IsLoadRefusedFor};
+ghost use Rattle.ground_making.specs.Refused.{table_refusal, table_error_refusal, load_error_refusal, plan_error_refusal, IsRefusedFor, IsLoadRefusedFor, IsUntaken};
 
 use crate::books::book_scenario;
 use crate::scenarios::plan_of;
@@ -270,7 +270,8 @@ fn plan_scenario(alloc: Global, plan: &[u8]) -> Result<Vec<u8>, Refusal>
 
 /// Looks at the file of a table, or one to be loaded, as the program looks at it: whether it is taken, and why it isn't.
 pub fn look_at(file: &[u8]) -> Result<(), Refusal>
-    ensures { OnOk result (refusal_of file.now ≡ None) }
+    ensures taken { OnOk result (refusal_of file.now ≡ None) }
+    ensures refused { IfErr result (IsUntaken file.now) }
 {
     if file.len() > MOST_BYTES {
         return Err(Refusal::Long);
