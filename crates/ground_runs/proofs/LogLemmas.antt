@@ -5,17 +5,17 @@ use Rattle.subjects.specs.Plans.{Simulated}
 use Rattle.subjects.specs.Own.{own_subjects}
 use Rattle.rehearsal.specs.Words.{Asked}
 use Rattle.rehearsal.specs.Outcome.{Rehearses, Completes, SumsUp}
-use Rattle.rehearsal.specs.Promise.{ShelfUse, SinkUse, text_of, CarriesOut, Promise}
+use Rattle.rehearsal.specs.Promise.{ShelfUse, SinkUse, sink_use, text_of, CarriesOut, Promise}
 use Rattle.rehearsal.specs.declared.report.Report.{Report}
 use Rattle.rehearsal.specs.declared.report.Status.{Status as End}
 use Rattle.rehearsal.specs.declared.report.Status.TheVariants as ends
 use Rattle.ground_files.specs.declared.verb_status.Status.{Status}
 use Rattle.ground_files.specs.declared.verb_status.Status.TheVariants as statuses
 use Rattle.ground_tools.specs.Kept.{told_while}
-use Rattle.ground_runs.specs.Endings.{status_at, unjudged, writes_all}
+use Rattle.ground_runs.specs.Endings.{status_at, unjudged, is_reported}
 use Rattle.ground_runs.specs.Rehearsing.{silent}
 use Rattle.ground_runs.specs.declared.run_ends.Ending.{Ending}
-use Rattle.ground_runs.specs.KeptLogs.{file_use, WritesLog}
+use Rattle.ground_runs.specs.KeptLogs.{file_use, Staged, WritesLog}
 
 -- ---- statuses
 
@@ -28,7 +28,7 @@ unjudged_at ends.ReadFailed = refl
 unjudged_at ends.WriteFailed = refl
 unjudged_at ends.NoMemory = refl
 
-not_failed : (s : Status) → writes_all s ≡ true → unjudged s ≢ statuses.WriteFailed
+not_failed : (s : Status) → is_reported s ≡ true → unjudged s ≢ statuses.WriteFailed
 not_failed statuses.Done writes is = cc
 not_failed statuses.WordsRefused writes is = cc
 not_failed statuses.FileRefused writes is = cc
@@ -39,7 +39,7 @@ not_failed statuses.NoMemory writes is = cc
 not_failed statuses.Unwanted writes is = cc
 
 -- a rehearsal that wrote its log didn't fail at it
-written_well : (e : End) (s : Status) → writes_all s ≡ true → status_at e ≡ unjudged s → e ≢ ends.WriteFailed
+written_well : (e : End) (s : Status) → is_reported s ≡ true → status_at e ≡ unjudged s → e ≢ ends.WriteFailed
 written_well e s writes same is = not_failed s writes (sym same ∙ ap status_at is)
 
 -- ---- a promise of an output is one of a file with its bytes
@@ -94,14 +94,14 @@ told_at : (refusals : ℕ) (held : Option (List ℕ)) (bytes : List ℕ) → ref
 told_at refusals held bytes none is = rw (none, is) refl
 
 -- what is promised of the output that hands on to the log is promised of the log
-pub log_written : {S L O : Type 0} (words : List (List ℕ)) (seen : S → ShelfUse S) (held : L → Option (List ℕ)) (faults : L → ℕ) (old new : L) (status : Status) (frames : ℕ)
+pub log_written : {S L O : Type 0} (what : Staged S) (held : L → Option (List ℕ)) (faults : L → ℕ) (old new : L) (status : Status) (frames : ℕ)
     → (report : Report) (behind : S) (out : SinkUse O) (before now : ℕ)
-    → status_at report.status ≡ unjudged status → writes_all status ≡ true → report.frames ≡ frames
+    → status_at report.status ≡ unjudged status → is_reported status ≡ true → report.frames ≡ frames
     → before ≡ 0 → out.held_before ≡ told_while before (held old) → out.held_now ≡ told_while now (held new)
     → out.faults_before ≡ faults old + before → out.faults_now ≡ faults new + now → (out.new ≡ out.old → new ≡ old)
-    → Promise report words own_subjects (seen behind) out silent
-    → WritesLog words seen held faults old new status frames
-log_written words seen held faults old new status frames report behind out before now same writes number none held_before held_now faults_before faults_now unwritten promise =
+    → Promise report what.words own_subjects (what.seen behind) out silent
+    → WritesLog what held faults old new status frames
+log_written what held faults old new status frames report behind out before now same writes number none held_before held_now faults_before faults_now unwritten promise =
     let not : report.status ≢ ends.WriteFailed = written_well report.status status writes same in
     let kept : out.faults_now ≡ out.faults_before = promise.causes.wrote_well not in
     let sum : faults old ≡ 0 → faults new + now ≡ 0 = λ well. sym faults_now ∙ kept ∙ faults_before ∙ omega (arith, well, none) in
@@ -115,13 +115,32 @@ log_written words seen held faults old new status frames report behind out befor
           let last = held_now ∙ told_at now (held new) bytes (none_of_sum (faults new) now (sum well)).1 full in
           record {
             behind = behind;
-            promise = of_file report words own_subjects (seen behind) out bytes first last kept (λ is. some_bytes bytes (held old) (held new) empty full (ap held (unwritten is))) not promise;
+            promise = of_file report what.words own_subjects (what.seen behind) out bytes first last kept (λ is. some_bytes bytes (held old) (held new) empty full (ap held (unwritten is))) not promise;
           };
     }
 
+-- what is promised of an output alone
+pub alone_written : {S L : Type 0} (what : Staged S) (held : L → Option (List ℕ)) (faults : L → ℕ) (old new : L) (status : Status)
+    → (report : Report) (behind : S) → status_at report.status ≡ unjudged status → is_reported status ≡ true
+    → Promise report what.words own_subjects (what.seen behind) (sink_use held faults old new) silent
+    → WritesLog what held faults old new status report.frames
+alone_written what held faults old new status report behind same writes promise =
+    let not : report.status ≢ ends.WriteFailed = written_well report.status status writes same in
+    let kept : faults new ≡ faults old = promise.causes.wrote_well not in
+    record {
+      report = report;
+      ends = same;
+      number = refl;
+      well = λ well. kept ∙ well;
+      is_log = λ bytes well empty full. record {
+        behind = behind;
+        promise = of_file report what.words own_subjects (what.seen behind) (sink_use held faults old new) bytes empty full kept (λ is. some_bytes bytes (held old) (held new) empty full (ap held is)) not promise;
+      };
+    }
+
 -- the ending and the output as they are handed on
-pub handed_on : {S L : Type 0} (words : List (List ℕ)) (seen : S → ShelfUse S) (held : L → Option (List ℕ)) (faults : L → ℕ) (old new now : L) (ended ending : Ending) → now ≡ new → ending ≡ ended
-    → WritesLog words seen held faults old new ended.status ended.frames → WritesLog words seen held faults old now ending.status ending.frames
-handed_on words seen held faults old new now ended ending same_log same wrote =
-    subst (λ (e : Ending). WritesLog words seen held faults old now e.status e.frames) (sym same)
-    (subst (λ (l : _). WritesLog words seen held faults old l ended.status ended.frames) (sym same_log) wrote)
+pub handed_on : {S L : Type 0} (what : Staged S) (held : L → Option (List ℕ)) (faults : L → ℕ) (old new now : L) (ended ending : Ending) → now ≡ new → ending ≡ ended
+    → WritesLog what held faults old new ended.status ended.frames → WritesLog what held faults old now ending.status ending.frames
+handed_on what held faults old new now ended ending same_log same wrote =
+    subst (λ (e : Ending). WritesLog what held faults old now e.status e.frames) (sym same)
+    (subst (λ (l : _). WritesLog what held faults old l ended.status ended.frames) (sym same_log) wrote)

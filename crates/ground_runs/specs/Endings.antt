@@ -1,5 +1,5 @@
 -- How a rehearsal ended.
-use Rattle.std.specs.Prelude.{◌≡◌, ℕ, Bool, true, false, nat_lt, ◌⊎◌}
+use Rattle.std.specs.Prelude.{ℕ, Bool, true, false, nat_lt}
 use Rattle.ground_files.specs.declared.verb_status.Status.{Status}
 use Rattle.ground_files.specs.declared.verb_status.Status.TheVariants as statuses
 use Rattle.rehearsal.specs.declared.report.Status.{Status as End}
@@ -26,16 +26,16 @@ is_kept statuses.WriteFailed frames = false
 is_kept statuses.NoMemory frames = false
 is_kept statuses.Unwanted frames = true
 
--- whether a rehearsal that ended so wrote its log: all of it, or all that came before the fault of the scenario or of a read
-abbrev pub writes_all : Status → Bool
-writes_all statuses.Done = true
-writes_all statuses.WordsRefused = false
-writes_all statuses.FileRefused = false
-writes_all statuses.ScenarioRefused = true
-writes_all statuses.ReadFailed = true
-writes_all statuses.WriteFailed = false
-writes_all statuses.NoMemory = false
-writes_all statuses.Unwanted = true
+-- whether a status is that of a rehearsal's report: no write failed, and memory didn't run out
+abbrev pub is_reported : Status → Bool
+is_reported statuses.Done = true
+is_reported statuses.WordsRefused = true
+is_reported statuses.FileRefused = true
+is_reported statuses.ScenarioRefused = true
+is_reported statuses.ReadFailed = true
+is_reported statuses.WriteFailed = false
+is_reported statuses.NoMemory = false
+is_reported statuses.Unwanted = true
 
 -- the status as it was before it was looked at what the log holds
 abbrev pub unjudged : Status → Status
@@ -47,7 +47,3 @@ unjudged statuses.ReadFailed = statuses.ReadFailed
 unjudged statuses.WriteFailed = statuses.WriteFailed
 unjudged statuses.NoMemory = statuses.NoMemory
 unjudged statuses.Unwanted = statuses.Done
-
--- the statuses of words that aren't rehearsed
-abbrev pub IsEarly : Status → Type 0
-IsEarly status = (status ≡ statuses.WordsRefused) ⊎ (status ≡ statuses.NoMemory)

@@ -1,12 +1,15 @@
 //! What the words ask for of a rehearsal.
 
-ghost use Rattle.std.specs.Prelude.{◌≡◌, ◌++◌, None, IfSome, IfOk, OnOk, false};
-ghost use Rattle.ground_files.specs.Workspaces.{is_dash};
+ghost use Rattle.std.specs.Prelude.{◌≡◌, ◌++◌, Some, None, IfSome, IfOk, OnOk, true};
+ghost use Rattle.ground_files.specs.Workspaces.{Held};
 ghost use Rattle.ground_runs.specs.AskedWords.{opened, opened_names, worker_words, subject_words, front_of, words_of};
+ghost use Rattle.ground_runs.specs.Refusals.{is_drill, IsMisasked, IsOverInput, IsWellNamed};
 
 use fsw_outside::NoMemory;
 use ground_files::{Workspace, is_stream, replaces};
+use packet_forms::behind;
 use rehearsal::Words;
+use scenario::digits;
 use std::alloc::Global;
 
 /// What the words ask for.
@@ -67,25 +70,27 @@ fn add_names(words: &mut Words, files: &[&str]) -> Result<(), NoMemory>
     Ok(())
 }
 
-/// Whether this many bytes are all decimal digits.
-fn are_digits(bytes: &[u8]) -> bool {
-    bytes.iter().all(|byte| byte.is_ascii_digit())
+/// Whether a scenario's name asks for one that is generated: `drill:` and one to six decimal digits.
+#[tactic(auto, unfolding(rehearsal::specs::Words::drill_in))]
+fn is_drill(name: &str) -> bool
+    ensures { result ≡ is_drill name.now }
+{
+    let bytes = name.as_bytes();
+    bytes.starts_with(b"drill:".as_slice()) && digits(10, 6, behind(bytes, 6)).is_some()
 }
 
 impl<'a> Run<'a> {
     /// Whether the scenario is generated, so that a summary is written in place of its log.
-    pub fn is_drill(&self) -> bool {
-        match self.scenario.strip_prefix("drill:") {
-            Some(digits) => {
-                !digits.is_empty() && digits.len() <= 6 && are_digits(digits.as_bytes())
-            }
-            None => false,
-        }
+    pub fn is_drill(&self) -> bool
+        ensures { result ≡ is_drill self.now.scenario.now }
+    {
+        is_drill(self.scenario)
     }
 
     /// Why these words aren't rehearsed, whatever the files hold.
     pub fn refusal(&self) -> Option<&'static str>
-        ensures { result ≡ None → IfSome self.now.log (λ log. is_dash log.now ≡ false) }
+        ensures cause { IfSome result (λ told. IsMisasked self.now) }
+        ensures none { result ≡ None → IsWellNamed self.now self.now.log }
     {
         if let Some(log) = self.log {
             if is_stream(log) {
@@ -112,7 +117,10 @@ impl<'a> Run<'a> {
     }
 
     /// Whether an output is the scenario or one of the files.
-    pub fn would_replace<W: Workspace>(&self, workspace: &W, output: &str) -> bool {
+    pub fn would_replace<W: Workspace>(&self, workspace: &W, output: &str) -> bool
+        ensures { result ≡ true → (now : Held) → W.held workspace.now ≡ Some now
+            → IsOverInput self.now output.now now }
+    {
         for file in self.files {
             if replaces(workspace, output, file) {
                 return true;

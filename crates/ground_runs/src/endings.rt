@@ -1,7 +1,7 @@
 //! Why a rehearsal ended, in words.
 
 ghost use Rattle.std.specs.Prelude.{◌≡◌, false};
-ghost use Rattle.ground_runs.specs.Endings.{status_at, is_kept, writes_all};
+ghost use Rattle.ground_runs.specs.Endings.{status_at, is_kept, is_reported};
 
 use crate::asked_run::Run;
 use crate::line_causes::{find_line, line_cause};
@@ -206,7 +206,7 @@ pub(crate) fn tell_trouble<R: Eprint>(
     trouble: Option<Trouble>,
     error: Option<&io::Error>,
 ) -> Status
-    ensures { writes_all result ≡ false }
+    ensures { is_reported result ≡ false }
 {
     let place = match trouble {
         Some(Trouble::Memory) => return tell_no_memory(rt),

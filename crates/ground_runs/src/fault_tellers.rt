@@ -1,6 +1,7 @@
 //! Sinks that may tell why they failed.
 
-use fsw_outside::{Sink, StdSink};
+use fsw_outside::Sink;
+use packet_log::Summary;
 use std::io;
 
 /// A sink that may tell why it failed.
@@ -9,7 +10,7 @@ pub(crate) trait FaultTeller: Sink {
     fn error(&self) -> Option<&io::Error>;
 }
 
-impl FaultTeller for StdSink<io::Sink> {
+impl FaultTeller for Summary {
     fn error(&self) -> Option<&io::Error> {
         None
     }

@@ -1,9 +1,10 @@
 //! Rehearsals into outputs.
 
-ghost use Rattle.std.specs.Prelude.{◌≡◌, true};
+ghost use Rattle.std.specs.Prelude.{◌≡◌, ◌≢◌, true};
 ghost use Rattle.rehearsal.specs.Promise.{shelf_use};
-ghost use Rattle.ground_runs.specs.Endings.{writes_all};
-ghost use Rattle.ground_runs.specs.KeptLogs.{WritesLog};
+ghost use Rattle.ground_files.specs.declared.verb_status.Status.TheVariants as statuses;
+ghost use Rattle.ground_runs.specs.Endings.{is_reported};
+ghost use Rattle.ground_runs.specs.KeptLogs.{staged, WritesLog};
 
 use crate::asked_run::Run;
 use crate::draft_sinks::DraftSink;
@@ -36,29 +37,34 @@ pub(crate) struct Rehearsed<L: Drop, D: Drop> {
 }
 
 /// Rehearses a generated scenario into the words' output, where its summary is written as it is.
-pub(crate) fn run_drill<R, W, S, T, F>(
+pub(crate) fn run_drill<R, W, S, T, O, F>(
     rt: &R,
     workspace: &mut W,
     run: &Run<'_>,
     what: Rehearsal<S, T, F>,
-    out: W::Draft,
-) -> (Ending, W::Draft)
+    out: O,
+) -> (Ending, O)
 where
     R: Threads + Sync + Eprint + AllocGlobal,
     W: DraftTeller,
     S: Shelf + Drop,
     T: CauseTeller + Drop,
+    O: FaultTeller + Drop,
     F: FrameTeller + Drop,
-    ensures { W.held workspace.new ≡ W.held workspace.old }
+    ensures held { W.held workspace.new ≡ W.held workspace.old }
+    ensures log { is_reported result.0.status ≡ true → WritesLog (staged what.words
+        (shelf_use S.told S.is_open S.faults S.mark what.shelf)) O.held O.faults out result.1
+        result.0.status result.0.frames }
+    ensures judged { result.0.status ≢ statuses.Unwanted }
 {
     let mut what = what;
-    let mut sink = DraftSink::<W>::new(out);
+    let mut sink = out;
     let Ok(report) = rehearse_on(rt, &what.words, &mut what.shelf, &mut sink) else {
-        return (Ending::without_memory(rt), sink.into_draft());
+        return (Ending::without_memory(rt), sink);
     };
     let status = end_drill(rt, workspace, run, &what.teller, &report, sink.error());
     let frames = report.frames;
-    (Ending { status, frames }, sink.into_draft())
+    (Ending { status, frames }, sink)
 }
 
 /// A rehearsal that ended so, and its outputs.
@@ -95,9 +101,10 @@ where
     L: FaultTeller + Drop,
     F: FrameTeller + Drop,
     ensures held { W.held workspace.new ≡ W.held workspace.old }
-    ensures log { writes_all result.ending.status ≡ true → WritesLog what.words
-        (shelf_use S.told S.is_open S.faults S.mark what.shelf) L.held L.faults log result.log
+    ensures log { is_reported result.ending.status ≡ true → WritesLog (staged what.words
+        (shelf_use S.told S.is_open S.faults S.mark what.shelf)) L.held L.faults log result.log
         result.ending.status result.ending.frames }
+    ensures strict { result.ending.status ≡ statuses.Unwanted → run.now.is_strict ≡ true }
 {
     let Rehearsal {
         words: asked,

@@ -1,8 +1,8 @@
 //! How a rehearsal ends that was told in words.
 
-ghost use Rattle.std.specs.Prelude.{◌≡◌, true, IfOk};
+ghost use Rattle.std.specs.Prelude.{◌≡◌, ◌≢◌, ◌⊎◌, true, IfOk};
 ghost use Rattle.ground_files.specs.declared.verb_status.Status.TheVariants as statuses;
-ghost use Rattle.ground_runs.specs.Endings.{status_at, unjudged, writes_all};
+ghost use Rattle.ground_runs.specs.Endings.{status_at, unjudged, is_reported};
 
 use crate::asked_run::Run;
 use crate::endings::{CauseTeller, tell_end, tell_trouble};
@@ -56,7 +56,9 @@ where
     L: Sink + Drop,
     O: Sink + Drop,
     F: FrameTeller + Drop,
-    ensures { IfOk result (λ status. unjudged status ≡ statuses.Done) }
+    ensures done { IfOk result (λ status. unjudged status ≡ statuses.Done) }
+    ensures strict { IfOk result (λ status. status ≡ statuses.Unwanted
+        → run.now.is_strict ≡ true) }
 {
     if !run.is_strict {
         return Ok(Status::Done);
@@ -88,6 +90,8 @@ where
     ensures log { told.new.log ≡ told.old.log }
     ensures refusals { told.new.refusals ≡ told.old.refusals }
     ensures status { IfOk result (λ judged. unjudged judged ≡ unjudged status) }
+    ensures strict { IfOk result (λ judged. judged ≡ statuses.Unwanted
+        → (status ≡ statuses.Unwanted) ⊎ (run.now.is_strict ≡ true)) }
 {
     told.tell_rest(frames)?;
     sum_up(rt, frames, told)?;
@@ -131,8 +135,9 @@ where
     ensures held { W.held workspace.new ≡ W.held workspace.old }
     ensures log { told.new.log ≡ told.old.log }
     ensures refusals { told.new.refusals ≡ told.old.refusals }
-    ensures status { writes_all result ≡ true
+    ensures status { is_reported result ≡ true
         → status_at report.now.status ≡ unjudged result }
+    ensures strict { result ≡ statuses.Unwanted → run.now.is_strict ≡ true }
 {
     let trouble = told.trouble();
     if trouble.is_some() || report.status == End::WriteFailed {
@@ -160,7 +165,10 @@ pub(crate) fn end_drill<R: Eprint + AllocGlobal, W: Workspace, T: CauseTeller>(
     report: &Report,
     error: Option<&io::Error>,
 ) -> Status
-    ensures { W.held workspace.new ≡ W.held workspace.old }
+    ensures held { W.held workspace.new ≡ W.held workspace.old }
+    ensures status { is_reported result ≡ true
+        → status_at report.now.status ≡ unjudged result }
+    ensures judged { result ≢ statuses.Unwanted }
 {
     if report.status == End::WriteFailed {
         return tell_trouble(rt, run, Some(Trouble::Words), error);

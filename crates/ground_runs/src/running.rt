@@ -1,12 +1,13 @@
 //! The verb that rehearses.
 
-ghost use Rattle.std.specs.Prelude.{◌≡◌, ℕ, List, Some, None, IfSome, false};
+ghost use Rattle.std.specs.Prelude.{◌≡◌, ◌≢◌, ◌⊎◌, ℕ, List, [], Some, None, IfSome};
 ghost use Rattle.rehearsal.specs.Promise.{shelf_use};
-ghost use Rattle.ground_files.specs.Workspaces.{Held, is_dash};
+ghost use Rattle.ground_files.specs.Workspaces.{Held};
 ghost use Rattle.ground_files.specs.declared.verb_status.Status.TheVariants as statuses;
 ghost use Rattle.ground_runs.specs.AskedWords.{words_of};
-ghost use Rattle.ground_runs.specs.Endings.{is_kept, IsEarly};
-ghost use Rattle.ground_runs.specs.KeptLogs.{kept_run, LeavesLog, SettledAs};
+ghost use Rattle.ground_runs.specs.Endings.{is_kept};
+ghost use Rattle.ground_runs.specs.Refusals.{IsOverRead, IsEarly, IsWellNamed};
+ghost use Rattle.ground_runs.specs.KeptLogs.{staged, SettledAs, EndsRun};
 
 use crate::asked_run::Run;
 use crate::draft_sinks::DraftSink;
@@ -15,13 +16,13 @@ use crate::endings::{CauseTeller, is_whole};
 use crate::rehearsals::{Rehearsal, Rehearsed, run_both, run_drill};
 use crate::run_ends::Ending;
 use crate::told_scenarios::scenario_teller;
-use fsw_outside::{Shelf, StdSink};
+use fsw_outside::Shelf;
 use ground_files::{
     Status, Workspace, output_name, status_made, tell_no_memory, tell_replaced, tell_unwritten,
 };
 use ground_summaries::refused_allow;
 use ground_tools::FrameTeller;
-use std::io;
+use packet_log::Summary;
 use std::thread::Threads;
 
 /// Moves the outputs to their places where they are whole, and answers the status.
@@ -38,7 +39,7 @@ where
     ensures { (before : Held) (bytes text : List ℕ) → W.held workspace.old ≡ Some before
         → W.Draft.contents rehearsed.log.draft ≡ Some bytes
         → W.Draft.contents rehearsed.words ≡ Some text
-        → SettledAs log.now bytes output.now text
+        → SettledAs (Some log.entry) bytes output.now text
         (is_kept rehearsed.ending.status rehearsed.ending.frames) rehearsed.ending.status
         result before (W.held workspace.new) }
 {
@@ -73,10 +74,11 @@ where
     S: Shelf + Drop,
     T: CauseTeller + Drop,
     F: FrameTeller + Drop,
-    requires { is_dash log.now ≡ false }
-    ensures { (before : Held) → W.held workspace.old ≡ Some before → LeavesLog (kept_run
-        what.words (shelf_use S.told S.is_open S.faults S.mark what.shelf) log.now
-        run.now.output.now) result before (W.held workspace.new) }
+    requires named { run.now.log ≡ Some log }
+    requires well { IsWellNamed run.now run.now.log }
+    ensures { (before : Held) → W.held workspace.old ≡ Some before
+        → EndsRun (staged what.words (shelf_use S.told S.is_open S.faults S.mark what.shelf))
+        run.now result before (W.held workspace.new) }
 {
     let draft = match workspace.begin(log) {
         Ok(draft) => draft,
@@ -90,31 +92,53 @@ where
     settle_both(rt, workspace, log, run.output, rehearsed)
 }
 
-/// Rehearses into an output for the words, and keeps no log.
-fn run_alone<R, W, S, T, F>(
+/// Moves the only output to its place where it is whole, and answers the status.
+fn settle_alone<R, W>(
+    rt: &R,
+    workspace: &mut W,
+    output: &str,
+    ending: Ending,
+    words: W::Draft,
+) -> Status
+where
+    R: Eprint,
+    W: DraftTeller,
+    ensures { (before : Held) (bytes text : List ℕ) → W.held workspace.old ≡ Some before
+        → W.Draft.contents words ≡ Some text
+        → SettledAs None bytes output.now text (is_kept ending.status ending.frames)
+        ending.status result before (W.held workspace.new) }
+{
+    let is_kept = is_whole(ending.status, ending.frames);
+    let settled = workspace.settle(output, words, is_kept);
+    status_made(rt, output_name(output), settled, ending.status)
+}
+
+/// Rehearses a generated scenario, whose summary is all that is written.
+fn keep_summary<R, W, S, T, F>(
     rt: &R,
     workspace: &mut W,
     run: &Run<'_>,
     what: Rehearsal<S, T, F>,
     words: W::Draft,
-) -> (Ending, W::Draft)
+) -> Status
 where
     R: Threads + Sync + Eprint + AllocGlobal,
     W: DraftTeller,
     S: Shelf + Drop,
     T: CauseTeller + Drop,
     F: FrameTeller + Drop,
-    ensures { W.held workspace.new ≡ W.held workspace.old }
+    requires { run.now.log ≡ None }
+    ensures { (before : Held) → W.held workspace.old ≡ Some before
+        → W.Draft.contents words ≡ Some [] → EndsRun (staged what.words
+        (shelf_use S.told S.is_open S.faults S.mark what.shelf)) run.now result before
+        (W.held workspace.new) }
 {
-    if run.is_drill() {
-        return run_drill(rt, workspace, run, what, words);
-    }
-    let nowhere = StdSink::new(io::sink());
-    let rehearsed = run_both(rt, workspace, run, what, nowhere, words);
-    (rehearsed.ending, rehearsed.words)
+    let sink = DraftSink::<W>::new(words);
+    let (ending, sink) = run_drill(rt, workspace, run, what, sink);
+    settle_alone(rt, workspace, run.output, ending, sink.into_draft())
 }
 
-/// Rehearses, and moves the words to their place where they are whole.
+/// Rehearses into an output for the words, and keeps no log.
 fn keep_words<R, W, S, T, F>(
     rt: &R,
     workspace: &mut W,
@@ -128,17 +152,29 @@ where
     S: Shelf + Drop,
     T: CauseTeller + Drop,
     F: FrameTeller + Drop,
+    requires { run.now.log ≡ None }
+    ensures { (before : Held) → W.held workspace.old ≡ Some before
+        → W.Draft.contents words ≡ Some [] → EndsRun (staged what.words
+        (shelf_use S.told S.is_open S.faults S.mark what.shelf)) run.now result before
+        (W.held workspace.new) }
 {
-    let (ending, words) = run_alone(rt, workspace, run, what, words);
-    let is_kept = is_whole(ending.status, ending.frames);
-    let settled = workspace.settle(run.output, words, is_kept);
-    status_made(rt, output_name(run.output), settled, ending.status)
+    if run.is_drill() {
+        return keep_summary(rt, workspace, run, what, words);
+    }
+    // A sink that keeps no bytes, and says which it was given.
+    let rehearsed = run_both(rt, workspace, run, what, Summary::start(), words);
+    let Rehearsed { ending, words, .. } = rehearsed;
+    settle_alone(rt, workspace, run.output, ending, words)
 }
 
 /// Says which words of `--allow` name nothing, if any do, and answers the status.
 fn refuse_allow<R: Eprint + AllocGlobal>(rt: &R, allowed: &[&str]) -> Option<Status>
-    ensures { IfSome result IsEarly }
+    ensures { IfSome result (λ status. ((status ≡ statuses.WordsRefused)
+        × (allowed.now ≢ [])) ⊎ (status ≡ statuses.NoMemory)) }
 {
+    if allowed.is_empty() {
+        return None;
+    }
     match refused_allow(rt.alloc(), allowed) {
         Ok(Some(told)) => {
             let text = std::str::from_utf8(told.as_slice()).unwrap_or("");
@@ -151,7 +187,10 @@ fn refuse_allow<R: Eprint + AllocGlobal>(rt: &R, allowed: &[&str]) -> Option<Sta
 }
 
 /// The output that is read here, if one is.
-fn replaced<'a, W: Workspace>(workspace: &W, run: &Run<'a>) -> Option<&'a str> {
+fn replaced<'a, W: Workspace>(workspace: &W, run: &Run<'a>) -> Option<&'a str>
+    ensures { IfSome result (λ output. (now : Held) → W.held workspace.now ≡ Some now
+        → IsOverRead run.now now) }
+{
     if let Some(log) = run.log {
         if run.would_replace(workspace, log) {
             return Some(log);
@@ -169,8 +208,9 @@ fn refuse<R: Eprint + AllocGlobal, W: Workspace>(
     workspace: &W,
     run: &Run<'_>,
 ) -> Option<Status>
-    ensures early { IfSome result IsEarly }
-    ensures log { result ≡ None → IfSome run.now.log (λ log. is_dash log.now ≡ false) }
+    ensures early { IfSome result (λ status. (now : Held) → W.held workspace.now ≡ Some now
+        → IsEarly run.now status now) }
+    ensures well { result ≡ None → IsWellNamed run.now run.now.log }
 {
     if let Some(cause) = run.refusal() {
         let _told = eprintln!(rt; "{cause}");
@@ -197,9 +237,8 @@ where
     T: CauseTeller + Drop,
     F: FrameTeller + Drop,
     ensures { (before : Held) → W.held workspace.old ≡ Some before
-        → IfSome run.now.log (λ log. LeavesLog (kept_run what.words
-        (shelf_use S.told S.is_open S.faults S.mark what.shelf) log.now run.now.output.now)
-        result before (W.held workspace.new)) }
+        → EndsRun (staged what.words (shelf_use S.told S.is_open S.faults S.mark what.shelf))
+        run.now result before (W.held workspace.new) }
 {
     if let Some(status) = refuse(rt, workspace, run) {
         return status;
@@ -221,10 +260,10 @@ where
     W: DraftTeller,
     S: Shelf + Drop,
     ensures { (before : Held) → W.held workspace.old ≡ Some before
-        → IfSome run.now.log (λ log. LeavesLog (kept_run (words_of run.now.workers
-        run.now.has_subjects run.now.scenario.now run.now.files.now)
-        (shelf_use S.told S.is_open S.faults S.mark shelf) log.now run.now.output.now)
-        result before (W.held workspace.new)) }
+        → EndsRun (staged (words_of run.now.workers run.now.has_subjects
+        run.now.scenario.now run.now.files.now)
+        (shelf_use S.told S.is_open S.faults S.mark shelf)) run.now result before
+        (W.held workspace.new) }
 {
     let Ok(words) = run.words(rt.alloc()) else {
         return tell_no_memory(rt);
