@@ -1,6 +1,8 @@
 //! Another look at files of tables and files to be loaded.
 
-ghost use Rattle.std.specs.Prelude.{◌≡◌};
+ghost use Rattle.std.specs.Prelude.{◌≡◌, ◌&&◌, not, Some, is_some, IfOk};
+ghost use Rattle.fsw_outside.specs.Files.{file_named};
+ghost use Rattle.ground_files.specs.Workspaces.{Held, is_dash};
 
 use ground_files::{Workspace, is_stream};
 use std::alloc::Global;
@@ -10,7 +12,10 @@ use std::io::{self, Read};
 const MOST_BYTES: usize = 65_700;
 
 /// Whether a name is that of a regular file, which can be read twice.
-pub fn can_be_read_again<W: Workspace>(workspace: &W, path: &str) -> io::Result<bool> {
+pub fn can_be_read_again<W: Workspace>(workspace: &W, path: &str) -> io::Result<bool>
+    ensures { IfOk result (λ can. (now : Held) → W.held workspace.now ≡ Some now
+        → can ≡ (not (is_dash path.now) && is_some (file_named now.files path.now))) }
+{
     Ok(!is_stream(path) && workspace.is_file(path)?)
 }
 
