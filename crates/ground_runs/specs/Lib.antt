@@ -4,3 +4,4 @@ pub mod DraftSinks
 pub mod Refusals
 pub mod KeptLogs
 pub mod AskedWords
+pub mod EpochLaws
