@@ -1,23 +1,15 @@
 -- Lemmas on what the rehearsal of a book leaves.
-use Rattle.std.proofs.Common.{◌≡◌, ℕ, true, List, Option, Some, None, ap, sym, subst, ◌∙◌, inl, inr}
-use Rattle.std.specs.Prelude.{option_map, IfSome}
+use Rattle.std.proofs.Common.{◌≡◌, ℕ, List, Option, Some, ap, sym, subst, ◌∙◌, inl, inr}
+use Rattle.std.specs.Prelude.{option_map}
 use Rattle.fsw_outside.specs.declared.mem_shelf.MemShelf.{MemShelf}
 use Rattle.ground_files.specs.declared.verb_status.Status.{Status}
 use Rattle.ground_files.specs.declared.verb_status.Status.TheVariants as statuses
 use Rattle.ground_files.specs.Workspaces.{Held, input_bytes, input_taken, files_of}
 use Rattle.ground_files.specs.Verbs.{KeepsAllFiles}
-use Rattle.ground_runs.specs.KeptLogs.{KeptRun, kept_run, LeavesLog}
-use Rattle.book_rehearsals.specs.LeftByBooks.{BookAsked, memory_use, ShelvesText, RehearsesBook, LeavesBook, is_unrehearsed}
-
--- ---- what is there, or isn't
-
-pub for_any : {A : Type 0} (o : Option A) (P : A → Type 0) → ((x : A) → P x) → IfSome o P
-for_any None P all = tt
-for_any (Some x) P all = all x
-
-pub for_same : {A : Type 0} (o : Option A) (P Q : A → Type 0) → ((x : A) → P x → Q x) → IfSome o P → IfSome o Q
-for_same None P Q all some = tt
-for_same (Some x) P Q all some = all x some
+use Rattle.ground_runs.specs.declared.asked_run.Run.{Run}
+use Rattle.ground_runs.specs.AskedWords.{front_of}
+use Rattle.ground_runs.specs.KeptLogs.{Staged, staged, EndsRun}
+use Rattle.book_rehearsals.specs.LeftByBooks.{memory_use, ShelvesText, IsUnready, RehearsesBook, EndsBook}
 
 -- ---- the files
 
@@ -29,54 +21,51 @@ pub taken : (name : List ℕ) (before : Held) (old after : Option Held) → old 
 taken name before old after was is = is ∙ ap (option_map (input_taken name)) was
 
 -- memory ran out before the rehearsal began
-pub without_memory : {S : Type 0} (run : KeptRun S) (status : Status) (before : Held) (after : Option Held) → status ≡ statuses.NoMemory → KeepsAllFiles before after → LeavesLog run status before after
-without_memory run status before after is keeps = subst (λ (s : Status). LeavesLog run s before after) (sym is) keeps
+pub without_memory : {S : Type 0} (what : Staged S) (run : Run) (status : Status) (before : Held) (after : Option Held) → status ≡ statuses.NoMemory → KeepsAllFiles before after → EndsRun what run status before after
+without_memory what run status before after is keeps = subst (λ (s : Status). EndsRun what run s before after) (sym is) keeps
 
 -- ---- how the verb ends
 
--- what can't be read isn't rehearsed
-pub unread : (status : Status) → status ≡ statuses.ReadFailed → is_unrehearsed status ≡ true
-unread status is = ap is_unrehearsed is
+-- the text couldn't be read
+pub ends_unread : (run : Run) (status : Status) (before : Held) (old after : Option Held) → status ≡ statuses.ReadFailed → old ≡ Some before → after ≡ option_map (input_taken run.scenario.now) old → EndsBook run status before after
+ends_unread run status before old after is was taken_is = subst (λ (s : Status). EndsBook run s before after) (sym is) (inl (ap (option_map files_of) (taken run.scenario.now before old after was taken_is)))
 
-leaves_unrehearsed : (asked : BookAsked) (log : List ℕ) (status : Status) (before : Held) (after : Option Held) → is_unrehearsed status ≡ true → KeepsAllFiles before after → LeavesBook asked log status before after
-leaves_unrehearsed asked log statuses.Done before after may keeps = let wrong : ⊥ = cc in absurd wrong
-leaves_unrehearsed asked log statuses.WordsRefused before after may keeps = keeps
-leaves_unrehearsed asked log statuses.FileRefused before after may keeps = keeps
-leaves_unrehearsed asked log statuses.ScenarioRefused before after may keeps = let wrong : ⊥ = cc in absurd wrong
-leaves_unrehearsed asked log statuses.ReadFailed before after may keeps = inl keeps
-leaves_unrehearsed asked log statuses.WriteFailed before after may keeps = let wrong : ⊥ = cc in absurd wrong
-leaves_unrehearsed asked log statuses.NoMemory before after may keeps = keeps
-leaves_unrehearsed asked log statuses.Unwanted before after may keeps = let wrong : ⊥ = cc in absurd wrong
+-- the text was read, and its book isn't made ready
+pub ends_unready : (run : Run) (status : Status) (before : Held) (old after : Option Held) (read text : List ℕ) → IsUnready text status → input_bytes run.scenario.now before ≡ Some read → text ≡ read
+    → old ≡ Some before → after ≡ option_map (input_taken run.scenario.now) old → EndsBook run status before after
+ends_unready run status before old after read text unready is_input same was taken_is =
+    let keeps : KeepsAllFiles before after = ap (option_map files_of) (taken run.scenario.now before old after was taken_is) in
+    elim unready [
+      | inl refused ↦ subst (λ (s : Status). EndsBook run s before after) (sym refused.0) (inl (record {
+        text = text;
+        is_input = is_input ∙ ap Some (sym same);
+        is_refused = refused.1;
+        kept = keeps;
+      }))
+      | inr is ↦ subst (λ (s : Status). EndsBook run s before after) (sym is) keeps
+    ]
 
--- nothing was read yet
-pub leaves_unopened : (asked : BookAsked) (log : List ℕ) (status : Status) (before : Held) (after : Option Held) → is_unrehearsed status ≡ true → after ≡ Some before → LeavesBook asked log status before after
-leaves_unopened asked log status before after may same = leaves_unrehearsed asked log status before after may (all_kept before after same)
-
--- the text was read, or couldn't be
-pub leaves_opened : (asked : BookAsked) (log : List ℕ) (status : Status) (before : Held) (old after : Option Held) → is_unrehearsed status ≡ true → old ≡ Some before → after ≡ option_map (input_taken asked.name) old → LeavesBook asked log status before after
-leaves_opened asked log status before old after may was is = leaves_unrehearsed asked log status before after may (ap (option_map files_of) (taken asked.name before old after was is))
-
-leaves_rehearsed : (asked : BookAsked) (log : List ℕ) (status : Status) (before : Held) (after : Option Held) → RehearsesBook asked log status before after → LeavesBook asked log status before after
-leaves_rehearsed asked log statuses.Done before after rehearses = rehearses
-leaves_rehearsed asked log statuses.WordsRefused before after rehearses = rehearses.left
-leaves_rehearsed asked log statuses.FileRefused before after rehearses = rehearses.left
-leaves_rehearsed asked log statuses.ScenarioRefused before after rehearses = rehearses
-leaves_rehearsed asked log statuses.ReadFailed before after rehearses = inr rehearses
-leaves_rehearsed asked log statuses.WriteFailed before after rehearses = rehearses
-leaves_rehearsed asked log statuses.NoMemory before after rehearses = rehearses.left
-leaves_rehearsed asked log statuses.Unwanted before after rehearses = rehearses
+ends_rehearsed : (run : Run) (status : Status) (before : Held) (after : Option Held) → RehearsesBook run status before after → EndsBook run status before after
+ends_rehearsed run statuses.Done before after rehearses = rehearses
+ends_rehearsed run statuses.WordsRefused before after rehearses = inr rehearses
+ends_rehearsed run statuses.FileRefused before after rehearses = inr rehearses
+ends_rehearsed run statuses.ScenarioRefused before after rehearses = rehearses
+ends_rehearsed run statuses.ReadFailed before after rehearses = inr rehearses
+ends_rehearsed run statuses.WriteFailed before after rehearses = rehearses
+ends_rehearsed run statuses.NoMemory before after rehearses = rehearses.ended
+ends_rehearsed run statuses.Unwanted before after rehearses = rehearses
 
 -- the book of a text that was read was rehearsed
-pub leaves_read : (asked : BookAsked) (log : List ℕ) (status : Status) (before : Held) (after : Option Held) (read text : List ℕ) (shelf : MemShelf) (words : List (List ℕ)) → input_bytes asked.name before ≡ Some read → text ≡ read → ShelvesText text asked.front shelf words
-    → LeavesLog (kept_run words (memory_use shelf) log asked.output) status (input_taken asked.name before) after → LeavesBook asked log status before after
-leaves_read asked log status before after read text shelf words is_input same shelves left =
-    leaves_rehearsed asked log status before after (record {
+pub ends_read : (run : Run) (status : Status) (before : Held) (after : Option Held) (read text : List ℕ) (shelf : MemShelf) (words : List (List ℕ)) → input_bytes run.scenario.now before ≡ Some read → text ≡ read
+    → ShelvesText text (front_of run.workers run.has_subjects) shelf words → EndsRun (staged words (memory_use shelf)) run status (input_taken run.scenario.now before) after → EndsBook run status before after
+ends_read run status before after read text shelf words is_input same shelves ended =
+    ends_rehearsed run status before after (record {
       text = text;
       is_input = is_input ∙ ap Some (sym same);
       shelf = shelf;
       words = words;
       shelves = shelves;
-      left = left;
+      ended = ended;
     })
 
 -- the words in front are those that were made

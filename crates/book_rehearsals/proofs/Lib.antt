@@ -2,3 +2,4 @@ mod NumberedLemmas
 mod ShelfLemmas
 mod BookLemmas
 mod LeftLemmas
+mod BeginningLemmas

@@ -3,3 +3,4 @@ pub mod ShelvedBooks
 pub mod Rehearsed
 pub mod LeftByBooks
 pub mod Worked
+pub mod Beginnings

@@ -1,9 +1,10 @@
 //! The verb that rehearses a book.
 
-ghost use Rattle.std.specs.Prelude.{◌≡◌, true, Some, IfSome, IfOk, IfErr};
+ghost use Rattle.std.specs.Prelude.{◌≡◌, ◌⊎◌, Some, IfOk, IfErr};
 ghost use Rattle.ground_files.specs.Workspaces.{Held};
-ghost use Rattle.ground_runs.specs.KeptLogs.{kept_run, LeavesLog};
-ghost use Rattle.book_rehearsals.specs.LeftByBooks.{book_asked, memory_use, ShelvesText, LeavesBook, is_unrehearsed};
+ghost use Rattle.ground_runs.specs.AskedWords.{front_of};
+ghost use Rattle.ground_runs.specs.KeptLogs.{staged, EndsRun};
+ghost use Rattle.book_rehearsals.specs.LeftByBooks.{memory_use, ShelvesText, IsNoBook, IsUnready, EndsBook};
 
 use crate::book_causes::BookTeller;
 use crate::epochs::epoch_of;
@@ -13,7 +14,7 @@ use ground_making::{MOST_BYTES, Refusal, tell_refusal};
 use ground_runs::{DraftTeller, Rehearsal, Run, add_file, run_rehearsal};
 use ground_tools::ScenarioTeller;
 use input_words::GivenFile;
-use load_books::{Book, book_forms};
+use load_books::{Book, BookError, book_forms};
 use rehearsal::Words;
 use std::alloc::{AllocError, Global};
 use std::thread::Threads;
@@ -27,14 +28,17 @@ struct ReadyBook<'a> {
 
 /// The book that a text says on a shelf, whose names are put behind the words.
 fn shelved<'a>(alloc: Global, text: &'a [u8], words: &mut Words) -> Result<ShelvedBook<'a>, Refusal>
-    ensures { IfOk result (λ shelved. ShelvesText text.now words.old shelved.shelf words.new) }
+    ensures shelved { IfOk result (λ shelved. ShelvesText text.now words.old shelved.shelf
+        words.new) }
+    ensures refused { IfErr result (λ refusal. (refusal ≡ Refusal.Memory) ⊎ IsNoBook text.now) }
 {
     if text.len() > MOST_BYTES {
         return Err(Refusal::Long);
     }
     match shelve_book(alloc, &book_forms(), text, words) {
         Ok(shelved) => Ok(shelved),
-        Err(error) => Err(Refusal::from(error)),
+        Err(BookError::Memory(_)) => Err(Refusal::Memory),
+        Err(BookError::Book(fault)) => Err(Refusal::Book(fault)),
     }
 }
 
@@ -45,13 +49,16 @@ fn refuse_book<R: Eprint + AllocGlobal>(
     text: &[u8],
     refusal: &Refusal,
 ) -> Status
-    ensures { is_unrehearsed result ≡ true }
+    ensures { (refusal.now ≡ Refusal.Memory) ⊎ IsNoBook text.now → IsUnready text.now result }
 {
-    if tell_refusal(rt, name, text, refusal) == Status::NoMemory {
-        Status::NoMemory
-    } else {
-        Status::FileRefused
+    let status = tell_refusal(rt, name, text, refusal);
+    if let Refusal::Memory = refusal {
+        return Status::NoMemory;
     }
+    if status == Status::NoMemory {
+        return Status::NoMemory;
+    }
+    Status::FileRefused
 }
 
 /// Puts the book that a text says on a shelf, and makes the words for its rehearsal; or tells why it doesn't, and answers the status.
@@ -60,9 +67,9 @@ fn ready_book<'a, R: Eprint + AllocGlobal>(
     run: &Run<'_>,
     text: &'a [u8],
 ) -> Result<ReadyBook<'a>, Status>
-    ensures ready { IfOk result (λ ready. ShelvesText text.now (book_asked run.now).front
-        ready.shelved.shelf ready.words) }
-    ensures unrehearsed { IfErr result (λ status. is_unrehearsed status ≡ true) }
+    ensures ready { IfOk result (λ ready. ShelvesText text.now
+        (front_of run.now.workers run.now.has_subjects) ready.shelved.shelf ready.words) }
+    ensures unready { IfErr result (IsUnready text.now) }
 {
     let Ok(front) = run.front_words(rt.alloc()) else {
         return Err(tell_no_memory(rt));
@@ -111,9 +118,9 @@ fn rehearse_ready<R, W>(
 where
     R: Threads + Sync + Eprint + AllocGlobal,
     W: DraftTeller,
-    ensures { (before : Held) → W.held workspace.old ≡ Some before → IfSome run.now.log
-        (λ log. LeavesLog (kept_run ready.entry.words (memory_use ready.entry.shelved.shelf)
-        log.now run.now.output.now) result before (W.held workspace.new)) }
+    ensures { (before : Held) → W.held workspace.old ≡ Some before
+        → EndsRun (staged ready.entry.words (memory_use ready.entry.shelved.shelf)) run.now
+        result before (W.held workspace.new) }
 {
     let ReadyBook { shelved, words } = ready;
     let ShelvedBook { book, shelf } = shelved;
@@ -144,8 +151,7 @@ where
     R: Threads + Sync + Eprint + AllocGlobal,
     W: DraftTeller,
     ensures { (before : Held) → W.held workspace.old ≡ Some before
-        → IfSome run.now.log (λ log. LeavesBook (book_asked run.now) log.now result before
-        (W.held workspace.new)) }
+        → EndsBook run.now result before (W.held workspace.new) }
 {
     let name = run.scenario;
     if !run.files.is_empty() {

@@ -1,0 +1,8 @@
+use Rattle.std.proofs.Common.{◌≤◌, length}
+use Rattle.book_rehearsals.proofs.book_names.whole_lines.Given as goal
+
+abbrev pub invariant-bytes : goal.invariant-bytes
+invariant-bytes l = l.end ≤ length l.text
+
+abbrev pub decreases-bytes : goal.decreases-bytes
+decreases-bytes l = l.end
