@@ -1,6 +1,5 @@
 -- What is done of what is asked for, and what that leaves.
-use Rattle.std.specs.Prelude.{◌≡◌, ℕ, List, Option, Some, IfSome, ◌⊎◌}
-use Rattle.std.specs.Borrow.{Bor}
+use Rattle.std.specs.Prelude.{◌≡◌, ℕ, List, Option, Some, ◌⊎◌}
 use Rattle.rehearsal.specs.Promise.{ShelfUse}
 use Rattle.ground_files.specs.declared.verb_status.Status.{Status}
 use Rattle.ground_files.specs.declared.verb_status.Status.TheVariants as statuses
@@ -14,8 +13,9 @@ use Rattle.ground_exports.specs.Exports.{IsExported}
 use Rattle.ground_differences.specs.Differences.{IsCompared}
 use Rattle.ground_runs.specs.declared.asked_run.Run.{Run}
 use Rattle.ground_runs.specs.AskedWords.{words_of}
-use Rattle.ground_runs.specs.KeptLogs.{kept_run, LeavesLog}
-use Rattle.book_rehearsals.specs.LeftByBooks.{book_asked, LeavesBook}
+use Rattle.ground_runs.specs.KeptLogs.{staged, EndsRun}
+use Rattle.book_rehearsals.specs.Beginnings.{NamesBook}
+use Rattle.book_rehearsals.specs.LeftByBooks.{EndsBook}
 use Rattle.ground_verbs.specs.declared.asked.Page.{Page}
 use Rattle.ground_verbs.specs.declared.asked.Asked.{Asked}
 use Rattle.ground_verbs.specs.declared.asked.Asked.TheVariants as asks
@@ -36,14 +36,13 @@ WritesPage page statuses.WriteFailed = KeepsAllFiles
 WritesPage page statuses.NoMemory = KeepsAllFiles
 WritesPage page statuses.Unwanted = λ before after. ⊥
 
--- What a rehearsal of a scenario, whose shelf is seen so, leaves of the log that it keeps.
-abbrev pub LeavesScenarioLog : {S : Type 0} → (S → ShelfUse S) → Run → List ℕ → Status → Held → Option Held → Type 0
-LeavesScenarioLog seen run log = LeavesLog (kept_run (words_of run.workers run.has_subjects run.scenario.now run.files.now) seen log run.output.now)
+-- How a rehearsal of a scenario ends, whose shelf is seen so.
+abbrev pub EndsScenario : {S : Type 0} → (S → ShelfUse S) → Run → Status → Held → Option Held → Type 0
+EndsScenario seen run = EndsRun (staged (words_of run.workers run.has_subjects run.scenario.now run.files.now) seen) run
 
--- What a rehearsal leaves of the log that it keeps, where the words name a file for that: one of a scenario, or one of a book.
+-- How a rehearsal ends: that of a book, whose name stands in place of a scenario's, or that of a scenario.
 abbrev pub IsRehearsed : {S : Type 0} → (S → ShelfUse S) → Run → Status → Held → Option Held → Type 0
-IsRehearsed seen run status before after = IfSome run.log (λ (log : Bor (List ℕ)).
-    LeavesScenarioLog seen run log.now status before after ⊎ LeavesBook (book_asked run) log.now status before after)
+IsRehearsed seen run status before after = (NamesBook run before × EndsBook run status before after) ⊎ EndsScenario seen run status before after
 
 -- What was done of what is asked for: the shelf of a rehearsal is seen so.
 abbrev pub IsDone : {S : Type 0} → (S → ShelfUse S) → Asked → Status → Held → Option Held → Type 0

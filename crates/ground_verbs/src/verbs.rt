@@ -47,14 +47,15 @@ where
         → IsRehearsed (shelf_use S.told S.is_open S.faults S.mark shelf) run.now result before
         (W.held workspace.new) }
 {
-    if names_book(rt, workspace, run) {
+    // What can't be read now is rehearsed as a scenario, which tells why.
+    if let Ok(true) = names_book(rt, workspace, run) {
         return run_book(rt, workspace, run);
     }
     if warn_of_order(rt, workspace, run.files).is_err() {
         return tell_no_memory(rt);
     }
     let mut timed = *run;
-    timed.epoch = epoch_of_run(rt, workspace, run);
+    timed.epoch = epoch_of_run(rt, workspace, run).unwrap_or(None);
     run_scenario(rt, workspace, shelf, &timed)
 }
 
