@@ -1,5 +1,5 @@
 -- The map of memory that a scenario's header says.
-use Rattle.std.specs.Prelude.{◌≡◌, ◌⊎◌, ℕ, ◌<◌, Bool, true, List, [], ◌∷◌, ◌++◌, length, map, Option, Some, None, Ok}
+use Rattle.std.specs.Prelude.{◌≡◌, ◌⊎◌, ℕ, ◌+◌, ◌<◌, ◌≤◌, ◌^◌, Bool, true, List, [], ◌∷◌, ◌++◌, length, map, Option, Some, None, Ok}
 use Rattle.memory_window.specs.declared.regions.Region.{Region}
 use Rattle.telecommands.specs.declared.command.Command.{Command}
 use Rattle.telecommands.specs.Dictionary.{placed, dictionary}
@@ -62,3 +62,28 @@ pub record IsBookMap (text : List ℕ) (regions : List Region) : Type 0 where
 -- the map of a text: that of its header where it is a scenario, or else of what it says as a plan; and of a book that of its plan
 abbrev pub IsMapOf : List ℕ → List Region → Type 0
 IsMapOf text regions = (map_said text ≡ Some regions) ⊎ (IsPlanMap text regions ⊎ IsBookMap text regions)
+
+-- ---- texts without a map
+
+-- a text says no plan whose scenario has a map
+pub record IsMaplessPlan (text : List ℕ) : Type 0 where
+  pub commands : List Command
+  pub are_listed : map placed commands ≡ dictionary
+  pub gives_none : (scenario : List ℕ) → scenario_said commands text ≡ Ok scenario → map_said scenario ≡ None
+
+-- a text's header isn't a scenario's, and it is longer than any plan or says none whose scenario has a map
+abbrev pub IsMaplessText : List ℕ → Type 0
+IsMaplessText text = (map_said text ≡ None) × ((2 ^ 32 ≤ 1 + length text) ⊎ IsMaplessPlan text)
+
+-- the scenario of the book that a text says has no map
+pub record IsMaplessBook (text : List ℕ) : Type 0 where
+  pub forms : BookForms
+  pub book : BookMade
+  pub are_forms : AreBookForms forms
+  pub is_book : is_book_text text ≡ true
+  pub is_said : book_said forms text ≡ Ok book
+  pub is_mapless : map_said book.scenario ≡ None
+
+-- a text gives no map: neither as a scenario or a plan, nor as a book
+abbrev pub GivesNoMap : List ℕ → Type 0
+GivesNoMap text = IsMaplessText text ⊎ IsMaplessBook text

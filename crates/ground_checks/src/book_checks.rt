@@ -1,8 +1,9 @@
 //! What is wrong with a book, in words.
 
-ghost use Rattle.std.specs.Prelude.{◌≡◌, ◌⊎◌, ◌+◌, ◌<◌, ◌^◌, length, true, IfErr};
+ghost use Rattle.std.specs.Prelude.{◌≡◌, ◌⊎◌, ◌+◌, ◌<◌, ◌^◌, length, true, IfOk, IfErr};
 ghost use Rattle.ground_files.specs.declared.verb_status.Status.TheVariants as statuses;
 ghost use Rattle.load_books.specs.Books.{is_book_text};
+ghost use Rattle.ground_checks.specs.Checked.{is_of_files};
 
 use crate::checking::{earlier, seen_at, tell_count};
 use crate::file_checks::tell_file;
@@ -110,7 +111,9 @@ fn tell_part_file<'a, R: Eprint + AllocGlobal>(
     name: &str,
     file: &'a BookFile<'_>,
     seen: &mut Vec<SeenFile<'a>>,
-) -> Result<Status, AllocError> {
+) -> Result<Status, AllocError>
+    ensures { IfOk result (λ status. is_of_files status ≡ true) }
+{
     let part = from_utf8(file.name).unwrap_or("");
     let title = format!(in rt.alloc(); "{name}: {part}")?;
     let bytes = file.bytes.as_slice();
@@ -139,7 +142,9 @@ fn tell_files<R: Eprint + AllocGlobal>(
     rt: &R,
     looked: &LookedBook<'_>,
     name: &str,
-) -> Result<Status, AllocError> {
+) -> Result<Status, AllocError>
+    ensures { IfOk result (λ status. is_of_files status ≡ true) }
+{
     let files = looked.book.files.as_slice();
     let mut seen = Vec::new(rt.alloc());
     let mut status = tell_count(rt, name, files.len());
@@ -153,6 +158,7 @@ fn tell_files<R: Eprint + AllocGlobal>(
 /// Looks at a book: tells why it is refused, or what is odd in its tables and what the memory of its plan doesn't give.
 pub(crate) fn tell_book_file<R: Eprint + AllocGlobal>(rt: &R, name: &str, text: &[u8]) -> Status
     requires { 1 + length text.now < 2 ^ 32 }
+    ensures { is_of_files result ≡ true }
 {
     let looked = match looked_book(rt, name, text) {
         Ok(looked) => looked,
@@ -180,11 +186,7 @@ fn warn_of_files<R: Eprint + AllocGlobal>(
 }
 
 /// Tells what is odd in the tables of a book, unless it is refused.
-fn warn_of_text<R: Eprint + AllocGlobal>(
-    rt: &R,
-    name: &str,
-    text: &[u8],
-) -> Result<(), AllocError>
+fn warn_of_text<R: Eprint + AllocGlobal>(rt: &R, name: &str, text: &[u8]) -> Result<(), AllocError>
     requires { 1 + length text.now < 2 ^ 32 }
 {
     let book = match read_book(rt.alloc(), &book_forms(), text) {

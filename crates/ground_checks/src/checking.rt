@@ -1,12 +1,12 @@
 //! The verb that looks at files.
 
-ghost use Rattle.std.specs.Prelude.{◌≡◌, ◌≢◌, false, Some, None, option_map, IfOk};
+ghost use Rattle.std.specs.Prelude.{◌≡◌, ◌≢◌, ◌⊎◌, ◌+◌, ◌<◌, ◌≤◌, true, false, length, Some, None, option_map, IfOk};
 ghost use Rattle.ground_files.specs.declared.verb_status.Status.TheVariants as statuses;
 ghost use Rattle.ground_files.specs.Workspaces.{Held, KeepsFiles, input_taken, input_bytes};
 ghost use Rattle.ground_files.specs.Verbs.{KeepsAllFiles};
 ghost use Rattle.load_books.specs.Books.{is_book_text};
 ghost use Rattle.ground_checks.specs.Faults.{fault_of};
-ghost use Rattle.ground_checks.specs.Checked.{names_of, IsTaken, IsRefused, Looked, Checked, ChecksFiles};
+ghost use Rattle.ground_checks.specs.Checked.{names_of, IsTaken, IsRefused, IsBookRead, is_of_files, Looked, Checked, ChecksFiles};
 
 use crate::book_checks::{is_book, tell_book_file};
 use crate::file_checks::tell_file;
@@ -100,7 +100,9 @@ fn add_seen<'a, R: Eprint + AllocGlobal, W: Workspace>(
     bytes: &[u8],
     is_taken: bool,
     seen: &mut Vec<SeenFile<'a>>,
-) -> Result<(), AllocError> {
+) -> Result<(), AllocError>
+    ensures { length seen.new.items ≤ length seen.old.items + 1 }
+{
     let file = seen_file(rt.alloc(), workspace, path, bytes, is_taken)?;
     if is_taken {
         warn_of_place(rt, file.path, seen.as_slice(), &file);
@@ -124,6 +126,10 @@ fn check_bytes<'a, R: Eprint + AllocGlobal, W: Workspace>(
     ensures refused { IfOk result (λ status. status ≡ statuses.FileRefused
         → is_book_text bytes.now ≡ false
         → fault_of (option_map (λ known. known.now) map.entry) bytes.now ≢ None) }
+    ensures words { IfOk result (λ status. status ≡ statuses.WordsRefused
+        → is_book_text bytes.now ≡ true) }
+    ensures status { IfOk result (λ status. is_of_files status ≡ true) }
+    ensures seen { length seen.new.items ≤ length seen.old.items + 1 }
 {
     let name = input_name(path);
     if is_book(bytes) {
@@ -151,6 +157,11 @@ fn check_file<'a, R: Eprint + AllocGlobal, W: Workspace>(
     ensures refused { IfOk result (λ status. status ≡ statuses.FileRefused
         → (before : Held) → W.held workspace.old ≡ Some before
         → IsRefused (option_map (λ known. known.now) map.entry) (input_bytes path.now before)) }
+    ensures words { IfOk result (λ status. status ≡ statuses.WordsRefused
+        → (before : Held) → W.held workspace.old ≡ Some before
+        → IsBookRead (input_bytes path.now before)) }
+    ensures status { IfOk result (λ status. is_of_files status ≡ true) }
+    ensures seen { length seen.new.items ≤ length seen.old.items + 1 }
 {
     match read_input(rt.alloc(), workspace, path) {
         Ok(bytes) => check_bytes(rt, workspace, map, names, path, bytes.as_slice(), seen),
@@ -164,7 +175,7 @@ fn check_file<'a, R: Eprint + AllocGlobal, W: Workspace>(
 
 /// Tells that files are more than the program takes, where they are, and answers the status.
 pub(crate) fn tell_count<R: Eprint>(rt: &R, title: &str, count: usize) -> Status
-    ensures { result ≢ statuses.FileRefused }
+    ensures { (result ≡ statuses.Done) ⊎ ((result ≡ statuses.WordsRefused) × (100 < count)) }
 {
     if count <= MOST_FILES {
         return Status::Done;
@@ -223,6 +234,9 @@ fn end_check<R: Eprint, W: Workspace>(
 ) -> Status
     ensures done { result ≡ statuses.Done → status ≡ statuses.Done }
     ensures refused { result ≡ statuses.FileRefused → status ≡ statuses.FileRefused }
+    ensures words { result ≡ statuses.WordsRefused → (status ≡ statuses.WordsRefused)
+        ⊎ (100 < length seen.now) }
+    ensures earlier { is_of_files result ≡ false → status ≡ result }
     ensures kept { (before : Held) → W.held workspace.old ≡ Some before
         → KeepsAllFiles before (W.held workspace.new) }
 {
@@ -248,6 +262,8 @@ fn look_at_files<'a, R: Eprint + AllocGlobal, W: Workspace>(
     ensures looked { IfOk result (λ status. (before : Held) → W.held workspace.old ≡ Some before
         → Looked (option_map (λ known. known.now) map.entry) first status (names_of files.now)
         before (W.held workspace.new)) }
+    ensures seen { IfOk result (λ status. length seen.new.items ≤ length seen.old.items
+        + length files.now) }
 {
     let mut status = first;
     'files: for file in files {
@@ -279,7 +295,7 @@ fn check_all<R: Eprint + AllocGlobal, W: Workspace>(
 
 /// Tells the regions of a map, and answers the status.
 fn tell_map<R: Eprint, W: Workspace>(rt: &R, workspace: &mut W, name: &str, map: &Map) -> Status
-    ensures status { result ≢ statuses.FileRefused }
+    ensures status { (result ≡ statuses.Done) ⊎ (result ≡ statuses.WriteFailed) }
     ensures kept { (before : Held) → W.held workspace.old ≡ Some before
         → KeepsFiles (Some before) (W.held workspace.new) }
 {

@@ -1,6 +1,6 @@
 //! What is wrong with a file or odd in it, in words.
 
-ghost use Rattle.std.specs.Prelude.{◌≡◌, ◌≢◌, None, option_map};
+ghost use Rattle.std.specs.Prelude.{◌≡◌, ◌≢◌, ◌⊎◌, None, option_map};
 ghost use Rattle.ground_checks.specs.Faults.{fault_of};
 
 use crate::finding::{FoundFault, find_faults};
@@ -64,7 +64,7 @@ fn tell_all<R: Eprint + AllocGlobal>(
 
 /// The status of a file whose faults were told.
 fn status_refused<R: Eprint>(rt: &R, told: Result<(), AllocError>) -> Status
-    ensures { result ≢ Status.Done }
+    ensures { (result ≡ Status.FileRefused) ⊎ (result ≡ Status.NoMemory) }
 {
     match told {
         Ok(()) => Status::FileRefused,
@@ -77,7 +77,7 @@ fn status_refused<R: Eprint>(rt: &R, told: Result<(), AllocError>) -> Status
 
 /// The status of a file without a fault, once was told what is odd in it.
 fn status_taken<R: Eprint>(rt: &R, told: Result<(), AllocError>) -> Status
-    ensures { result ≢ Status.FileRefused }
+    ensures { (result ≡ Status.Done) ⊎ (result ≡ Status.NoMemory) }
 {
     match told {
         Ok(()) => Status::Done,
@@ -103,6 +103,8 @@ pub(crate) fn tell_file<R: Eprint + AllocGlobal>(
         (option_map (λ known. known.now) map.entry) file.now ≡ None }
     ensures refused { result ≡ Status.FileRefused
         → fault_of (option_map (λ known. known.now) map.entry) file.now ≢ None }
+    ensures status { (result ≡ Status.Done) ⊎ (result ≡ Status.FileRefused)
+        ⊎ (result ≡ Status.NoMemory) }
 {
     let Ok(faults) = find_faults(rt.alloc(), map, file) else {
         let _told = tell_no_memory(rt);

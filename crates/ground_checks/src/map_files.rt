@@ -1,11 +1,11 @@
 //! The map of memory of a scenario, a plan or a book.
 
-ghost use Rattle.std.specs.Prelude.{◌≡◌, ◌≢◌, ◌+◌, ◌<◌, ◌^◌, length, true, Some, None, option_map, IfOk, IfErr};
+ghost use Rattle.std.specs.Prelude.{◌≡◌, ◌≢◌, ◌⊎◌, ◌+◌, ◌<◌, ◌^◌, length, true, Some, None, option_map, IfOk, IfErr};
 ghost use Rattle.ground_files.specs.declared.verb_status.Status.TheVariants as statuses;
 ghost use Rattle.ground_files.specs.Workspaces.{Held, input_taken};
 ghost use Rattle.load_books.specs.Books.{is_book_text};
-ghost use Rattle.ground_checks.specs.Checked.{IsMapNamed, IsBookNamed};
-ghost use Rattle.ground_checks.specs.Maps.{map_said, IsPlanMap, IsBookMap, IsMapOf};
+ghost use Rattle.ground_checks.specs.Checked.{IsMapNamed, IsBookNamed, IsMaplessNamed};
+ghost use Rattle.ground_checks.specs.Maps.{map_said, IsPlanMap, IsBookMap, IsMapOf, IsMaplessText, IsMaplessBook};
 
 use crate::book_checks::{is_book, tell_unread_book};
 use crate::map_texts::{MapFault, UNENDED, scenario_map};
@@ -37,7 +37,8 @@ enum TextFault {
 
 /// What a scenario with this map says.
 fn known_with(alloc: Global, map: Map, text: &[u8]) -> Result<Known, TextFault>
-    ensures { IfOk result (λ known. known.map ≡ map) }
+    ensures known { IfOk result (λ known. known.map ≡ map) }
+    ensures memory { IfErr result (λ fault. fault ≡ TextFault.Memory) }
 {
     match known_of(alloc, map, text) {
         Ok(known) => Ok(known),
@@ -48,7 +49,8 @@ fn known_with(alloc: Global, map: Map, text: &[u8]) -> Result<Known, TextFault>
 /// The map of a plan, where its header isn't a scenario's: its epoch is a date. `line` and `reason` are what is wrong with it as a scenario's.
 fn plan_map(alloc: Global, text: &[u8], line: u32, reason: u8) -> Result<Known, TextFault>
     requires { map_said text.now ≡ None }
-    ensures { IfOk result (λ known. IsPlanMap text.now known.map) }
+    ensures known { IfOk result (λ known. IsPlanMap text.now known.map) }
+    ensures none { IfErr result (λ fault. fault ≢ TextFault.Memory → IsMaplessText text.now) }
 {
     if text.len() > MOST_TEXT {
         return Err(TextFault::Line { line, reason });
@@ -68,7 +70,8 @@ fn plan_map(alloc: Global, text: &[u8], line: u32, reason: u8) -> Result<Known, 
 
 /// The map of a scenario or a plan.
 fn text_map(alloc: Global, text: &[u8]) -> Result<Known, TextFault>
-    ensures { IfOk result (λ known. IsMapOf text.now known.map) }
+    ensures known { IfOk result (λ known. IsMapOf text.now known.map) }
+    ensures none { IfErr result (λ fault. fault ≢ TextFault.Memory → IsMaplessText text.now) }
 {
     match scenario_map(alloc, text) {
         Ok(map) => known_with(alloc, map, text),
@@ -114,7 +117,8 @@ fn tell_line<R: Eprint>(rt: &R, name: &str, text: &[u8], line: u32, reason: u8) 
 
 /// Tells why a scenario or a plan gives no map.
 fn tell_text<R: Eprint>(rt: &R, name: &str, text: &[u8], fault: TextFault) -> Status
-    ensures { (result ≢ statuses.Done) × (result ≢ statuses.FileRefused) }
+    ensures { ((result ≡ statuses.ScenarioRefused) × (fault ≢ TextFault.Memory))
+        ⊎ (result ≡ statuses.NoMemory) }
 {
     match fault {
         TextFault::Plan(fault) => {
@@ -134,7 +138,9 @@ fn book_map<R: Eprint + AllocGlobal>(rt: &R, name: &str, text: &[u8]) -> Result<
     requires short { 1 + length text.now < 2 ^ 32 }
     requires book { is_book_text text.now ≡ true }
     ensures known { IfOk result (λ known. IsBookMap text.now known.map) }
-    ensures status { IfErr result (λ status. status ≢ statuses.Done) }
+    ensures status { IfErr result (λ status. (status ≡ statuses.FileRefused)
+        ⊎ ((status ≡ statuses.ScenarioRefused) × IsMaplessBook text.now)
+        ⊎ (status ≡ statuses.NoMemory)) }
 {
     let book = match read_book(rt.alloc(), &book_forms(), text) {
         Ok(book) => book,
@@ -165,6 +171,10 @@ pub(crate) fn read_map<R: Eprint + AllocGlobal, W: Workspace>(
     ensures status { IfErr result (λ status. status ≢ statuses.Done) }
     ensures refused { IfErr result (λ status. status ≡ statuses.FileRefused
         → (before : Held) → W.held workspace.old ≡ Some before → IsBookNamed path.now before) }
+    ensures scenario { IfErr result (λ status. status ≡ statuses.ScenarioRefused
+        → (before : Held) → W.held workspace.old ≡ Some before → IsMaplessNamed path.now before) }
+    ensures others { IfErr result (λ status. (status ≢ statuses.WordsRefused)
+        × (status ≢ statuses.Unwanted)) }
 {
     let name = input_name(path);
     let text = match read_input(rt.alloc(), workspace, path) {

@@ -11,7 +11,7 @@ returns-in-Ok g c = λ before told.
 pub returns-in-Err : goal.returns-in-Err
 returns-in-Err g c = λ before told.
     checks_unmapped c.args.check.now c.in-Some.path c.in-Err.status c.check_all.result before (g.W.Workspace.held c.read_map.new.workspace) (g.W.Workspace.held c.check_all.new.workspace) c.in-Some.is
-    c.in-Err.ensures.status (λ refused. c.in-Err.ensures.refused refused before told) (c.read_map.ensures.held ∙ ap (λ (o : Option Held). option_map (input_taken c.in-Some.path.now) o) told) c.check_all.ensures
+    c.in-Err.ensures.status (λ refused. c.in-Err.ensures.refused refused before told) (λ refused. c.in-Err.ensures.scenario refused before told) c.in-Err.ensures.others (c.read_map.ensures.held ∙ ap (λ (o : Option Held). option_map (input_taken c.in-Some.path.now) o) told) c.check_all.ensures
 
 pub returns-in-None : goal.returns-in-None
 returns-in-None g c = λ before told.

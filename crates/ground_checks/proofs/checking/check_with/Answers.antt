@@ -7,4 +7,4 @@ use Rattle.ground_checks.proofs.checking.check_with.Goals as goal
 pub returns : goal.returns
 returns g c = λ before told.
     checked_behind _ c.tell_map-first.result statuses.Done c.check_all.result (names_of c.args.files.now) before (g.W.Workspace.held c.tell_map-first.new.workspace) (g.W.Workspace.held c.check_all.new.workspace)
-    (c.tell_map-first.ensures.kept before told) (λ e. refl) c.tell_map-first.ensures.status c.check_all.ensures
+    (c.tell_map-first.ensures.kept before told) refl c.tell_map-first.ensures.status c.check_all.ensures
