@@ -24,6 +24,17 @@ const NAME: usize = 76;
 
 const NAME_BYTES: usize = 40;
 
+/// Whether a line is one of a manifest, by what stands behind its first word: the third word counts bytes, where a text has a key.
+fn is_in_manifest(rest: &[u8]) -> bool {
+    let Some((_, rest)) = split_word(rest) else {
+        return false;
+    };
+    match split_word(rest) {
+        Some((third, _)) => third.iter().all(|byte| byte.is_ascii_digit()),
+        None => false,
+    }
+}
+
 /// What a text is that was given in the place of a file; none where that isn't known.
 fn text_hint(file: &[u8]) -> Option<&'static str> {
     if file.len() > MOST_BYTES {
@@ -35,10 +46,13 @@ fn text_hint(file: &[u8]) -> Option<&'static str> {
     let Some(line) = next_line(file, 1) else {
         return None;
     };
-    let Some((word, _)) = split_word(line.bytes) else {
+    let Some((word, rest)) = split_word(line.bytes) else {
         return None;
     };
     if word == b"table".as_slice() || word == b"load".as_slice() {
+        if is_in_manifest(rest) {
+            return Some("it is the manifest of a book: the files are taken that it names");
+        }
         return Some("it is a text: `groundkit table` makes the file of it");
     }
     if word == b"epoch".as_slice() {

@@ -13,16 +13,8 @@ const FILE_MARK: &[u8] = b"cFE1";
 /// A byte order mark, which some editors put in front of a text.
 const ORDER_MARK: &[u8] = b"\xEF\xBB\xBF";
 
-/// Whether a line has a third word, by what stands behind the first one.
-fn has_third(rest: &[u8]) -> bool {
-    match split_word(rest) {
-        Some((_, rest)) => split_word(rest).is_some(),
-        None => false,
-    }
-}
-
-/// What a text is by the first word of its first line, and by what stands behind that word.
-fn text_kind(word: &[u8], rest: &[u8]) -> Option<&'static str> {
+/// What a text is by the first word of its first line.
+fn text_kind(word: &[u8]) -> Option<&'static str> {
     if word == b"epoch".as_slice() {
         return Some(
             "it is a scenario or a plan, where a log is wanted: `groundkit run` rehearses a scenario",
@@ -36,15 +28,12 @@ fn text_kind(word: &[u8], rest: &[u8]) -> Option<&'static str> {
             "it is a log in sentences, where the log itself is wanted: `groundkit run --log FILE` keeps it",
         );
     }
-    if word != b"table".as_slice() && word != b"load".as_slice() {
-        return None;
+    if word == b"table".as_slice() || word == b"load".as_slice() {
+        return Some(
+            "it is the text of a table or of a load, or the manifest of a book, where a log is wanted",
+        );
     }
-    if has_third(rest) {
-        return Some("it is the manifest of a book, where a log is wanted");
-    }
-    Some(
-        "it is the text of a table or of a load, where a log is wanted: `groundkit table` makes the file of it",
-    )
+    None
 }
 
 /// What a file is that isn't a log, by its first bytes; none where that isn't known.
@@ -58,6 +47,6 @@ pub(crate) fn other_file(begin: &[u8]) -> Option<&'static str> {
         );
     }
     let line = next_line(front(begin, MOST_BYTES), 1)?;
-    let (word, rest) = split_word(line.bytes)?;
-    text_kind(word, rest)
+    let (word, _) = split_word(line.bytes)?;
+    text_kind(word)
 }
