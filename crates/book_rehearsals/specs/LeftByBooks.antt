@@ -1,11 +1,10 @@
 -- What the rehearsal of a book leaves in a workspace.
-use Rattle.std.specs.Prelude.{◌≡◌, ◌≢◌, ℕ, ◌+◌, ◌≤◌, ◌^◌, List, [], length, map, Ok, Err, Option, Some, ◌⊎◌}
+use Rattle.std.specs.Prelude.{◌≡◌, ◌≢◌, ℕ, List, [], map, Ok, Option, ◌⊎◌}
 use Rattle.fsw_outside.specs.MemShelf.{told_content, has_open_file, fault_count, marked_faults}
 use Rattle.fsw_outside.specs.declared.mem_shelf.MemShelf.{MemShelf}
 use Rattle.telecommands.specs.Dictionary.{dictionary, placed}
 use Rattle.table_forms.specs.Layouts.{placed as placed_layouts, all_layouts}
 use Rattle.load_texts.specs.Headers.{placed_field, all_fields}
-use Rattle.load_books.specs.declared.fault.BookFault.{BookFault}
 use Rattle.load_books.specs.declared.forms.BookForms.{BookForms}
 use Rattle.load_books.specs.Books.{BookMade, book_said}
 use Rattle.rehearsal.specs.Promise.{ShelfUse, shelf_use}
@@ -13,6 +12,7 @@ use Rattle.ground_files.specs.declared.verb_status.Status.{Status}
 use Rattle.ground_files.specs.declared.verb_status.Status.TheVariants as statuses
 use Rattle.ground_files.specs.Workspaces.{Held, input_bytes, input_taken}
 use Rattle.ground_files.specs.Verbs.{KeepsAllFiles}
+use Rattle.ground_books.specs.Placed.{IsTextRefused}
 use Rattle.ground_runs.specs.declared.asked_run.Run.{Run}
 use Rattle.ground_runs.specs.AskedWords.{front_of}
 use Rattle.ground_runs.specs.KeptLogs.{staged, EndsRun}
@@ -22,36 +22,21 @@ use Rattle.book_rehearsals.specs.ShelvedBooks.{IsShelved}
 abbrev pub memory_use : MemShelf → MemShelf → ShelfUse MemShelf
 memory_use shelf = shelf_use told_content has_open_file fault_count marked_faults shelf
 
--- The forms by which books are read: the commands, the layouts and the fields of the documents.
-pub record AreForms (forms : BookForms) : Type 0 where
-  pub commands : map placed forms.commands.now ≡ dictionary
-  pub layouts : placed_layouts forms.layouts.now ≡ all_layouts
-  pub fields : map placed_field forms.fields.now ≡ all_fields
-
 -- The book that a text says is on a shelf, and these are the words for it.
 pub record ShelvesText (text : List ℕ) (front : List (List ℕ)) (shelf : MemShelf) (words : List (List ℕ)) : Type 0 where
   pub forms : BookForms
-  pub are_forms : AreForms forms
+  pub commands : map placed forms.commands.now ≡ dictionary
+  pub layouts : placed_layouts forms.layouts.now ≡ all_layouts
+  pub fields : map placed_field forms.fields.now ≡ all_fields
   pub book : BookMade
   pub is_said : book_said forms text ≡ Ok book
   pub shelved : IsShelved book front shelf words
-
--- A text says no book, for this fault.
-pub record SaysNoBook (text : List ℕ) : Type 0 where
-  pub forms : BookForms
-  pub are_forms : AreForms forms
-  pub fault : BookFault
-  pub is_said : book_said forms text ≡ Err fault
-
--- A text is refused as a book: it is longer than any, or says none.
-abbrev pub IsNoBook : List ℕ → Type 0
-IsNoBook text = (2 ^ 32 ≤ 1 + length text) ⊎ SaysNoBook text
 
 -- The text that the words name was read, and is refused as a book; no file is another.
 pub record RefusesBook (run : Run) (before : Held) (after : Option Held) : Type 0 where
   pub text : List ℕ
   pub is_input : input_bytes run.scenario.now before ≡ Some text
-  pub is_refused : IsNoBook text
+  pub is_refused : IsTextRefused text
   pub kept : KeepsAllFiles before after
 
 -- The text that the words name was read, and the book that it says was rehearsed from a shelf that has its own files: so that ended.
@@ -82,4 +67,4 @@ EndsBook run statuses.Unwanted before after = RehearsesBook run statuses.Unwante
 
 -- a book isn't made ready: its text is refused, or memory ran out
 abbrev pub IsUnready : List ℕ → Status → Type 0
-IsUnready text status = ((status ≡ statuses.FileRefused) × IsNoBook text) ⊎ (status ≡ statuses.NoMemory)
+IsUnready text status = ((status ≡ statuses.FileRefused) × IsTextRefused text) ⊎ (status ≡ statuses.NoMemory)

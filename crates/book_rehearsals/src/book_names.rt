@@ -1,15 +1,13 @@
 //! Which names are those of books, and from when scenarios count.
 
 ghost use Rattle.std.specs.Prelude.{◌≡◌, ◌++◌, ◌∷◌, ℕ, List, Some, true, option_map, IfOk, IfSome};
-ghost use Rattle.load_books.specs.Books.{is_book_text};
 ghost use Rattle.ground_files.specs.Workspaces.{Held};
 ghost use Rattle.book_rehearsals.specs.Beginnings.{IsShort, SharesFirst, BeginsText, TakesMore, GivesBeginning, TellsBook, TellsEpoch};
 
 use crate::epochs::epoch_of;
 use ground_files::Workspace;
-use ground_making::MOST_BYTES;
+use ground_making::{MOST_BYTES, is_book};
 use ground_runs::{Run, can_be_read_again};
-use load_books::is_book_text;
 use std::alloc::Global;
 use std::io::{self, ErrorKind, Read};
 use table_texts::next_line;
@@ -97,13 +95,6 @@ fn beginning_of<W: Workspace>(
     }
     let mut file = workspace.open(path)?;
     Ok(Some(read_beginning(alloc, &mut file)?))
-}
-
-/// Whether bytes are the text of a book, and no more than one has.
-fn is_book(bytes: &[u8]) -> bool
-    ensures { IsShort bytes.now → result ≡ is_book_text bytes.now }
-{
-    bytes.len() <= MOST_BYTES && is_book_text(bytes)
 }
 
 /// Whether a rehearsal's scenario is the name of a book: of a file whose first line that says something begins with `book`. Only the

@@ -4,7 +4,8 @@ ghost use Rattle.std.specs.Prelude.{◌≡◌, ◌⊎◌, Some, IfOk, IfErr};
 ghost use Rattle.ground_files.specs.Workspaces.{Held};
 ghost use Rattle.ground_runs.specs.AskedWords.{front_of};
 ghost use Rattle.ground_runs.specs.KeptLogs.{staged, EndsRun};
-ghost use Rattle.book_rehearsals.specs.LeftByBooks.{memory_use, ShelvesText, IsNoBook, IsUnready, EndsBook};
+ghost use Rattle.ground_books.specs.Placed.{IsTextRefused};
+ghost use Rattle.book_rehearsals.specs.LeftByBooks.{memory_use, ShelvesText, IsUnready, EndsBook};
 
 use crate::book_causes::BookTeller;
 use crate::epochs::epoch_of;
@@ -30,7 +31,8 @@ struct ReadyBook<'a> {
 fn shelved<'a>(alloc: Global, text: &'a [u8], words: &mut Words) -> Result<ShelvedBook<'a>, Refusal>
     ensures shelved { IfOk result (λ shelved. ShelvesText text.now words.old shelved.shelf
         words.new) }
-    ensures refused { IfErr result (λ refusal. (refusal ≡ Refusal.Memory) ⊎ IsNoBook text.now) }
+    ensures refused { IfErr result (λ refusal. (refusal ≡ Refusal.Memory)
+        ⊎ IsTextRefused text.now) }
 {
     if text.len() > MOST_BYTES {
         return Err(Refusal::Long);
@@ -49,7 +51,7 @@ fn refuse_book<R: Eprint + AllocGlobal>(
     text: &[u8],
     refusal: &Refusal,
 ) -> Status
-    ensures { (refusal.now ≡ Refusal.Memory) ⊎ IsNoBook text.now → IsUnready text.now result }
+    ensures { (refusal.now ≡ Refusal.Memory) ⊎ IsTextRefused text.now → IsUnready text.now result }
 {
     let status = tell_refusal(rt, name, text, refusal);
     if let Refusal::Memory = refusal {
