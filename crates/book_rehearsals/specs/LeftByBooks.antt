@@ -1,5 +1,5 @@
 -- What the rehearsal of a book leaves in a workspace.
-use Rattle.std.specs.Prelude.{◌≡◌, ◌≢◌, ℕ, List, [], map, Ok, Option, ◌⊎◌}
+use Rattle.std.specs.Prelude.{◌≡◌, ◌≢◌, ℕ, List, [], map, Ok, Option, Some, ◌⊎◌}
 use Rattle.fsw_outside.specs.MemShelf.{told_content, has_open_file, fault_count, marked_faults}
 use Rattle.fsw_outside.specs.declared.mem_shelf.MemShelf.{MemShelf}
 use Rattle.telecommands.specs.Dictionary.{dictionary, placed}
