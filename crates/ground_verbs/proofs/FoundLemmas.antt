@@ -1,6 +1,6 @@
 -- What clap found, and what its definitions say of the words.
-use Rattle.std.proofs.Common.{◌≡◌, ◌∙◌, ◌⊎◌, inl, inr, ℕ, true, List, [], Option, Some, None, refl, sym, ap, subst}
-use Rattle.std.specs.Prelude.{option_map, Box, IfSome}
+use Rattle.std.proofs.Common.{◌≡◌, ◌∙◌, ◌⊎◌, ℕ, true, List, [], Option, Some, None, refl, sym, ap, subst}
+use Rattle.std.specs.Prelude.{option_map, Box}
 use Rattle.std.specs.Box.{box_value}
 use Rattle.clap.specs.Walk.{Row}
 use Rattle.clap.specs.Kinds.{IsAmong}
@@ -57,14 +57,3 @@ pub some_fault : (shells : Option ValueParser) (app : App) (words : List (List �
     → (kind ≡ kinds.OutOfMemory) ⊎ IsAmong kind (fault_of (groundkit_app shells) words)
 some_fault shells app words kind is some = subst (λ (a : App). (kind ≡ kinds.OutOfMemory) ⊎ IsAmong kind (fault_of a words)) is
     (some (ap is_simple_and_free is ∙ reads_freely shells))
-
--- ---- what a rehearsal leaves
-
-module _ {A : Type 0} (P Q : A → Type 0) where
-  pub first_holds : (o : Option A) → IfSome o P → IfSome o (λ x. P x ⊎ Q x)
-  first_holds None holds = holds
-  first_holds (Some x) holds = inl holds
-
-  pub second_holds : (o : Option A) → IfSome o Q → IfSome o (λ x. P x ⊎ Q x)
-  second_holds None holds = holds
-  second_holds (Some x) holds = inr holds
