@@ -130,11 +130,19 @@ impl Dwell {
         match first_fault::<DwellEntry>(payload) {
             Some(fault) => Some(fault),
             None => {
-                self.enabled = enabled == 1;
-                self.plan.read(payload);
+                self.store(payload);
                 None
             }
         }
+    }
+
+    /// Stores the table of a payload in this one. It asks none of the entries for a fault.
+    pub fn store(&mut self, payload: &[u8])
+        requires { length payload.now ≡ 204 }
+        ensures { self.new ≡ dwell_of payload.now }
+    {
+        self.enabled = be16(payload, 0) == 1;
+        self.plan.read(payload);
     }
 
     /// Whether the enabled flag is 1.
