@@ -1,5 +1,5 @@
 -- The places that were written so far, and what was read.
-use Rattle.std.proofs.Common.{◌≡◌, ℕ, ◌+◌, ◌-◌, ◌*◌, ◌^◌, ◌<◌, ◌≤◌, Bool, true, false, List, [], ◌∷◌, ◌++◌, length, take, drop, set, replicate, Option, Some, None, Ok, Err, refl, sym, ◌∙◌, subst, arith, length-take-le}
+use Rattle.std.proofs.Common.{◌≡◌, ℕ, ◌+◌, ◌-◌, ◌*◌, ◌^◌, ◌<◌, ◌≤◌, Bool, true, false, List, [], ◌∷◌, ◌++◌, length, take, drop, set, replicate, Option, Some, None, Ok, Err, refl, sym, ◌∙◌, subst, arith, length-take-le, ap}
 use Rattle.std.specs.Prelude.{◌==◌, nat_eq, is_none}
 use Rattle.std.specs.List.{All, IsDistinct, list_all}
 use Rattle.std.proofs.lemmas.Cmp.{nat_eq_equiv}
@@ -12,9 +12,9 @@ use Rattle.sc_tables.specs.declared.absolute.Place.{Place}
 use Rattle.sc_tables.specs.declared.reasons.EntryReason.{EntryReason}
 use Rattle.table_files.specs.declared.fault.EntryFault.{EntryFault}
 use Rattle.sc_tables.specs.Reasons.{reason_number}
-use Rattle.sc_tables.specs.Grammar.{is_end}
-use Rattle.sc_tables.specs.Absolute.{timed_at, timed_size, timed_reason, timed_form, numbers_of, is_used, stored_ats}
-use Rattle.sc_tables.specs.Relative.{relative_at, relative_size, relative_reason, relative_form, stored_rts}
+use Rattle.sc_tables.specs.Grammar.{is_end, fault_in}
+use Rattle.sc_tables.specs.Absolute.{timed_at, timed_size, timed_reason, timed_form, numbers_of, is_used, stored_ats, ats_fault_of}
+use Rattle.sc_tables.specs.Relative.{relative_at, relative_size, relative_reason, relative_form, stored_rts, rts_fault_of}
 use Rattle.sc_tables.specs.Places.{timed_in, relatives_in, IsPlaced, ArePlaced, AreWhole, AreFlags, AreStored}
 use Rattle.sc_tables.proofs.Fronts.{timed_front, timed_sized, timed_unused, timed_alone, relative_front, relative_sized}
 use Rattle.sc_tables.proofs.Flags.{no_flags, flag_more, few_numbers}
@@ -108,6 +108,24 @@ one_relative_read payload places at size read going accepted is =
       whole = All-push (λ (a : ℕ). is_none (relative_reason (drop a payload)) ≡ true) places at read.whole passes;
     }
 
+-- where no entry has a fault, the next one has no reason to be refused
+pub unfaulted : (payload : List ℕ) (places : List Place) (used : List Bool) (at : ℕ) → ats_fault_of payload ≡ None → AreRead payload places used at → is_end (drop at payload) ≡ false
+    → timed_reason (timed_in payload places) (drop at payload) ≡ None
+unfolding ats_fault_of stored_ats
+unfaulted payload places used at well read going = by_reason (timed_reason (timed_in payload places) (drop at payload)) refl
+  where
+    by_reason : (o : Option EntryReason) → timed_reason (timed_in payload places) (drop at payload) ≡ o → o ≡ None
+    by_reason None is = refl
+    by_reason (Some reason) is = let fault = sym (ap fault_in (read_fault timed_form payload (timed_in payload places) at reason read.so_far going is)) ∙ well in cc
+
+pub relative_unfaulted : (payload places : List ℕ) (at : ℕ) → rts_fault_of payload ≡ None → AreReadRelative payload places at → is_end (drop at payload) ≡ false → relative_reason (drop at payload) ≡ None
+unfolding rts_fault_of stored_rts
+relative_unfaulted payload places at well read going = by_reason (relative_reason (drop at payload)) refl
+  where
+    by_reason : (o : Option EntryReason) → relative_reason (drop at payload) ≡ o → o ≡ None
+    by_reason None is = refl
+    by_reason (Some reason) is = let fault = sym (ap fault_in (read_fault relative_form payload (relatives_in payload places) at reason read.so_far going is)) ∙ well in cc
+
 -- What the tests of a turn say: whether the end is reached, and that the next entry has no reason to be refused.
 pub end_tested : (payload : List ℕ) (at : ℕ) (test ended : Bool) → test ≡ list_all (λ (b : ℕ). b == 0) (take (length payload - at) (drop at payload)) → test ≡ ended → is_end (drop at payload) ≡ ended
 unfolding is_end
@@ -155,6 +173,13 @@ next_is payload places count used at test answer whole few read tested going rea
       few = rw rest sized.most;
       far = omega arith;
     }
+
+-- the next entry of a payload without a fault
+pub next_well : (payload : List ℕ) (places : List Place) (count : ℕ) (used : List Bool) (at : ℕ) (test : Bool) → ats_fault_of payload ≡ None → length places ≡ 1000 → count ≤ 1000 → AreRead payload (take count places) used at
+    → test ≡ list_all (λ (b : ℕ). b == 0) (take (length payload - at) (drop at payload)) → test ≡ false → IsNext payload places count at
+next_well payload places count used at test well whole few read tested going =
+    let accepted = unfaulted payload (take count places) used at well read (end_tested payload at test false tested going) in
+    next_is payload places count used at test None whole few read tested going (rw (take_rest payload at) (sym accepted)) refl
 
 pub one_more : (payload : List ℕ) (places : List Place) (count : ℕ) (used : List Bool) (p : Place) (size : ℕ) → length places ≡ 1000 → AreRead payload (take count places) used p.at → IsNext payload places count p.at
     → p.tag ≡ be32_at (take (length payload - p.at) (drop p.at payload)) 2 → p.number ≡ be16_at (take (length payload - p.at) (drop p.at payload)) 0 → size ≡ timed_size (take (length payload - p.at) (drop p.at payload))
@@ -211,6 +236,12 @@ next_relative_is payload places count at test answer short whole few read tested
       size = rw rest (omega arith);
       some = rw rest sized.least;
     }
+
+pub next_relative_well : (payload places : List ℕ) (count at : ℕ) (test : Bool) → rts_fault_of payload ≡ None → length payload ≤ 2048 → length places ≡ 204 → count ≤ 204 → AreReadRelative payload (take count places) at
+    → test ≡ list_all (λ (b : ℕ). b == 0) (take (length payload - at) (drop at payload)) → test ≡ false → IsNextRelative payload places count at
+next_relative_well payload places count at test well short whole few read tested going =
+    let accepted = relative_unfaulted payload (take count places) at well read (end_tested payload at test false tested going) in
+    next_relative_is payload places count at test None short whole few read tested going (rw (take_rest payload at) (sym accepted)) refl
 
 pub one_more_relative : (payload places : List ℕ) (count at size : ℕ) → length places ≡ 204 → AreReadRelative payload (take count places) at → IsNextRelative payload places count at
     → size ≡ relative_size (take (length payload - at) (drop at payload))

@@ -81,6 +81,40 @@ fn read_places(payload: &[u8], places: &mut [Place]) -> Result<usize, EntryFault
     Ok(count)
 }
 
+/// Writes where the entries of a payload without a fault stand, by time and then by number, and answers how many there are.
+pub(crate) fn store_in_order(payload: &[u8], places: &mut [Place; COMMANDS]) -> usize
+    requires { ats_fault_of payload.now ≡ None }
+    ensures ordered { AreOrdered payload.now (take result places.new) }
+    ensures few { result ≤ 1000 }
+{
+    let count = store_places(payload, places);
+    put_in_order(&mut places[..count]);
+    count
+}
+
+/// Writes where the entries of a payload without a fault stand, as they are stored, and answers how many there are. It asks none of them
+/// for a fault.
+fn store_places(payload: &[u8], places: &mut [Place]) -> usize
+    requires places { length places.old ≡ 1000 }
+    requires well { ats_fault_of payload.now ≡ None }
+    ensures stored { AreStored payload.now (take result places.new) }
+    ensures few { result ≤ 1000 }
+{
+    let mut count = 0;
+    let mut at = 0;
+    'entries: while !are_zeros(&payload[at..]) {
+        let rest = &payload[at..];
+        places[count] = Place {
+            tag: be32(rest, 2),
+            number: be16(rest, 0),
+            at: at as u32,
+        };
+        count += 1;
+        at += timed_size(rest);
+    }
+    count
+}
+
 /// The fault of the entry behind so many others.
 fn fault_behind(count: usize, reason: EntryReason) -> EntryFault
     requires { count ≤ 1000 }
@@ -142,4 +176,25 @@ pub(crate) fn read_relative_places(payload: &[u8], places: &mut [u16]) -> Result
         at += relative_size(rest);
     }
     Ok(count)
+}
+
+/// Writes where the entries of a payload without a fault stand, and answers how many there are. It asks none of them for a fault.
+pub(crate) fn store_relative_places(payload: &[u8], places: &mut [u16]) -> usize
+    requires payload { length payload.now ≤ 2048 }
+    requires places { length places.old ≡ 204 }
+    requires well { rts_fault_of payload.now ≡ None }
+    ensures stored { stored_rts payload.now
+        ≡ Ok (relatives_in payload.now (take result places.new)) }
+    ensures whole { AreWhole payload.now (take result places.new) }
+    ensures few { result ≤ 204 }
+{
+    let mut count = 0;
+    let mut at = 0;
+    'entries: while !are_zeros(&payload[at..]) {
+        let rest = &payload[at..];
+        places[count] = at as u16;
+        count += 1;
+        at += relative_size(rest);
+    }
+    count
 }

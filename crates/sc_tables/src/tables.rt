@@ -1,5 +1,5 @@
 //! The tables of Stored Command.
-ghost use Rattle.std.specs.Prelude.{◌≡◌, ◌+◌, ◌-◌, ◌<◌, ◌≤◌, length, map, slice_set, Some, IfSome, IfNone};
+ghost use Rattle.std.specs.Prelude.{◌≡◌, ◌+◌, ◌-◌, ◌<◌, ◌≤◌, length, map, slice_set, Some, None, IfSome, IfNone};
 ghost use Rattle.sc_tables.specs.Absolute.{ats_of, ats_fault_of};
 ghost use Rattle.sc_tables.specs.Relative.{rts_of, rts_fault_of};
 ghost use Rattle.sc_tables.specs.Commands.{of_timed, of_relative, AreTables, commands_in, command_at};
@@ -7,7 +7,7 @@ ghost use Rattle.sc_tables.specs.Sequences.{ats_commands, rts_commands, tables_o
 
 use crate::absolute::Place;
 use crate::ats::{Ats, COMMANDS};
-use crate::loading::{read_in_order, read_relative_places};
+use crate::loading::{read_in_order, read_relative_places, store_in_order, store_relative_places};
 use crate::rts::{COMMANDS as RELATIVE_COMMANDS, Rts};
 use crate::sets::RtsSet;
 use packet_forms::Packet;
@@ -84,6 +84,29 @@ impl<'f> ScTables<'f> {
                 None
             }
         }
+    }
+
+    /// Stores absolute time sequence n, 1 or 2, of a payload without a fault. It asks none of the entries for one.
+    pub fn store_ats(&mut self, n: u8, payload: &'f [u8])
+        requires number { (1 ≤ n) × (n ≤ 2) }
+        requires well { ats_fault_of payload.now ≡ None }
+        ensures { self.new ≡ slice_set self.old (n - 1) (map of_timed (ats_of payload.now)) }
+    {
+        let mut places = [Place::BLANK; COMMANDS];
+        let count = store_in_order(payload, &mut places);
+        self.put_ats(n, Ats::of(payload, places, count));
+    }
+
+    /// Stores relative time sequence n, from 1 to 64, of a payload without a fault. It asks none of the entries for one.
+    pub fn store_rts(&mut self, n: u8, payload: &'f [u8])
+        requires number { (1 ≤ n) × (n ≤ 64) }
+        requires size { length payload.now ≤ 2048 }
+        requires well { rts_fault_of payload.now ≡ None }
+        ensures { self.new ≡ slice_set self.old (n + 1) (map of_relative (rts_of payload.now)) }
+    {
+        let mut places = [0; RELATIVE_COMMANDS];
+        let count = store_relative_places(payload, &mut places);
+        self.put_rts(n, Rts::of(payload, places, count));
     }
 
     /// Names absolute time sequence n, 1 or 2.
