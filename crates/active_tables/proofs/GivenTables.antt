@@ -1,5 +1,5 @@
 -- Where no entry of the files is refused, memory gives what their tables read.
-use Rattle.std.proofs.Common.{◌≡◌, ℕ, ◌+◌, ◌-◌, ◌<◌, length, get_or, true, List, [], ◌∷◌, replicate, map, Option, Some, None, refl, sym, ◌∙◌, ap, subst}
+use Rattle.std.proofs.Common.{◌≡◌, ℕ, ◌+◌, ◌-◌, ◌<◌, length, get_or, true, List, [], ◌∷◌, replicate, map, zero, suc, Option, Some, None, option_map, refl, sym, ◌∙◌, ap, subst}
 use Rattle.std.specs.Prelude.{slice_set}
 use Rattle.std.specs.List.{AllPass}
 use Rattle.std.proofs.lemmas.List.Elements.{All-set, All-replicate}
@@ -28,8 +28,9 @@ use Rattle.cs_slices.specs.Given.{is_given as is_segment_given, first_refused as
 use Rattle.cs_slices.proofs.Refusing.{none_refused as no_segment_refused}
 use Rattle.table_files.specs.declared.kinds.TableKind.{TableKind}
 use Rattle.table_files.specs.declared.kinds.TableKind.TheVariants.{AppMon, EventMon, ExeCount, MsgActs, Ats, Rts, Dwell, Eeprom, Memory, Wdt, Adt}
-use Rattle.table_files.specs.Headers.{kind_of_file, payload_of_file}
-use Rattle.active_tables.specs.Tables.{TableSet, Loaded, AreLoaded, AreGiven, SetGiven, blank_tables, by_kind, by_file, with_table, with_file, tables_of, said_or, first_said, refused_entry, refused_in, tables_fault, region_fault}
+use Rattle.table_files.specs.Headers.{kind_of_file, payload_of_file, file_fault_of}
+use Rattle.table_files.specs.Files.{file_at}
+use Rattle.active_tables.specs.Tables.{TableSet, Loaded, AreLoaded, AreGiven, SetGiven, blank_tables, by_kind, by_file, with_table, with_file, tables_of, said_or, first_said, refused_entry, refused_in, entry_fault_in, fault_at, tables_fault, region_fault}
 
 -- one table more
 module _ (regions : List Region) (tables : TableSet) (given : SetGiven regions tables) where
@@ -90,6 +91,31 @@ module _ (regions : List Region) (tables : TableSet) (given : SetGiven regions t
 pub said_parts : {A : Type 0} (n : ℕ) (said : Option A) (behind : Option (ℕ × A)) → said_or n said behind ≡ None → (said ≡ None) × (behind ≡ None)
 said_parts n None behind none = (refl, none)
 said_parts n (Some said) behind none = cc
+
+-- nothing is said of any of these files, nor of none
+pub unsaid : {A : Type 0} (say : List ℕ → Option A) (files : List (List ℕ)) (n i : ℕ) → first_said say n files ≡ None → say [] ≡ None → say (get_or files i []) ≡ None
+unfolding first_said
+unsaid say [] n i none blank = blank
+unsaid say (file ∷ files) n i none blank =
+    let parts = said_parts n (say file) (first_said say (n + 1) files) none in
+    at_place i parts.0 (λ k. unsaid say files (n + 1) k parts.1 blank)
+  where
+    at_place : (i : ℕ) → say file ≡ None → ((k : ℕ) → say (get_or files k []) ≡ None) → say (get_or (file ∷ files) i []) ≡ None
+    at_place zero here behind = here
+    at_place (suc i) here behind = behind i
+
+-- the entries of a file without bytes have no fault, and those of a named file neither
+blank_well : entry_fault_in [] ≡ None
+unfolding by_file kind_of_file file_fault_of
+blank_well = refl
+
+none_at : (said : Option (ℕ × EntryFault)) → option_map fault_at said ≡ None → said ≡ None
+none_at None none = refl
+none_at (Some said) none = cc
+
+pub file_well : (files : List (List ℕ)) (n : ℕ) → tables_fault files ≡ None → entry_fault_in (file_at files n) ≡ None
+unfolding tables_fault
+file_well files n none = unsaid entry_fault_in files 1 (n - 1) (none_at (first_said entry_fault_in 1 files) none) blank_well
 
 -- blank tables
 blank_entries : (regions : List Region) → AllPass (is_given regions) (replicate 25 blank_entry)

@@ -110,16 +110,17 @@ impl<'f> Tables<'f> {
         self.files.kind(file)
     }
 
-    /// Makes the table of this FILE the active one of its kind.
+    /// Makes the table of this FILE the active one of its kind. Its entries have no fault, so they aren't asked for one again.
     pub fn activate(&mut self, file: u32)
-        requires { (kind : TableKind) × (kind_at self.old.files file ≡ Some kind) }
+        requires named { (kind : TableKind) × (kind_at self.old.files file ≡ Some kind) }
+        requires well { tables_fault self.old.files ≡ None }
         ensures { self.new ≡ record self.old {
           set = with_file self.old.set
               (file_at self.old.files file);
         } }
     {
         let files = self.files();
-        let _ = self.put_file(files.get(file));
+        self.store_file(files.get(file));
     }
 
     /// The files that were named.
@@ -214,6 +215,55 @@ impl<'f> Tables<'f> {
             TableKind::Wdt => self.wdt.read(payload),
             TableKind::Adt => self.adt.read(payload),
         }
+    }
+
+    /// Stores the table of a file without a fault in its place, if it is one.
+    fn store_file(&mut self, image: FileImage<'f>)
+        requires { (file : List ℕ) × Shows file image × (entry_fault_in file ≡ None) }
+        ensures { (file : List ℕ) → Shows file image.entry → entry_fault_in file ≡ None
+            → self.new ≡ record self.old { set = with_file self.old.set file } }
+    {
+        match image {
+            FileImage::Load { .. } => {}
+            FileImage::Table { kind, payload } => self.store(kind, payload),
+        }
+    }
+
+    /// Stores a table without a fault in its place. Entries of dwell tables and of sequences aren't asked for one; those of other tables
+    /// are, which costs next to nothing beside their reading.
+    fn store(&mut self, kind: TableKind, payload: &'f [u8])
+        requires table { IsTable kind (length payload.now) }
+        requires well { entry_fault kind payload.now ≡ None }
+        ensures { self.new ≡ record self.old
+            { set = with_table self.old.set kind payload.now } }
+    {
+        match kind {
+            TableKind::Dwell(n) => self.store_dwell(n, payload),
+            TableKind::Ats(n) => self.sc.store_ats(n, payload),
+            TableKind::Rts(n) => self.sc.store_rts(n, payload),
+            TableKind::AppMon
+            | TableKind::EventMon
+            | TableKind::ExeCount
+            | TableKind::MsgActs
+            | TableKind::Eeprom
+            | TableKind::Memory
+            | TableKind::Wdt
+            | TableKind::Adt => {
+                let _ = self.put(kind, payload);
+            }
+        }
+    }
+
+    /// Stores dwell table n, from 1 to 4, without a fault, in its place.
+    fn store_dwell(&mut self, n: u8, payload: &[u8])
+        requires number { (1 ≤ n) × (n ≤ 4) }
+        requires size { length payload.now ≡ 204 }
+        requires well { entry_fault (TableKind.Dwell n) payload.now ≡ None }
+        ensures { self.new ≡ record self.old
+            { set = with_table self.old.set (TableKind.Dwell n) payload.now } }
+    {
+        let dwells = &mut self.dwells[..];
+        dwells[n as usize - 1].store(payload);
     }
 
     /// Puts dwell table n, from 1 to 4, in its place.

@@ -1,6 +1,6 @@
 -- Tables that become active, and what of a bench goes on.
 use Rattle.std.proofs.lemmas.Bool.{false≢true}
-use Rattle.std.proofs.Common.{◌≡◌, ℕ, ◌+◌, ◌-◌, ◌≤◌, zero, suc, true, false, List, [], ◌∷◌, ◌++◌, get_or, set, arith, Option, Some, None, refl, sym, ◌∙◌, ap, subst, append-nil}
+use Rattle.std.proofs.Common.{◌≡◌, ℕ, ◌+◌, ◌-◌, ◌≤◌, zero, suc, true, false, List, [], ◌∷◌, ◌++◌, set, arith, Option, Some, None, refl, sym, ◌∙◌, ap, subst, append-nil}
 use Rattle.std.specs.Prelude.{map}
 use Rattle.histories.specs.Entries.Entry.{Activated}
 use Rattle.histories.proofs.Entries.{in_force_activated}
@@ -28,7 +28,7 @@ use Rattle.hs_monitors.specs.declared.state.Hs.{Hs}
 use Rattle.md_dwell.specs.Tables.{dwell_of, dwell_fault_of}
 use Rattle.std.specs.Prelude.{slice_set}
 use Rattle.table_files.specs.Entries.{where_well}
-use Rattle.active_tables.specs.Tables.{TableSet, with_table, by_file, with_file, refused_in, first_said, region_fault}
+use Rattle.active_tables.specs.Tables.{TableSet, with_table, by_file, with_file, refused_in, region_fault}
 use Rattle.std.proofs.lemmas.Bool.Decides.{nat_tests}
 use Rattle.std.proofs.lemmas.List.{set-set, set-get_or}
 use Rattle.cs_slices.specs.Tables.{TablePair, pair_of, segments_of, segments_fault_of}
@@ -49,7 +49,7 @@ use Rattle.sc_sequences.proofs.Activating.{kind_activated}
 use Rattle.table_files.specs.Kinds.{IsKnown}
 use Rattle.bus_pipes.specs.Counted.{is_item_counted}
 use Rattle.commands.proofs.Answering.{event_counted}
-use Rattle.active_tables.proofs.GivenTables.{said_parts}
+use Rattle.active_tables.proofs.GivenTables.{unsaid}
 use Rattle.app_suite.specs.Applications.{cs_tables, lc_setup}
 use Rattle.app_suite.specs.Activations.{can_activate, activated, hs_activated, cs_activated, sc_activated, tables_name, table_event}
 use Rattle.app_suite.specs.declared.activations.Naming.{Naming}
@@ -236,18 +236,6 @@ runs_kept begin history (Some a) (Some k) =
 pub with_kind : (tables : TableSet) (files : List (List ℕ)) (n : ℕ) (kind : TableKind) → kind_at files n ≡ Some kind → with_file tables (file_at files n) ≡ with_table tables kind (payload_of_file (file_at files n))
 unfolding by_file
 with_kind tables files n kind is = rw (((numbers_of_tables files n kind).0 is).2) refl
-
--- nothing is said of any of these files, nor of none
-unsaid : {A : Type 0} (say : List ℕ → Option A) (files : List (List ℕ)) (n i : ℕ) → first_said say n files ≡ None → say [] ≡ None → say (get_or files i []) ≡ None
-unfolding first_said
-unsaid say [] n i none blank = blank
-unsaid say (file ∷ files) n i none blank =
-    let parts = said_parts n (say file) (first_said say (n + 1) files) none in
-    at_place i parts.0 (λ k. unsaid say files (n + 1) k parts.1 blank)
-  where
-    at_place : (i : ℕ) → say file ≡ None → ((k : ℕ) → say (get_or files k []) ≡ None) → say (get_or (file ∷ files) i []) ≡ None
-    at_place zero here behind = here
-    at_place (suc i) here behind = behind i
 
 -- of a file without bytes nothing is said
 blank_unrefused : (regions : List Region) → refused_in regions [] ≡ None
