@@ -11,6 +11,9 @@ use Rattle.app_suite.proofs.Activating.{with_kind}
 use Rattle.frame_exec.proofs.Naming.{accepted_parts, naming_is, named_active, ready_active, given_next}
 use Rattle.frame_exec.proofs.bench.Bench.make_active.Goals as goal
 
+pub activate-requires-clause-well : goal.activate-requires-clause-well
+activate-requires-clause-well c = c.requires.ready.given.well
+
 pub hand_over-requires : goal.hand_over-requires
 hand_over-requires c =
     let files = c.args.self.now.tables.files in
