@@ -1,7 +1,8 @@
 -- A bench whose lines may wait, at one more frame and once they were handed on.
-use Rattle.std.proofs.Common.{◌≡◌, ℕ, ◌+◌, ◌-◌, ◌<◌, ◌≤◌, false, List, [], ◌∷◌, ◌++◌, length, take, sym, ◌∙◌, ap, subst, append-nil, append_assoc, length-append, zero-add, arith, Option, Some}
+use Rattle.std.proofs.Common.{◌≡◌, ℕ, ◌+◌, ◌-◌, ◌<◌, ◌≤◌, Bool, true, false, List, [], ◌∷◌, ◌++◌, length, take, sym, ◌∙◌, ap, subst, append-nil, append_assoc, length-append, zero-add, arith, Option, Some}
 use Rattle.std.specs.Prelude.{Result, Ok, Err, OnErr, MatchResult}
 use Rattle.std.proofs.Math.Seq.{take-append_seam}
+use Rattle.std.proofs.lemmas.Bool.{false≢true}
 use Rattle.fsw_outside.specs.Told.{WhereTold}
 use Rattle.packet_log.specs.Blocks.{Waiting, Notes, Puts, empty_block, late_in, ends_from, joined, tells}
 use Rattle.packet_log.proofs.Cuts.{ends_none, ends_more}
@@ -11,10 +12,14 @@ use Rattle.frame_exec.specs.declared.bench.Bench.{Bench}
 use Rattle.fsw_outside.specs.TellingLaws.{told_then}
 use Rattle.frame_runs.specs.Runs.{Setup, State, run_of, frame_lines, log_of}
 use Rattle.app_suite.specs.Jobs.{jobs_of}
-use Rattle.frame_exec.specs.Standing.{Has, IsReady, Stands, has_failed}
+use Rattle.frame_exec.specs.Standing.{Has, IsReady, IsNoted, Stands, has_failed}
 use Rattle.frame_exec.specs.Following.{lines_behind, Follows, IsCutAt, Adds}
 use Rattle.frame_wires.proofs.Handing.{notes_begin}
 use Rattle.frame_exec.proofs.Cutting.{behind_more, behind_none, late_later, late_some, cut_adding, cut_waiting}
+
+-- where it isn't noted that a bench is idle, what is noted holds
+pub not_noted : {A : Type 0} (idle : Bool) → idle ≡ false → idle ≡ true → A
+not_noted idle none noted = absurd (false≢true (sym none ∙ noted))
 
 -- nothing waits where no later frames are
 nothing_noted : (setup : Setup) (earlier : List Frame) → Notes (ends_from 0 (lines_behind setup earlier [])) (length (joined (lines_behind setup earlier []))) empty_block
@@ -35,19 +40,20 @@ pub ready_beside : (b : Bench) (block : Waiting) (jobs : b.apps.crew.jobs ≡ jo
 ready_beside b block jobs there told ready = record { sc = ready.sc; md = ready.md; given = ready.given }
 
 -- a bench whose block is empty stands for all frames as earlier ones
-pub begins_behind : (b : Bench) (setup : Setup) (frames : List Frame) → b.epoch ≡ setup.epoch → b.tables.files ≡ setup.files → has_failed b ≡ false → Has b (run_of setup frames) → IsReady b → b.lines.block ≡ empty_block → Follows b setup frames []
-begins_behind b setup frames epoch files well has ready empty = record {
+pub begins_behind : (b : Bench) (setup : Setup) (frames : List Frame) → b.epoch ≡ setup.epoch → b.tables.files ≡ setup.files → has_failed b ≡ false → Has b (run_of setup frames) → IsReady b → IsNoted b → b.lines.block ≡ empty_block → Follows b setup frames []
+begins_behind b setup frames epoch files well has ready idle empty = record {
   epoch = epoch;
   files = files;
   well = well;
   has = subst (λ (fs : List Frame). Has b (run_of setup fs)) (sym (append-nil frames)) has;
   ready = ready;
+  idle = idle;
   notes = subst (Notes (ends_from 0 (lines_behind setup frames [])) (length (joined (lines_behind setup frames [])))) (sym empty) (nothing_noted setup frames);
 }
 
 -- a bench that stands for frames follows them
 pub standing_follows : (b : Bench) (setup : Setup) (frames : List Frame) → Stands b setup frames → Follows b setup frames []
-standing_follows b setup frames stands = begins_behind b setup frames stands.epoch stands.files stands.well stands.has stands.ready stands.waits
+standing_follows b setup frames stands = begins_behind b setup frames stands.epoch stands.files stands.well stands.has stands.ready stands.idle stands.waits
 
 -- the ends and the size of the lines, with one later frame more
 pub notes_behind : (setup : Setup) (earlier later : List Frame) (frame : Frame) (block : Waiting)
@@ -95,9 +101,9 @@ adds_marked (Err error) text old middle new start between end puts told marked l
 
 -- one later frame more, whose lines were put behind those that wait
 pub follows_next : {E : Type 0} (b : Bench) (setup : Setup) (earlier later : List Frame) (frame : Frame) (text : List ℕ) (old new : Waiting) (before after : Option (List ℕ)) → b.epoch ≡ setup.epoch → b.tables.files ≡ setup.files → has_failed b ≡ false
-    → Has b (run_of setup ((earlier ++ later) ++ frame ∷ [])) → IsReady b → b.lines.block ≡ new → text ≡ frame_lines setup (earlier ++ later) frame
+    → Has b (run_of setup ((earlier ++ later) ++ frame ∷ [])) → IsReady b → IsNoted b → b.lines.block ≡ new → text ≡ frame_lines setup (earlier ++ later) frame
     → Notes (ends_from 0 (lines_behind setup earlier later)) (length (joined (lines_behind setup earlier later))) old → Adds {E = E} (Ok tt) text old new before after → Follows b setup earlier (later ++ frame ∷ [])
-follows_next b setup earlier later frame text old new before after epoch files well has ready same lines notes adds =
+follows_next b setup earlier later frame text old new before after epoch files well has ready idle same lines notes adds =
     let size : adds.count ≡ length (frame_lines setup (earlier ++ later) frame) = adds.size ∙ ap (length {A = ℕ}) lines in
     let given = length (joined (lines_behind setup earlier later)) in
     let ends = ends_from 0 (lines_behind setup earlier later) in
@@ -109,6 +115,7 @@ follows_next b setup earlier later frame text old new before after epoch files w
       well = well;
       has = subst (λ (frames : List Frame). Has b (run_of setup frames)) (append_assoc earlier later (frame ∷ [])) has;
       ready = ready;
+      idle = idle;
       notes = subst (Notes (ends_from 0 (lines_behind setup earlier (later ++ frame ∷ []))) (length (joined (lines_behind setup earlier (later ++ frame ∷ []))))) (sym same) (notes_behind setup earlier later frame new noted);
     }
 

@@ -34,7 +34,7 @@ use Rattle.active_tables.specs.Tables.{TableSet, Loaded, AreGiven, tables_of, lc
 use Rattle.app_suite.specs.Applications.{cs_tables, hs_setup, lc_setup, hs_stands, cs_stands, sc_stands, mm_stands, md_stands, lc_stands}
 use Rattle.app_suite.proofs.Health.{tables_begun as hs_begun}
 use Rattle.frame_runs.specs.Runs.{Setup, State, time_at, active_in, beginning, activated_at, after_wakeups, after_frame, run_of, operations_at, behind_reset, behind}
-use Rattle.frame_exec.specs.Standing.{AppsStand, Has, IsReady, Stands, CanRun}
+use Rattle.frame_exec.specs.Standing.{AppsStand, Has, IsReady, IsNoted, Stands, CanRun}
 use Rattle.app_suite.specs.Landable.{CanLand}
 use Rattle.app_suite.specs.Wakes.{joined}
 use Rattle.frame_exec.specs.Parts.{HistoriesBegin, KeepsApps, items_in}
@@ -161,17 +161,18 @@ ready_begun b regions same sequences dwells given = record {
 }
 
 -- a bench that was opened stands for no frames
-pub stands_opened : (b : Bench) (setup : Setup) → b.epoch ≡ setup.epoch → b.tables.files ≡ setup.files → b.failed ≡ false → b.lines.block ≡ empty_block → b.number ≡ 0 → b.tables.set ≡ tables_of setup.files
+pub stands_opened : (b : Bench) (setup : Setup) → b.epoch ≡ setup.epoch → b.tables.files ≡ setup.files → b.failed ≡ false → IsNoted b → b.lines.block ≡ empty_block → b.number ≡ 0 → b.tables.set ≡ tables_of setup.files
     → HistoriesBegin b.tables.set setup.epoch 0 3 b.apps → AreGiven setup.regions b.tables → ScIsReady b.tables.set.sc b.apps.sc.state.value → AllGiven setup.regions b.apps.md.state.value
     → b.wires.bus ≡ empty_pipes (lc_named setup.files) → LogStands [] b.wires.log → b.memory.ram ≡ start_memory setup.regions → Stands b setup []
 unfolding run_of beginning
-stands_opened b setup epoch files well waits number tables begins given sequences dwells pipes made memory = record {
+stands_opened b setup epoch files well idle waits number tables begins given sequences dwells pipes made memory = record {
   epoch = epoch;
   files = files;
   well = well;
   waits = waits;
   has = has_begun b setup 0 setup.epoch 0 3 (empty_pipes (lc_named setup.files)) [] (start_memory setup.regions) number tables begins pipes made memory;
   ready = ready_begun b setup.regions (ap (λ (m : Memory). regions_of m.areas) memory ∙ regions-cut setup.regions _) sequences dwells given;
+  idle = idle;
 }
 
 -- a bench that started anew has what the run comes to behind a processor reset

@@ -2,6 +2,7 @@ pub mod Cutting
 pub mod Waking
 pub mod Woken
 pub mod Frames
+pub mod Counting
 pub mod Stepping
 pub mod Behind
 pub mod Obeying

@@ -7,6 +7,7 @@ pub use Rattle.frame_runs.specs.Runs
 pub use Rattle.frame_runs.specs.Crowds
 pub use Rattle.frame_runs.specs.RunLaws
 pub mod Parts
+pub mod Idling
 pub mod Standing
 pub mod Following
 pub mod Beside

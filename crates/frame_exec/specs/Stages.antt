@@ -1,5 +1,5 @@
 -- What the stages of a frame change in the bench.
-use Rattle.std.specs.Prelude.{◌≡◌, ℕ, ◌+◌, List, [], ◌++◌, length}
+use Rattle.std.specs.Prelude.{◌≡◌, ℕ, ◌+◌, false, List, [], ◌++◌, length}
 use Rattle.std.specs.List.{AllPass, flat_map, fold, list_any}
 use Rattle.bus_pipes.specs.Delivery.{after_offers, drops_from}
 use Rattle.bus_pipes.specs.Counted.{is_item_counted}
@@ -173,7 +173,7 @@ pub record IsSameFrame (old new : Bench) : Type 0 where
   pub resets : new.resets ≡ old.resets
   pub memory : new.memory ≡ old.memory
 
--- the frame's operations have landed, and the next frame comes
+-- the frame's operations have landed, and the next frame comes, before which nothing is noted of the bench
 pub record Lands (old new : Bench) : Type 0 where
   pub epoch : new.epoch ≡ old.epoch
   pub number : new.number ≡ old.number + 1
@@ -183,6 +183,7 @@ pub record Lands (old new : Bench) : Type 0 where
   pub wires : new.wires ≡ old.wires
   pub lines : new.lines ≡ old.lines
   pub resets : new.resets ≡ old.resets
+  pub idle : new.idle ≡ false
   pub memory : new.memory.ram ≡ land (loads_in old) old.memory.ops.value old.memory.ram
 
 -- a processor reset took effect where one was asked for
@@ -190,6 +191,7 @@ pub record StartsAnew (old new : Bench) : Type 0 where
   pub goes : GoesOn old new
   pub items : items_in new.apps ≡ items_in old.apps
   pub resets : new.resets ≡ old.resets
+  pub idle : new.idle ≡ old.idle
   pub memory : new.memory ≡ old.memory
   pub has : (setup : Setup) (s : State) → old.epoch ≡ setup.epoch → old.tables.files ≡ setup.files → Has old s → Has new (behind old.resets setup s)
 

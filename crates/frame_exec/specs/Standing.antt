@@ -14,6 +14,7 @@ use Rattle.frame_exec.specs.declared.applications.Applications.{Applications}
 use Rattle.app_suite.specs.Applications.{lc_setup, hs_stands, cs_stands, sc_stands, mm_stands, md_stands, lc_stands}
 use Rattle.active_tables.specs.Tables.{AreGiven}
 use Rattle.frame_runs.specs.Runs.{Setup, State, active_in, image_at, run_of}
+use Rattle.frame_exec.specs.Idling.{IsIdle}
 
 -- the state of each application stands for its history
 pub record AppsStand (a : Applications) (s : State) : Type 0 where
@@ -39,6 +40,10 @@ pub record IsReady (b : Bench) : Type 0 where
   pub md : AllGiven (regions_of b.memory.ram.areas) b.apps.md.state.value
   pub given : AreGiven (regions_of b.memory.ram.areas) b.tables
 
+-- where it is noted that the bench is idle it is
+abbrev pub IsNoted : Bench → Type 0
+IsNoted b = b.idle ≡ true → IsIdle b.wires.bus b.apps
+
 -- these upsets lie in memory
 abbrev pub AreMapped : List Upset → Memory → Type 0
 AreMapped upsets memory = All (λ (u : Upset). is_mapped (regions_of memory.areas) u.at ≡ true) upsets
@@ -59,6 +64,7 @@ pub record Stands (b : Bench) (setup : Setup) (frames : List Frame) : Type 0 whe
   pub waits : waiting_in b ≡ empty_block
   pub has : Has b (run_of setup frames)
   pub ready : IsReady b
+  pub idle : IsNoted b
 
 -- A frame behind these frames was interrupted, as its lines couldn't all be written: its upsets are in memory, and none of its operations is.
 pub record IsInterrupted (b : Bench) (setup : Setup) (frames : List Frame) (frame : Frame) : Type 0 where

@@ -11,7 +11,7 @@ use crew_board::Crew;
 use cs_slices::Cs;
 use frame_wires::{has_reset, take_unless};
 use fsw_outside::NoMemory;
-use hs_monitors::Hs;
+use hs_monitors::{Hs, HsInput};
 use lc_watch::Lc;
 use md_dwell::Md;
 use memory_window::Ops;
@@ -55,6 +55,7 @@ impl Applications {
     ghost use Rattle.frame_runs.specs.Runs.{left_by};
     ghost use Rattle.frame_wires.specs.Sending.{is_reset, shown};
     ghost use Rattle.scenario.specs.declared.frame.App.{App};
+    ghost use Rattle.frame_exec.specs.Idling.{AreIdle, IsNoneDue};
     ghost use Rattle.frame_exec.specs.Parts.{AreClear, AreReadyOn, AreStamped, CanBeSent, HistoriesBegin, IsTaken, KeepsApps, KeepsRoom, TakeAll, TakesOver, given_in, items_in};
 
     /// The applications on these tables before the first frame, whose time is `time`, with a crew of so many workers; and whether LC
@@ -192,6 +193,39 @@ impl Applications {
         let mm = self.mm.take_over(&mut self.crew, 3);
         let md = self.md.take_over(&mut self.crew, 4);
         hs & cs & sc & mm & md
+    }
+
+    /// Whether each application but SC rests as long as it has no packets and HS no counters.
+    #[inline(always)]
+    pub(crate) fn are_idle(&self) -> bool
+        ensures { result ≡ true → AreIdle self.now }
+    {
+        let none = HsInput {
+            commands: &[],
+            events: &[],
+            counters: &[],
+        };
+        if !self.hs.state.is_idle(&none) {
+            return false;
+        }
+        if !self.md.state.is_idle(&[]) {
+            return false;
+        }
+        if !self.lc.slot.state.is_idle(&[], &[]) {
+            return false;
+        }
+        if !self.cs.state.is_idle(&[]) {
+            return false;
+        }
+        self.mm.state.is_idle(&[])
+    }
+
+    /// Whether no command of SC is due at this time.
+    #[inline(always)]
+    pub(crate) fn owes_nothing(&self, time: u32) -> bool
+        ensures { result ≡ true → IsNoneDue time self.now }
+    {
+        self.sc.state.is_idle(&[], time)
     }
 
     /// Gives the items their sequence counts.

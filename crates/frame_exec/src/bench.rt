@@ -29,6 +29,8 @@ pub struct Bench<'f> {
     pub(crate) failed: bool,
     // whether a processor reset was asked for in the frame that was run
     pub(crate) resets: bool,
+    // whether it is noted that the bench is idle: a frame of no items does nothing but count, as long as no command of SC is due
+    pub(crate) idle: bool,
     // how many threads may land operations, or cycle a crowd, at once
     pub(crate) workers: u32,
     pub(crate) tables: Tables<'f>,
@@ -219,7 +221,7 @@ impl<'f> Bench<'f> {
         ensures failed { has_failed self.new ≡ is_err result }
     {
         match crowd {
-            None => self.add_on(rt, input, input.counters(), gate, sink),
+            None => self.add_alone(rt, input, gate, sink),
             Some(crowd) => self.add_beside(rt, input, crowd, gate, sink),
         }
     }
@@ -274,7 +276,7 @@ impl<'f> Bench<'f> {
 
     /// Runs a frame on these execution counters as `add_frame` does.
     #[inline(always)]
-    fn add_on<R: Threads + Sync, G: Gate, O: Sink>(
+    pub(crate) fn add_on<R: Threads + Sync, G: Gate, O: Sink>(
         &mut self,
         rt: &R,
         input: &FrameInput,
@@ -345,7 +347,7 @@ impl<'f> Bench<'f> {
     }
 
     /// Marks the bench as failed, and says how many frames weren't handed on whole.
-    fn cut(&mut self) -> Cut
+    pub(crate) fn cut(&mut self) -> Cut
         ensures late { (ends : List ℕ) (given : ℕ) → Notes ends given self.old.lines.block
             → result.late ≡ late_in ends (given - length self.old.lines.block.bytes) }
         ensures cut { self.new ≡ record self.old { failed = true } }
@@ -356,7 +358,7 @@ impl<'f> Bench<'f> {
         }
     }
 
-    /// Lands the frame's operations, if there are any, and goes on to the next frame.
+    /// Lands the frame's operations, if there are any, and goes on to the next frame, before which nothing is noted of the bench.
     #[inline(always)]
     fn land<R: Threads + Sync, G: Gate>(&mut self, rt: &R, gate: &G)
         requires number { self.old.number < 4294967296 }
@@ -366,6 +368,7 @@ impl<'f> Bench<'f> {
     {
         if self.memory.stays() {
             self.number += 1;
+            self.idle = false;
             return;
         }
         self.land_all(rt, gate);
@@ -382,6 +385,7 @@ impl<'f> Bench<'f> {
         let workers = self.workers.max(1);
         self.memory.land(rt, workers, self.tables.files(), gate);
         self.number += 1;
+        self.idle = false;
     }
 
     /// Lets a processor reset take effect, where one was asked for in the frame.

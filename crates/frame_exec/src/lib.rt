@@ -4,6 +4,7 @@
 mod applications;
 mod bench;
 mod cut;
+mod idling;
 mod in_place;
 mod kind;
 mod lines;

@@ -70,6 +70,7 @@ impl<'f> Bench<'f> {
             number: 0,
             failed: false,
             resets: false,
+            idle: false,
             workers,
             tables,
             apps,

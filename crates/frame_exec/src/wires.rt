@@ -3,7 +3,7 @@
 ghost use Rattle.std.specs.Prelude.{◌≡◌};
 ghost use Rattle.frame_exec.specs.declared.wires.TheConstants.{DROPS};
 
-use bus_pipes::{Bus, Dropped, Drops, Out, Outbox};
+use bus_pipes::{Bus, Dropped, Drops, Out, Outbox, PipeName};
 use frame_wires::{deliver_lists, stamp_all};
 use fsw_outside::NoMemory;
 use packet_forms::Packet;
@@ -23,7 +23,7 @@ pub(crate) struct Wires {
 }
 
 impl Wires {
-    ghost use Rattle.std.specs.Prelude.{ℕ, ◌+◌, ◌≤◌, ◌==◌, List, ◌++◌, length, IfOk};
+    ghost use Rattle.std.specs.Prelude.{ℕ, ◌+◌, ◌≤◌, ◌==◌, true, List, ◌++◌, length, IfOk};
     ghost use Rattle.std.specs.List.{AllPass, flat_map};
     ghost use Rattle.bus_pipes.specs.Counted.{is_item_counted};
     ghost use Rattle.bus_pipes.specs.Delivery.{after_offers, drops_from};
@@ -53,6 +53,20 @@ impl Wires {
         ensures log { self.new.log ≡ self.old.log }
     {
         self.bus.clear();
+    }
+
+    /// Whether the pipes hold nothing.
+    pub(crate) fn hold_nothing(&self) -> bool
+        ensures { result ≡ true → self.now.bus ≡ emptied_pipes self.now.bus }
+    {
+        self.bus.is_empty(PipeName::Hs)
+            && self.bus.is_empty(PipeName::HsEv)
+            && self.bus.is_empty(PipeName::Cs)
+            && self.bus.is_empty(PipeName::Sc)
+            && self.bus.is_empty(PipeName::Mm)
+            && self.bus.is_empty(PipeName::Md)
+            && self.bus.is_empty(PipeName::Lc)
+            && self.bus.is_empty(PipeName::LcTlm)
     }
 
     /// Offers these packets to the pipes.

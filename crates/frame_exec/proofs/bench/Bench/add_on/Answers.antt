@@ -10,7 +10,7 @@ use Rattle.packet_log.specs.Blocks.{Waiting, Notes, ends_from, joined}
 use Rattle.frame_exec.specs.Following.{lines_behind, Adds}
 use Rattle.frame_exec.proofs.Frames.{has_next, ready_next, can_land_still, upsets_mapped, time_fits, has_given}
 use Rattle.frame_runs.proofs.Frames.{lines_are}
-use Rattle.frame_exec.proofs.Behind.{follows_next, cut_added, told_added}
+use Rattle.frame_exec.proofs.Behind.{follows_next, cut_added, told_added, not_noted}
 use Rattle.frame_exec.proofs.bench.Bench.add_on.Goals as goal
 
 pub run-lines-requires-clause-time : goal.run-lines-requires-clause-time
@@ -64,7 +64,7 @@ returns-in-Ok-clause-follows g c = λ setup earlier later follows.
     follows_next c.reset_if_asked.new.self setup earlier later frame _ c.run-lines.new.self.lines.block c.add_lines.new.self.lines.block _ _
     (goes.epoch ∙ c.land.ensures.epoch ∙ same.epoch ∙ run.epoch ∙ follows.epoch) (goes.files ∙ ap (λ (t : Loaded). t.files) (c.land.ensures.tables ∙ same.tables) ∙ run.files ∙ follows.files) (goes.failed ∙ c.land.ensures.failed ∙ same.failed ∙ run.failed ∙ follows.well)
     (has_next c.run-lines.new.self c.add_lines.new.self c.land.new.self setup (earlier ++ later) frame same c.land.ensures c.reset_if_asked.new.self c.reset_if_asked.ensures.anew (run.epoch ∙ follows.epoch) (run.files ∙ follows.files) (run.number ∙ follows.has.number) r)
-    c.reset_if_asked.ensures.ready
+    c.reset_if_asked.ensures.ready (not_noted _ (c.reset_if_asked.ensures.anew.idle ∙ c.land.ensures.idle))
     (ap (λ (l : Lines). l.block) (goes.lines ∙ c.land.ensures.lines)) lines
     (subst (Notes (ends_from 0 (lines_behind setup earlier later)) (length (joined (lines_behind setup earlier later)))) (sym (ap (λ (l : Lines). l.block) run.lines)) follows.notes) c.in-Ok.ensures.adds
 

@@ -6,6 +6,7 @@ use Rattle.frame_runs.specs.Runs.{run_of}
 use Rattle.frame_runs.specs.Crowds.{with_counters}
 use Rattle.fsw_outside.specs.Written.{AppendsPart}
 use Rattle.fsw_outside.specs.TellingLaws.{told_map}
+use Rattle.frame_exec.proofs.Behind.{not_noted}
 use Rattle.frame_exec.proofs.Frames.{has_next, ready_next, can_land_still, upsets_mapped, time_fits, has_given}
 use Rattle.frame_runs.proofs.Frames.{activated_image, lines_are}
 use Rattle.frame_exec.proofs.bench.Bench.frame_on.Goals as goal
@@ -70,6 +71,7 @@ returns-in-Ok-clause-stands g c = λ setup frames stands.
       has = has_next c.run-lines.new.self c.write.new.self c.land.new.self setup frames (with_counters c.args.counters.now c.args.input.now) same c.land.ensures c.reset_if_asked.new.self c.reset_if_asked.ensures.anew (run.epoch ∙ stands.epoch) (run.files ∙ stands.files) (run.number ∙ stands.has.number)
           (c.run-lines.ensures.runs setup (run_of setup frames) stands.epoch stands.files stands.has);
       ready = c.reset_if_asked.ensures.ready;
+      idle = not_noted _ (c.reset_if_asked.ensures.anew.idle ∙ c.land.ensures.idle);
     }
 
 pub returns-in-Err-clause-interrupted : goal.returns-in-Err-clause-interrupted

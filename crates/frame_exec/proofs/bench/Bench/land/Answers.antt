@@ -19,5 +19,6 @@ returns-then-stays g c =
       wires = refl;
       lines = refl;
       resets = refl;
+      idle = refl;
       memory = sym (nothing-landed (loads_in old) old.memory.ops.value old.memory.ram (nil_from_length old.memory.ops.value none));
     }

@@ -17,6 +17,7 @@ returns-clause-anew c =
       goes = record { lines = refl; epoch = refl; number = refl; failed = refl; files = ap (λ (t : Loaded). t.files) c.load_again.ensures };
       items = c.start_anew.ensures.items;
       resets = refl;
+      idle = refl;
       memory = refl;
       has = λ setup s epoch files has.
           has_behind _ setup s old.resets c.requires.resets
