@@ -94,7 +94,7 @@ abbrev pub man_app : App
 man_app = with_rule (new_app (codes "man")) output_rule
 
 -- a command line with one verb more
-abbrev pub with_verb : App → App → App
+unfoldable pub with_verb : App → App → App
 with_verb program verb = with_subcommand program verb.top
 
 abbrev pub with_making : App → App
