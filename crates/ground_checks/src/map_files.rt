@@ -123,7 +123,7 @@ fn tell_text<R: Eprint>(rt: &R, name: &str, text: &[u8], fault: TextFault) -> St
     match fault {
         TextFault::Plan(fault) => {
             let _told = match key_in_plan(text, &fault) {
-                Some(key) => eprintln!(rt; "{name}: {fault}: `{key}=`"),
+                Some(key) => eprintln!(rt; "{name}: {fault}: {key}"),
                 None => eprintln!(rt; "{name}: {fault}"),
             };
             Status::ScenarioRefused

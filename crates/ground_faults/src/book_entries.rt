@@ -240,7 +240,7 @@ pub fn tell_book_fault<R: Eprint + AllocGlobal>(
     }
     // There is no other place to tell it.
     let _told = match key_in_book(text, fault) {
-        Some(key) => eprintln!(rt; "{name}: {fault}: `{key}=`"),
+        Some(key) => eprintln!(rt; "{name}: {fault}: {key}"),
         None => eprintln!(rt; "{name}: {fault}"),
     };
     Status::FileRefused

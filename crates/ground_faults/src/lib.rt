@@ -16,4 +16,4 @@ pub use entry_faults::{PAYLOAD, blank_entry, clear_faults};
 pub use headers::tell_headers;
 pub use line_ends::tell_line_ends;
 pub use telling::{tell_entries, tell_entry, tell_said};
-pub use wanted_keys::{key_in_book, key_in_load, key_in_plan, key_in_table};
+pub use wanted_keys::{WantedKey, key_in_book, key_in_load, key_in_plan, key_in_table};

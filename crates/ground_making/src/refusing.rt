@@ -6,14 +6,14 @@ ghost use Rattle.ground_making.specs.Causes.{IsToldBy};
 
 use crate::making::Refusal;
 use ground_faults::{
-    key_in_book, key_in_load, key_in_plan, key_in_table, tell_book_fault, tell_headers,
+    WantedKey, key_in_book, key_in_load, key_in_plan, key_in_table, tell_book_fault, tell_headers,
     tell_line_ends,
 };
 use ground_files::Status;
 use std::alloc::AllocError;
 
 /// The key that is wanted where a text has another one.
-fn key_of(text: &[u8], refusal: &Refusal) -> Option<&'static str> {
+fn key_of<'a>(text: &'a [u8], refusal: &Refusal) -> Option<WantedKey<'a>> {
     match refusal {
         Refusal::Text(fault) => key_in_table(text, fault),
         Refusal::LoadText(fault) => key_in_load(text, fault),
@@ -48,7 +48,7 @@ pub fn tell_refusal<R: Eprint + AllocGlobal>(
         return Status::FileRefused;
     }
     let _told = match key_of(bytes, refusal) {
-        Some(key) => eprintln!(rt; "{name}: {refusal}: `{key}=`"),
+        Some(key) => eprintln!(rt; "{name}: {refusal}: {key}"),
         None => eprintln!(rt; "{name}: {refusal}"),
     };
     if *refusal == Refusal::Memory {
