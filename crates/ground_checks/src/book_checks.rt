@@ -6,7 +6,7 @@ ghost use Rattle.load_books.specs.Books.{is_book_text};
 ghost use Rattle.ground_checks.specs.Checked.{is_of_files};
 
 use crate::checking::{earlier, seen_at, tell_count};
-use crate::file_checks::tell_file;
+use crate::file_checks::{tell_faults, tell_file};
 use crate::file_order::{SeenFile, warn_of_place};
 use crate::map_files::MOST_TEXT;
 use crate::map_texts::scenario_map;
@@ -170,22 +170,36 @@ pub(crate) fn tell_book_file<R: Eprint + AllocGlobal>(rt: &R, name: &str, text: 
     }
 }
 
-/// Tells what is odd in the tables of a book.
+/// Tells what the program refuses of a file of a book, which the memory of the book's plan doesn't give, and what is odd in it.
+fn warn_of_part<R: Eprint + AllocGlobal>(
+    rt: &R,
+    looked: &LookedBook<'_>,
+    name: &str,
+    file: &BookFile<'_>,
+) -> Result<(), AllocError> {
+    let map = Some(&looked.known.map);
+    let bytes = file.bytes.as_slice();
+    let part = from_utf8(file.name).unwrap_or("");
+    let place = format!(in rt.alloc(); "{name}: {part}: warning")?;
+    tell_faults(rt, map, place.as_str(), bytes)?;
+    let names = known_names(&looked.known);
+    let placed = text_of(name, looked.parts.as_slice(), file);
+    warn_of_table(rt, map, names, name, placed, bytes)
+}
+
+/// Tells what the program refuses of the files of a book and what is odd in them.
 fn warn_of_files<R: Eprint + AllocGlobal>(
     rt: &R,
     looked: &LookedBook<'_>,
     name: &str,
 ) -> Result<(), AllocError> {
-    let map = Some(&looked.known.map);
-    let names = known_names(&looked.known);
     'files: for file in looked.book.files.as_slice() {
-        let placed = text_of(name, looked.parts.as_slice(), file);
-        warn_of_table(rt, map, names, name, placed, file.bytes.as_slice())?;
+        warn_of_part(rt, looked, name, file)?;
     }
     Ok(())
 }
 
-/// Tells what is odd in the tables of a book, unless it is refused.
+/// Tells what the program refuses of a book's files and what is odd in them, unless the book is refused.
 fn warn_of_text<R: Eprint + AllocGlobal>(rt: &R, name: &str, text: &[u8]) -> Result<(), AllocError>
     requires { 1 + length text.now < 2 ^ 32 }
 {
@@ -198,8 +212,8 @@ fn warn_of_text<R: Eprint + AllocGlobal>(rt: &R, name: &str, text: &[u8]) -> Res
     warn_of_files(rt, &looked, name)
 }
 
-/// Tells what is odd in the tables of a book, with its lines and by its own plan, whatever the memory of the plan gives. Of a text that isn't a
-/// book, and of a book that is refused, nothing is told. Which of its tables stand by isn't told.
+/// Tells what is odd in the tables of a book, with its lines and by its own plan, and the entries that the memory of the plan refuses. Of a
+/// text that isn't a book, and of a book that is refused, nothing is told. Which of its tables stand by isn't told.
 pub fn warn_of_book<R: Eprint + AllocGlobal>(rt: &R, name: &str, text: &[u8]) -> Status
     ensures { (result ≡ statuses.Done) ⊎ (result ≡ statuses.NoMemory) }
 {

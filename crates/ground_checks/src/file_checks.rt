@@ -62,6 +62,17 @@ fn tell_all<R: Eprint + AllocGlobal>(
     Ok(())
 }
 
+/// Tells why a file is refused, if it is.
+pub(crate) fn tell_faults<R: Eprint + AllocGlobal>(
+    rt: &R,
+    map: Option<&Map>,
+    name: &str,
+    file: &[u8],
+) -> Result<(), AllocError> {
+    let faults = find_faults(rt.alloc(), map, file)?;
+    tell_all(rt, map, name, file, faults.as_slice())
+}
+
 /// The status of a file whose faults were told.
 fn status_refused<R: Eprint>(rt: &R, told: Result<(), AllocError>) -> Status
     ensures { (result ≡ Status.FileRefused) ⊎ (result ≡ Status.NoMemory) }
