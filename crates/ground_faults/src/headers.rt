@@ -1,15 +1,11 @@
 //! Why the headers of a file are refused, in words.
 
-use crate::line_ends::has_order_mark;
+use crate::file_kinds::{FileKind, file_kind};
+use crate::line_ends::{has_order_mark, is_wide};
 use packet_forms::{be32, behind, crc16, front};
-use row_forms::split_word;
 use std::io;
 use std::str::from_utf8;
 use table_files::FileFault;
-use table_texts::next_line;
-
-/// How many bytes a file has at most that is taken.
-const MOST_BYTES: usize = 65_700;
 
 /// How many bytes the headers of a table have, and those of bytes to be loaded.
 const TABLE_HEADERS: usize = 116;
@@ -24,44 +20,26 @@ const NAME: usize = 76;
 
 const NAME_BYTES: usize = 40;
 
-/// Whether a line is one of a manifest, by what stands behind its first word: the third word counts bytes, where a text has a key.
-fn is_in_manifest(rest: &[u8]) -> bool {
-    let Some((_, rest)) = split_word(rest) else {
-        return false;
-    };
-    match split_word(rest) {
-        Some((third, _)) => third.iter().all(|byte| byte.is_ascii_digit()),
-        None => false,
-    }
-}
-
 /// What a text is that was given in the place of a file; none where that isn't known.
 fn text_hint(file: &[u8]) -> Option<&'static str> {
-    if file.len() > MOST_BYTES {
-        return None;
+    if is_wide(file) {
+        return Some("it is UTF-16: save it as UTF-8");
     }
     if has_order_mark(file) {
         return Some("it begins with a byte order mark: save it without");
     }
-    let Some(line) = next_line(file, 1) else {
-        return None;
-    };
-    let Some((word, rest)) = split_word(line.bytes) else {
-        return None;
-    };
-    if word == b"table".as_slice() || word == b"load".as_slice() {
-        if is_in_manifest(rest) {
-            return Some("it is the manifest of a book: the files are taken that it names");
+    match file_kind(file)? {
+        FileKind::Image => None,
+        FileKind::Manifest => {
+            Some("it is the manifest of a book: the files are taken that it names")
         }
-        return Some("it is a text: `groundkit table` makes the file of it");
+        FileKind::Text => Some("it is a text: `groundkit table` makes the file of it"),
+        FileKind::Scenario => Some(
+            "it is a scenario or a plan, where a file of a table or of a load is wanted",
+        ),
+        FileKind::Book => Some("it is a book: `groundkit build` writes its files"),
+        FileKind::Log => Some("it is a log, where a file of a table or of a load is wanted"),
     }
-    if word == b"epoch".as_slice() {
-        return Some("it is a scenario or a plan, where a file of a table or of a load is wanted");
-    }
-    if word == b"book".as_slice() {
-        return Some("it is a book: `groundkit build` writes its files");
-    }
-    None
 }
 
 /// The number in four bytes of a file; 0 where they aren't there.

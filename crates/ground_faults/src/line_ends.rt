@@ -1,35 +1,88 @@
-//! What of a text isn't seen where it is edited: how its lines end, and what stands in front of it.
+//! What of a text isn't seen where it is edited: how its lines end, what stands in front of it, and what only looks like a space.
+
+ghost use Rattle.std.specs.Prelude.{◌<◌, ◌+◌, ◌^◌, length};
+
+use crate::file_kinds::is_image;
+use crate::said_entries::MOST_TEXT;
+use packet_forms::behind;
+use table_texts::next_line;
 
 /// A byte order mark, which some editors put in front of a text.
 const ORDER_MARK: &[u8] = b"\xEF\xBB\xBF";
+
+/// A no-break space.
+const NO_BREAK: &[u8] = b"\xC2\xA0";
 
 /// Whether a byte order mark stands in front of a text.
 pub(crate) fn has_order_mark(text: &[u8]) -> bool {
     text.starts_with(ORDER_MARK)
 }
 
-/// Whether a line of a text ends with a carriage return.
-fn has_carriage_return(text: &[u8]) -> bool {
-    let mut last = 0;
-    for byte in text {
-        if last == b'\r' && *byte == b'\n' {
+/// Whether a text begins as one in UTF-16 does.
+pub(crate) fn is_wide(text: &[u8]) -> bool {
+    text.starts_with(b"\xFF\xFE") || text.starts_with(b"\xFE\xFF")
+}
+
+/// Whether these bytes stand somewhere in a line or a text.
+fn has_bytes(text: &[u8], wanted: &[u8]) -> bool {
+    for place in 0..text.len() {
+        if behind(text, place).starts_with(wanted) {
             return true;
         }
-        last = *byte;
     }
     false
 }
 
-/// Tells that a refused text's lines end with carriage returns, or that a byte order mark stands in front of it, where it is so: its words
-/// then aren't what they look like.
+/// The number of the first line that says something and has these bytes.
+fn line_with(text: &[u8], wanted: &[u8]) -> Option<u32>
+    requires { 1 + length text.now < 2 ^ 32 }
+{
+    let mut rest = text;
+    let mut next = 1;
+    'lines: while let Some(line) = next_line(rest, next) {
+        if has_bytes(line.bytes, wanted) {
+            return Some(line.number);
+        }
+        rest = line.rest;
+        next = line.number + 1;
+    }
+    None
+}
+
+/// Tells the first line of a text that has a tab, and the first one that has a no-break space: these belong to their words.
+fn tell_blanks<R: Eprint>(rt: &R, name: &str, text: &[u8]) {
+    if text.len() > MOST_TEXT {
+        return;
+    }
+    if let Some(line) = line_with(text, b"\t") {
+        let _told = eprintln!(rt; "{name}: line {line} has a tab: words stand between spaces");
+    }
+    if let Some(line) = line_with(text, NO_BREAK) {
+        let _told = eprintln!(rt;
+            "{name}: line {line} has a no-break space, which looks like a space: words stand between spaces"
+        );
+    }
+}
+
+/// Tells what of a refused text isn't seen, where it is so: that it is UTF-16, that a byte order mark stands in front of it, that its lines end
+/// with carriage returns, and what looks like a space: its words then aren't what they look like. Of the file of a table or of a load nothing is
+/// told.
 pub fn tell_line_ends<R: Eprint>(rt: &R, name: &str, text: &[u8]) {
+    if is_image(text) {
+        return;
+    }
     // There is no other place to tell it.
+    if is_wide(text) {
+        let _told = eprintln!(rt; "{name}: it is UTF-16: save it as UTF-8");
+        return;
+    }
     if has_order_mark(text) {
         let _told = eprintln!(rt; "{name}: it begins with a byte order mark: save it without");
     }
-    if has_carriage_return(text) {
+    if has_bytes(text, b"\r") {
         let _told = eprintln!(rt;
             "{name}: its lines end with carriage returns: save it with LF line ends"
         );
     }
+    tell_blanks(rt, name, text);
 }
