@@ -66,20 +66,6 @@ pub enum Refusal {
     Memory,
 }
 
-impl Refusal {
-    /// Whether a text is at fault, by one of its lines or as a whole.
-    pub(crate) fn is_of_text(&self) -> bool {
-        match self {
-            Refusal::Text(_)
-            | Refusal::LoadText(_)
-            | Refusal::Plan(_)
-            | Refusal::Scenario(_)
-            | Refusal::Book(_) => true,
-            Refusal::Entry(_, _) | Refusal::File(_) | Refusal::Long | Refusal::Memory => false,
-        }
-    }
-}
-
 /// Why a table or its text is refused.
 fn refused(fault: TableFault) -> Refusal
     ensures { result ≡ table_refusal fault }

@@ -6,8 +6,8 @@ ghost use Rattle.ground_making.specs.Causes.{IsToldBy};
 
 use crate::making::Refusal;
 use ground_faults::{
-    WantedKey, key_in_book, key_in_load, key_in_plan, key_in_table, tell_book_fault, tell_headers,
-    tell_line_ends,
+    WantedKey, WantedText, key_in_book, key_in_load, key_in_plan, key_in_table, tell_book_fault,
+    tell_headers, tell_kind, tell_line_ends,
 };
 use ground_files::Status;
 use std::alloc::AllocError;
@@ -27,6 +27,17 @@ fn key_of<'a>(text: &'a [u8], refusal: &Refusal) -> Option<WantedKey<'a>> {
     }
 }
 
+/// The text that is wanted where one is refused.
+fn wanted_text(refusal: &Refusal) -> Option<WantedText> {
+    match refusal {
+        Refusal::Text(_) | Refusal::LoadText(_) => Some(WantedText::Table),
+        Refusal::Plan(_) => Some(WantedText::Plan),
+        Refusal::Scenario(_) => Some(WantedText::Scenario),
+        Refusal::Book(_) => Some(WantedText::Book),
+        Refusal::Entry(_, _) | Refusal::File(_) | Refusal::Long | Refusal::Memory => None,
+    }
+}
+
 /// Tells why a file or a text is refused, and answers the status. Of an entry in a book's table the line of the book is told.
 pub fn tell_refusal<R: Eprint + AllocGlobal>(
     rt: &R,
@@ -37,8 +48,9 @@ pub fn tell_refusal<R: Eprint + AllocGlobal>(
     ensures undone { result ≢ statuses.Done }
     ensures told { IsToldBy refusal.now result }
 {
-    if refusal.is_of_text() {
+    if let Some(wanted) = wanted_text(refusal) {
         tell_line_ends(rt, name, bytes);
+        tell_kind(rt, name, bytes, wanted);
     }
     if let Refusal::Book(fault) = refusal {
         return tell_book_fault(rt, name, bytes, fault);
