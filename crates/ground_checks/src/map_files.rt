@@ -10,7 +10,7 @@ ghost use Rattle.ground_checks.specs.Maps.{map_said, IsPlanMap, IsBookMap, IsMap
 use crate::book_checks::{is_book, tell_unread_book};
 use crate::map_texts::{MapFault, UNENDED, scenario_map};
 use crate::scenario_names::{Known, known_of};
-use ground_faults::key_in_plan;
+use ground_faults::{WantedText, key_in_plan, tell_kind, tell_line_ends};
 use ground_files::{Status, Workspace, input_name, read_input, tell_no_memory, tell_unread};
 use ground_runs::line_cause;
 use load_books::{book_forms, read_book};
@@ -115,6 +115,12 @@ fn tell_line<R: Eprint>(rt: &R, name: &str, text: &[u8], line: u32, reason: u8) 
     Status::ScenarioRefused
 }
 
+/// Tells what of a text without a map isn't seen, and that it is something else than a scenario, a plan or a book, where it is so.
+fn tell_look<R: Eprint>(rt: &R, name: &str, text: &[u8]) {
+    tell_line_ends(rt, name, text);
+    tell_kind(rt, name, text, WantedText::Mapped);
+}
+
 /// Tells why a scenario or a plan gives no map.
 fn tell_text<R: Eprint>(rt: &R, name: &str, text: &[u8], fault: TextFault) -> Status
     ensures { ((result ≡ statuses.ScenarioRefused) × (fault ≢ TextFault.Memory))
@@ -122,13 +128,17 @@ fn tell_text<R: Eprint>(rt: &R, name: &str, text: &[u8], fault: TextFault) -> St
 {
     match fault {
         TextFault::Plan(fault) => {
+            tell_look(rt, name, text);
             let _told = match key_in_plan(text, &fault) {
                 Some(key) => eprintln!(rt; "{name}: {fault}: {key}"),
                 None => eprintln!(rt; "{name}: {fault}"),
             };
             Status::ScenarioRefused
         }
-        TextFault::Line { line, reason } => tell_line(rt, name, text, line, reason),
+        TextFault::Line { line, reason } => {
+            tell_look(rt, name, text);
+            tell_line(rt, name, text, line, reason)
+        }
         TextFault::Memory => tell_no_memory(rt),
     }
 }
