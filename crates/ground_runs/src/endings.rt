@@ -11,7 +11,7 @@ use ground_files::{
     Status, Workspace, input_name, is_stream, output_name, tell_no_memory, tell_unwritten,
 };
 use ground_tools::Trouble;
-use packet_forms::behind;
+use packet_forms::{behind, front};
 use rehearsal::{Report, Status as End};
 use std::alloc::Global;
 use std::io::{self, Read};
@@ -22,6 +22,9 @@ const TOO_LONG: u8 = 9;
 
 /// The reason of an entry whose read the memory of the scenario doesn't give.
 pub const NOT_GIVEN: u8 = 10;
+
+/// How many bytes of a line are shown.
+const MOST_SHOWN: usize = 200;
 
 /// The line of a scenario's text, as far as it can be read again.
 fn line_of<W: Workspace>(alloc: Global, workspace: &mut W, path: &str, number: u32) -> Vec<u8>
@@ -87,6 +90,14 @@ fn tell_file<R: Eprint + AllocGlobal, W: Workspace>(
     }
 }
 
+/// Why a scenario is refused at a line. The lines are counted from 1.
+fn cause_at(number: u32, reason: u8, line: &[u8]) -> &'static str {
+    if number == 0 {
+        return "the text is empty";
+    }
+    line_cause(reason, line)
+}
+
 /// Tells why a scenario is refused, and shows the line.
 fn tell_line<R: Eprint + AllocGlobal, W: Workspace>(
     rt: &R,
@@ -98,8 +109,8 @@ fn tell_line<R: Eprint + AllocGlobal, W: Workspace>(
 {
     let (number, reason) = (report.line, report.reason);
     let line = line_of(rt.alloc(), workspace, path, number);
-    let cause = line_cause(reason, line.as_slice());
-    match std::str::from_utf8(line.as_slice()) {
+    let cause = cause_at(number, reason, line.as_slice());
+    match std::str::from_utf8(front(line.as_slice(), MOST_SHOWN)) {
         Ok(text) if !text.is_empty() => {
             eprintln!(rt; "{path}: line {number}: {cause} (reason {reason}): {text:?}")
         }

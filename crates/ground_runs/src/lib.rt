@@ -8,6 +8,10 @@ mod endings;
 mod fault_tellers;
 mod given_files;
 mod line_causes;
+mod line_words;
+mod number_causes;
+mod other_texts;
+mod packet_causes;
 mod rehearsals;
 mod rehearsing;
 mod run_ends;
@@ -15,6 +19,7 @@ mod running;
 mod second_looks;
 mod table_lines;
 mod told_scenarios;
+mod word_causes;
 
 pub use asked_run::Run;
 pub use draft_tellers::DraftTeller;
