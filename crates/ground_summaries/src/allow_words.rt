@@ -3,6 +3,7 @@
 use bus_pipes::PipeName;
 use events::{Event, EventKind, events};
 use ground_tools::pipe_name;
+use itoa::Buffer;
 use packet_forms::Name;
 use std::alloc::{AllocError, Global};
 
@@ -28,12 +29,10 @@ fn is_pipe(word: &str) -> bool {
     word == "any"
 }
 
-/// Whether a word names an event by its number or its name, or is `any`.
+/// Whether a word names an event by its number in decimal digits, without a sign or a zero in front, or by its name, or is `any`.
 fn is_event_word(word: &str, event: &Event) -> bool {
-    match word.parse::<u16>() {
-        Ok(number) => number == event.number,
-        Err(_) => word == event.name || word == "any",
-    }
+    let mut buffer = Buffer::new();
+    word == buffer.format(event.number) || word == event.name || word == "any"
 }
 
 /// Whether a word names an error of an application, or is `any` for one that has errors.

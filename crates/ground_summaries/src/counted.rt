@@ -1,7 +1,9 @@
 //! Things that are counted, in words.
 
 ghost use Rattle.std.specs.Prelude.{◌≡◌, ◌++◌, OnOk, decimal};
+ghost use Rattle.packet_forms.specs.Names.{name_text};
 ghost use Rattle.ground_summaries.specs.Counts.{ending_said, things_said};
+ghost use Rattle.ground_summaries.specs.Told.{error_said, notable_said, counted_said};
 
 use events::{events, show_event};
 use ground_tools::{Notable, NotableCount, pipe_name};
@@ -36,7 +38,10 @@ fn ending_of(count: u64) -> &'static str
 }
 
 /// Appends an event of type 3 as a sentence.
-fn push_error(out: &mut Vec<u8>, application: &Name, number: u16) -> Result<(), AllocError> {
+fn push_error(out: &mut Vec<u8>, application: &Name, number: u16) -> Result<(), AllocError>
+    ensures { OnOk result (out.new.items
+        ≡ out.old.items ++ error_said (name_text application.now) number) }
+{
     show_event(events(), application.text().as_bytes(), number, ERROR, out)?;
     out.extend_from_slice(b" (event ")?;
     push_number(out, u64::from(number))?;
@@ -59,7 +64,9 @@ pub fn push_three(
 }
 
 /// Appends what an operator looks at first, as a sentence.
-fn push_notable(out: &mut Vec<u8>, what: &Notable) -> Result<(), AllocError> {
+fn push_notable(out: &mut Vec<u8>, what: &Notable) -> Result<(), AllocError>
+    ensures { OnOk result (out.new.items ≡ out.old.items ++ notable_said what.now) }
+{
     match what {
         Notable::Error {
             application,
@@ -84,7 +91,10 @@ fn push_notable(out: &mut Vec<u8>, what: &Notable) -> Result<(), AllocError> {
 }
 
 /// Appends what an operator looks at first, and how often it came.
-pub fn push_counted(out: &mut Vec<u8>, counted: &NotableCount) -> Result<(), AllocError> {
+#[tactic(auto, unfolding(crate::specs::Told::counted_said))]
+pub fn push_counted(out: &mut Vec<u8>, counted: &NotableCount) -> Result<(), AllocError>
+    ensures { OnOk result (out.new.items ≡ out.old.items ++ counted_said counted.now) }
+{
     out.extend_from_slice(b"  ")?;
     push_count(out, counted.count, "time")?;
     out.extend_from_slice(b": ")?;

@@ -1,3 +1,4 @@
 mod TellingLemmas
 mod WovenLemmas
 pub mod Appending
+mod SurveyLemmas

@@ -1,5 +1,8 @@
 //! Whose a packet is.
 
+ghost use Rattle.std.specs.Prelude.{◌≡◌};
+ghost use Rattle.ground_tools.specs.Noted.{head_in};
+
 use packet_forms::message_ids::{
     CS_BASELINE, CS_COMMAND, CS_HOUSEKEEPING, CS_REQUEST, EVENT, HS_COMMAND, HS_HOUSEKEEPING,
     HS_REQUEST, LC_COMMAND, LC_HOUSEKEEPING, LC_REQUEST, MD_COMMAND, MD_DWELL, MD_HOUSEKEEPING,
@@ -61,7 +64,9 @@ pub struct EventHead {
 }
 
 /// The head of an event; none where the packet is no event, since it has another id or length, or no name.
-pub fn event_head(packet: &Packet) -> Option<EventHead> {
+pub fn event_head(packet: &Packet) -> Option<EventHead>
+    ensures { result ≡ head_in packet.now }
+{
     let bytes = packet.bytes();
     if packet.mid() != EVENT || bytes.len() != EVENT_BYTES {
         return None;

@@ -1,7 +1,9 @@
 //! What a log holds in all: how much of each application, and what an operator looks at first.
 
-ghost use Rattle.std.specs.Prelude.{◌≡◌, ◌<◌, ◌≤◌, length, IfOk};
+ghost use Rattle.std.specs.Prelude.{◌≡◌, ◌<◌, ◌≤◌, ◌++◌, ◌∷◌, [], ℕ, List, length, take, get_or, IfOk, IfSome, OnOk};
 ghost use Rattle.packet_log.specs.Lines.{pipe_text};
+ghost use Rattle.ground_tools.specs.Noted.{error_of, item_noted, head_in};
+ghost use Rattle.ground_tools.specs.Surveys.{Surveys, Notes};
 
 use crate::application::{application_of, event_head};
 use bus_pipes::PipeName;
@@ -59,7 +61,9 @@ pub struct Survey {
 
 impl Survey {
     /// The survey of a log of which nothing came yet.
-    pub fn new(alloc: Global) -> Survey {
+    pub fn new(alloc: Global) -> Survey
+        ensures { Surveys result [] }
+    {
         Survey {
             reader: LogReader::new(),
             line: LogLine {
@@ -89,12 +93,17 @@ impl Survey {
     }
 
     /// What an operator looks at first, in the order in which it came.
-    pub fn notables(&self) -> &[NotableCount] {
+    pub fn notables(&self) -> &[NotableCount]
+        ensures { result.now ≡ self.now.notables.items }
+    {
         self.notables.as_slice()
     }
 
     /// Takes the next piece of the log in, of any length.
-    pub fn take(&mut self, piece: &[u8]) -> Result<(), AllocError> {
+    pub fn take(&mut self, piece: &[u8]) -> Result<(), AllocError>
+        ensures { (log : List ℕ) → Surveys self.old log
+            → OnOk result (Surveys self.new (log ++ piece.now)) }
+    {
         let mut taken = 0;
         'lines: while taken < piece.len() {
             let step = self.take_line(behind(piece, taken))?;
@@ -106,6 +115,8 @@ impl Survey {
     /// Takes a first part of a piece in, as far as the end of a line, and answers how much it is.
     fn take_line(&mut self, piece: &[u8]) -> Result<usize, AllocError>
         requires { 0 < length piece.now }
+        ensures surveys { (log : List ℕ) → Surveys self.old log
+            → IfOk result (λ taken. Surveys self.new (log ++ take taken piece.now)) }
         ensures taken { IfOk result (λ taken. taken ≤ length piece.now) }
         ensures some { IfOk result (λ taken. 0 < taken) }
     {
@@ -125,7 +136,9 @@ impl Survey {
     }
 
     /// Counts a line.
-    fn note(&mut self, line: &LogLine) -> Result<(), AllocError> {
+    fn note(&mut self, line: &LogLine) -> Result<(), AllocError>
+        ensures { OnOk result (Notes self.old self.new (item_noted line.now.item)) }
+    {
         self.lines = self.lines.saturating_add(1);
         match &line.item {
             LineItem::Packet(packet) => self.note_packet(packet),
@@ -140,7 +153,9 @@ impl Survey {
     }
 
     /// Counts a packet that was sent.
-    fn note_packet(&mut self, packet: &Packet) -> Result<(), AllocError> {
+    fn note_packet(&mut self, packet: &Packet) -> Result<(), AllocError>
+        ensures { OnOk result (Notes self.old self.new (error_of (head_in packet.now))) }
+    {
         let head = event_head(packet);
         let one = Sender {
             name: application_of(packet),
@@ -149,26 +164,43 @@ impl Survey {
             commands: u64::from(packet.is_command()),
         };
         add_sender(&mut self.senders, one)?;
-        match head {
-            Some(event) if event.kind == ERROR => self.note_notable(Notable::Error {
-                application: event.application,
-                number: event.number,
-            }),
-            _ => Ok(()),
+        let Some(event) = head else {
+            return Ok(());
+        };
+        if event.kind != ERROR {
+            return Ok(());
         }
+        self.note_notable(Notable::Error {
+            application: event.application,
+            number: event.number,
+        })
     }
 
     /// Counts something that an operator looks at first.
-    fn note_notable(&mut self, what: Notable) -> Result<(), AllocError> {
-        for known in self.notables.iter_mut() {
-            if known.what == what {
-                known.count = known.count.saturating_add(1);
-                return Ok(());
-            }
+    fn note_notable(&mut self, what: Notable) -> Result<(), AllocError>
+        ensures { OnOk result (Notes self.old self.new (what ∷ [])) }
+    {
+        if let Some(place) = place_of(self.notables.as_slice(), &what) {
+            let count = self.notables[place].count.saturating_add(1);
+            self.notables[place] = NotableCount { what, count };
+            return Ok(());
         }
         self.notables.push(NotableCount { what, count: 1 })?;
         Ok(())
     }
+}
+
+/// The place of something among what is counted.
+fn place_of(notables: &[NotableCount], what: &Notable) -> Option<usize>
+    ensures { IfSome result (λ place. (place < length notables.now)
+        × ((other : NotableCount) → (get_or notables.now place other).what ≡ what.now)) }
+{
+    for place in 0..notables.len() {
+        if notables[place].what == *what {
+            return Some(place);
+        }
+    }
+    None
 }
 
 /// Adds to an application's counts.
