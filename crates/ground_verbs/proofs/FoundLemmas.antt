@@ -14,7 +14,7 @@ use Rattle.clap.specs.declared.parser.matches.ArgMatches.{ArgMatches}
 use Rattle.clap.specs.declared.parser.matches.ArgMatches.TheViews.{out-ArgMatches, out-SubCommand}
 use Rattle.clap.specs.declared.parser.matches.SubCommand.{SubCommand}
 use Rattle.clap.proofs.OnLiterals.{clap_on_literals}
-use Rattle.verb_words.specs.Words.{groundkit_app}
+use Rattle.verb_words.specs.Words.{with_verb, groundkit_app}
 use Rattle.verb_words.specs.Reading.{verb_in}
 use Rattle.verb_words.proofs.SimpleLemmas.{reads_simply}
 
@@ -38,7 +38,7 @@ none_found m = go (out-ArgMatches m).subcommand
 
 -- no word of the command line has a rule on another
 reads_freely : (shells : Option ValueParser) → is_simple_and_free (groundkit_app shells) ≡ true
-unfolding clap_on_literals
+unfolding clap_on_literals with_verb
 reads_freely shells = refl
 
 -- what was found in the words is what the definitions say
