@@ -1,5 +1,5 @@
 -- A wakeup in which there is nothing to do.
-use Rattle.std.proofs.Common.{◌≡◌, ◌≤◌, ℕ, Bool, true, false, not, ◌&&◌, cond, List, [], ◌∷◌, ◌++◌, length, take, inl, inr, ◌⊎◌, refl, sym, ap, subst, ◌∙◌, arith, append-nil}
+use Rattle.std.proofs.Common.{◌≡◌, ◌+◌, ◌<◌, ◌≤◌, ℕ, Bool, true, false, not, ◌&&◌, cond, List, [], ◌∷◌, ◌++◌, length, take, inl, inr, ◌⊎◌, refl, sym, ap, subst, ◌∙◌, arith, append-nil}
 use Rattle.std.specs.Prelude.{◌==◌, nat_lt}
 use Rattle.std.specs.List.{flat_map}
 use Rattle.std.proofs.lemmas.Bool.{and_parts, ltb-false}
@@ -29,14 +29,16 @@ use Rattle.hs_monitors.specs.Monitors.{row_at, is_entry, places_of, attempt_wher
 use Rattle.hs_monitors.specs.Events.{event_attempts}
 use Rattle.hs_monitors.specs.Attempts.{by_monitors, past_of, past_in}
 use Rattle.hs_monitors.specs.Step.{hs_heard, turn_of, hs_answers, hs_items}
-use Rattle.hs_monitors.specs.Entries.{KeptStands}
+use Rattle.hs_monitors.specs.Entries.{KeptStands, kept_with}
 use Rattle.hs_monitors.specs.State.{Stands, are_idle, is_idle_on}
 use Rattle.hs_monitors.specs.declared.instructions.Instruction.{Instruction}
+use Rattle.hs_monitors.specs.declared.kept.Kept.{Kept}
 use Rattle.hs_monitors.specs.declared.state.Hs.{Hs}
 use Rattle.hs_monitors.proofs.Lists.{off_by_not}
 use Rattle.hs_monitors.proofs.Places.{given_front, none_used, no_entry, entry_none}
 use Rattle.hs_monitors.proofs.Following.{orders_woken, watch_woken, watch_unordered, past_unordered, past_woken}
 use Rattle.hs_monitors.proofs.Obeying.{entries_as}
+use Rattle.hs_monitors.proofs.Passing.{none_acts, kept_passes}
 use Rattle.hs_monitors.proofs.Waking.{apps_woken}
 
 -- the monitors are idle by what is kept
@@ -63,74 +65,108 @@ off_or_none true places is = inr (by_test (nat_lt 0 places) refl is)
     by_test true some none = cc
     by_test false none is_none = let few = ltb-false 0 places none in omega (arith, few)
 
--- a wakeup without packets
-module _ (setup : Setup) (history : List HsEntry) (input : Input) (quiet : input.commands ≡ []) (silent : input.seen.events ≡ []) (idle : are_idle setup history ≡ true) where
+-- a wakeup without commands
+module _ (history : List HsEntry) (input : Input) (quiet : input.commands ≡ []) where
   unheard : heard_at input ≡ []
   unheard = ap (verdicts_on hs_protocol tt) quiet ∙ verdicts_none hs_protocol tt
 
-  unordered : ordered_at input ≡ []
+  pub unordered : ordered_at input ≡ []
   unordered = ap (λ (heard : List (Verdict Instruction)). orders_in heard) unheard ∙ orders_none Instruction
 
-  halves : (not (is_on (orders_of history) && nat_lt 0 (places_of (apps_after setup history))) ≡ true) × (not (is_cooling setup.tables.acts (past_of setup history)) ≡ true)
-  unfolding are_idle
-  halves = and_parts (not (is_on (orders_of history) && nat_lt 0 (places_of (apps_after setup history)))) (not (is_cooling setup.tables.acts (past_of setup history))) idle
-
-  on_same : is_on (orders_of history ++ ordered_at input) ≡ is_on (orders_of history)
+  pub on_same : is_on (orders_of history ++ ordered_at input) ≡ is_on (orders_of history)
   on_same = ap (λ (orders : List Instruction). is_on (orders_of history ++ orders)) unordered ∙ ap is_on (append-nil (orders_of history))
 
-  none_attempted : by_monitors setup history input ≡ []
-  unfolding by_monitors
-  none_attempted =
-      let k = length (wakeups history) in
-      ap (λ (xs : List Happening). xs ++ cond (is_listening (orders_of history ++ ordered_at input)) (flat_map (event_attempts k (tables_after setup history).events) input.seen.events) []) (apps_quiet (is_on (orders_of history ++ ordered_at input)) on_same)
-      ∙ ap (λ (packets : List (List ℕ)). cond (is_listening (orders_of history ++ ordered_at input)) (flat_map (event_attempts k (tables_after setup history).events) packets) []) silent
-      ∙ events_quiet (is_listening (orders_of history ++ ordered_at input))
-    where
-      nothing : (on : Bool) → flat_map (app_attempt (length (wakeups history)) (watch_of (history ++ Woken input ∷ []))) (apps_after setup history) ≡ []
-          → cond on (flat_map (app_attempt (length (wakeups history)) (watch_of (history ++ Woken input ∷ []))) (apps_after setup history)) [] ≡ []
-      nothing true is = is
-      nothing false is = refl
+-- what the application monitors attempt in a wakeup
+abbrev pub apps_attempt : Setup → List HsEntry → Input → Bool → List Happening
+apps_attempt setup history input on = cond on (flat_map (app_attempt (length (wakeups history)) (watch_of (history ++ Woken input ∷ []))) (apps_after setup history)) []
 
-      apps_quiet : (on : Bool) → on ≡ is_on (orders_of history) → cond on (flat_map (app_attempt (length (wakeups history)) (watch_of (history ++ Woken input ∷ []))) (apps_after setup history)) [] ≡ []
-      apps_quiet on is = elim (off_or_none (is_on (orders_of history)) (places_of (apps_after setup history)) halves.0) [
-        | inl off ↦ ap (λ (b : Bool). cond b (flat_map (app_attempt (length (wakeups history)) (watch_of (history ++ Woken input ∷ []))) (apps_after setup history)) []) (is ∙ off)
-        | inr none ↦ nothing on (sym (unused_attempts (length (wakeups history)) (watch_of (history ++ Woken input ∷ [])) (apps_after setup history) 0 (omega (arith, none))))
-      ]
+-- no event is heard, and the application monitors attempt nothing
+pub none_attempted : (setup : Setup) (history : List HsEntry) (input : Input) → input.seen.events ≡ [] → apps_attempt setup history input (is_on (orders_of history ++ ordered_at input)) ≡ [] → by_monitors setup history input ≡ []
+unfolding by_monitors
+none_attempted setup history input silent none =
+    let k = length (wakeups history) in
+    ap (λ (xs : List Happening). xs ++ cond (is_listening (orders_of history ++ ordered_at input)) (flat_map (event_attempts k (tables_after setup history).events) input.seen.events) []) none
+    ∙ ap (λ (packets : List (List ℕ)). cond (is_listening (orders_of history ++ ordered_at input)) (flat_map (event_attempts k (tables_after setup history).events) packets) []) silent
+    ∙ events_quiet (is_listening (orders_of history ++ ordered_at input))
+  where
+    events_quiet : (listening : Bool) → cond {A = List Happening} listening [] [] ≡ []
+    events_quiet true = refl
+    events_quiet false = refl
 
-      events_quiet : (listening : Bool) → cond {A = List Happening} listening [] [] ≡ []
-      events_quiet true = refl
-      events_quiet false = refl
-
-  pub idle_items : hs_items setup history input ≡ []
+-- a wakeup without commands in which nothing is attempted, before which no cooldown runs
+module _ (setup : Setup) (history : List HsEntry) (input : Input) (quiet : input.commands ≡ []) (cool : is_cooling setup.tables.acts (past_of setup history) ≡ false) (none : by_monitors setup history input ≡ []) where
+  pub quiet_items : hs_items setup history input ≡ []
   unfolding hs_items
-  idle_items =
+  quiet_items =
       let past = past_in setup history (ordered_at input) in
       ap (λ (xs : List Out). xs ++ items_of input.time setup.tables.acts past (by_monitors setup history input))
-      (ap (command_items hs_answers hs_name (turn_of setup history input)) unheard ∙ no_answers hs_answers hs_name (turn_of setup history input))
-      ∙ ap (items_of input.time setup.tables.acts past) none_attempted
+      (ap (command_items hs_answers hs_name (turn_of setup history input)) (unheard history input quiet) ∙ no_answers hs_answers hs_name (turn_of setup history input))
+      ∙ ap (items_of input.time setup.tables.acts past) none
       ∙ items_none input.time setup.tables.acts past
 
   past_next : past_of setup (history ++ Woken input ∷ []) ≡ in_next_wakeup (past_of setup history)
   past_next =
-      past_woken setup history input ∙ ap (with_more (past_in setup history (ordered_at input))) none_attempted ∙ more_none (past_in setup history (ordered_at input))
-      ∙ ap (past_in setup history) unordered ∙ past_unordered setup history
+      past_woken setup history input ∙ ap (with_more (past_in setup history (ordered_at input))) none ∙ more_none (past_in setup history (ordered_at input))
+      ∙ ap (past_in setup history) (unordered history input quiet) ∙ past_unordered setup history
 
   orders_next : orders_of history ++ [] ≡ orders_of (history ++ Woken input ∷ []) ++ []
-  orders_next = sym (orders_woken history input ∙ ap (λ (orders : List Instruction). orders_of history ++ orders) unordered)
+  orders_next = sym (orders_woken history input ∙ ap (λ (orders : List Instruction). orders_of history ++ orders) (unordered history input quiet))
+
+  -- what is kept of the entries may be another, and all else stays
+  pub quiet_stands : (hs next : Hs) → next.counts ≡ hs.counts → next.duty.monitoring ≡ hs.duty.monitoring → next.duty.listening ≡ hs.duty.listening → next.duty.places ≡ hs.duty.places → next.duty.actions ≡ hs.duty.actions
+      → KeptStands (apps_after setup (history ++ Woken input ∷ [])) (watch_at (history ++ Woken input ∷ []) []) next.duty.kept → Stands setup history hs → Stands setup (history ++ Woken input ∷ []) next
+  unfolding Stands hs_heard
+  quiet_stands hs next counts monitoring listening places actions kept stood = record {
+    counts = counts ∙ stood.counts ∙ ap counts_of (sym (heard_idle hs_protocol (λ (earlier : List HsEntry) (e : HsEntry). tt) packets_in history (Woken input) quiet));
+    duty = record {
+      monitoring = monitoring ∙ stood.duty.monitoring ∙ ap is_on orders_next;
+      listening = listening ∙ stood.duty.listening ∙ ap is_listening orders_next;
+      places = places ∙ stood.duty.places ∙ ap places_of (sym (apps_woken setup history input));
+      kept = kept;
+      actions =
+          subst (ActionsStand setup.tables.acts (past_of setup (history ++ Woken input ∷ []))) (sym actions)
+          (subst (λ (p : Past). ActionsStand setup.tables.acts p hs.duty.actions) (sym past_next)
+          (stands_idle setup.tables.acts (past_of setup history) hs.duty.actions cool stood.duty.actions));
+    };
+  }
+
+-- a wakeup without packets, where the monitors have nothing to do
+module _ (setup : Setup) (history : List HsEntry) (input : Input) (quiet : input.commands ≡ []) (silent : input.seen.events ≡ []) (idle : are_idle setup history ≡ true) where
+  halves : (not (is_on (orders_of history) && nat_lt 0 (places_of (apps_after setup history))) ≡ true) × (not (is_cooling setup.tables.acts (past_of setup history)) ≡ true)
+  unfolding are_idle
+  halves = and_parts (not (is_on (orders_of history) && nat_lt 0 (places_of (apps_after setup history)))) (not (is_cooling setup.tables.acts (past_of setup history))) idle
+
+  cool : is_cooling setup.tables.acts (past_of setup history) ≡ false
+  cool = off_by_not (is_cooling setup.tables.acts (past_of setup history)) halves.1
+
+  nothing_attempted : by_monitors setup history input ≡ []
+  nothing_attempted = none_attempted setup history input silent (apps_quiet (is_on (orders_of history ++ ordered_at input)) (on_same history input quiet))
+    where
+      nothing : (on : Bool) → flat_map (app_attempt (length (wakeups history)) (watch_of (history ++ Woken input ∷ []))) (apps_after setup history) ≡ [] → apps_attempt setup history input on ≡ []
+      nothing true is = is
+      nothing false is = refl
+
+      apps_quiet : (on : Bool) → on ≡ is_on (orders_of history) → apps_attempt setup history input on ≡ []
+      apps_quiet on is = elim (off_or_none (is_on (orders_of history)) (places_of (apps_after setup history)) halves.0) [
+        | inl off ↦ ap (apps_attempt setup history input) (is ∙ off)
+        | inr none ↦ nothing on (sym (unused_attempts (length (wakeups history)) (watch_of (history ++ Woken input ∷ [])) (apps_after setup history) 0 (omega (arith, none))))
+      ]
+
+  pub idle_items : hs_items setup history input ≡ []
+  idle_items = quiet_items setup history input quiet cool nothing_attempted
 
   -- what is kept of the entries, of which none is checked
-  kept_next : (hs : Hs) → KeptStands (apps_after setup history) (watch_at history []) hs.duty.kept
-      → KeptStands (apps_after setup (history ++ Woken input ∷ [])) (watch_at (history ++ Woken input ∷ []) []) hs.duty.kept
-  kept_next hs stood = elim (off_or_none (is_on (orders_of history)) (places_of (apps_after setup history)) halves.0) [
+  kept_next : (kept : Kept) → KeptStands (apps_after setup history) (watch_at history []) kept → KeptStands (apps_after setup (history ++ Woken input ∷ [])) (watch_at (history ++ Woken input ∷ []) []) kept
+  kept_next kept stood = elim (off_or_none (is_on (orders_of history)) (places_of (apps_after setup history)) halves.0) [
     | inl off ↦
         let same : watch_at history [] ≡ watch_at (history ++ Woken input ∷ []) [] =
         sym (
         watch_unordered (history ++ Woken input ∷ []) ∙ watch_woken history input
-        ∙ ap (λ (b : Bool). cond b (watch_at history (ordered_at input) ++ input.seen.counters ∷ []) (watch_at history (ordered_at input))) (on_same ∙ off)
-        ∙ ap (watch_at history) unordered) in
-        entries_as (apps_after setup history) (apps_after setup (history ++ Woken input ∷ [])) (watch_at history []) (watch_at (history ++ Woken input ∷ []) []) hs.duty.kept (sym (apps_woken setup history input)) same stood
+        ∙ ap (λ (b : Bool). cond b (watch_at history (ordered_at input) ++ input.seen.counters ∷ []) (watch_at history (ordered_at input))) (on_same history input quiet ∙ off)
+        ∙ ap (watch_at history) (unordered history input quiet)) in
+        entries_as (apps_after setup history) (apps_after setup (history ++ Woken input ∷ [])) (watch_at history []) (watch_at (history ++ Woken input ∷ []) []) kept (sym (apps_woken setup history input)) same stood
     | inr none ↦
-        entries_as (apps_after setup history) (apps_after setup (history ++ Woken input ∷ [])) (watch_at (history ++ Woken input ∷ []) []) (watch_at (history ++ Woken input ∷ []) []) hs.duty.kept (sym (apps_woken setup history input)) refl
+        entries_as (apps_after setup history) (apps_after setup (history ++ Woken input ∷ [])) (watch_at (history ++ Woken input ∷ []) []) (watch_at (history ++ Woken input ∷ []) []) kept (sym (apps_woken setup history input)) refl
         (record {
           whole = stood.whole;
           heads = stood.heads;
@@ -141,19 +177,34 @@ module _ (setup : Setup) (history : List HsEntry) (input : Input) (quiet : input
   ]
 
   pub idle_stands : (hs : Hs) → Stands setup history hs → Stands setup (history ++ Woken input ∷ []) hs
-  unfolding Stands hs_heard
-  idle_stands hs stood = record {
-    counts = stood.counts ∙ ap counts_of (sym (heard_idle hs_protocol (λ (earlier : List HsEntry) (e : HsEntry). tt) packets_in history (Woken input) quiet));
-    duty = record {
-      monitoring = stood.duty.monitoring ∙ ap is_on orders_next;
-      listening = stood.duty.listening ∙ ap is_listening orders_next;
-      places = stood.duty.places ∙ ap places_of (sym (apps_woken setup history input));
-      kept = kept_next hs stood.duty.kept;
-      actions =
-          subst (λ (p : Past). ActionsStand setup.tables.acts p hs.duty.actions) (sym past_next)
-          (stands_idle setup.tables.acts (past_of setup history) hs.duty.actions (off_by_not (is_cooling setup.tables.acts (past_of setup history)) halves.1) stood.duty.actions);
-    };
-  }
+  unfolding Stands
+  idle_stands hs stood = quiet_stands setup history input quiet cool nothing_attempted hs hs refl refl refl refl refl (kept_next hs.duty.kept stood.duty.kept) stood
+
+-- a wakeup without packets and counters, where application monitoring is on, no cooldown runs and no countdown can end
+module _ (setup : Setup) (history : List HsEntry) (input : Input) (quiet : input.commands ≡ []) (silent : input.seen.events ≡ []) (alone : input.seen.counters ≡ []) (cool : is_cooling setup.tables.acts (past_of setup history) ≡ false)
+    (on : is_on (orders_of history ++ []) ≡ true) (kept : Kept) (stood : KeptStands (apps_after setup history) (watch_at history []) kept) (soon : kept.passed + 1 < kept.least) where
+  on_now : is_on (orders_of history ++ ordered_at input) ≡ true
+  on_now = ap (λ (orders : List Instruction). is_on (orders_of history ++ orders)) (unordered history input quiet) ∙ on
+
+  watch_next : watch_of (history ++ Woken input ∷ []) ≡ watch_at history [] ++ input.seen.counters ∷ []
+  watch_next =
+      watch_woken history input
+      ∙ ap (λ (b : Bool). cond b (watch_at history (ordered_at input) ++ input.seen.counters ∷ []) (watch_at history (ordered_at input))) on_now
+      ∙ ap (λ (orders : List Instruction). watch_at history orders ++ input.seen.counters ∷ []) (unordered history input quiet)
+
+  pub counted_attempts : by_monitors setup history input ≡ []
+  counted_attempts =
+      let k = length (wakeups history) in
+      none_attempted setup history input silent
+      (ap (apps_attempt setup history input) on_now
+      ∙ ap (λ (checks : List (List Counter)). flat_map (app_attempt k checks) (apps_after setup history)) watch_next
+      ∙ none_acts (apps_after setup history) (watch_at history []) input.seen.counters kept stood soon k)
+
+  pub counted_kept : KeptStands (apps_after setup (history ++ Woken input ∷ [])) (watch_at (history ++ Woken input ∷ []) []) (kept_with kept.heads kept.watched (kept.passed + 1) kept.least)
+  counted_kept =
+      entries_as (apps_after setup history) (apps_after setup (history ++ Woken input ∷ [])) (watch_at history [] ++ input.seen.counters ∷ []) (watch_at (history ++ Woken input ∷ []) []) (kept_with kept.heads kept.watched (kept.passed + 1) kept.least)
+      (sym (apps_woken setup history input)) (sym (watch_unordered (history ++ Woken input ∷ []) ∙ watch_next))
+      (kept_passes (apps_after setup history) (watch_at history []) input.seen.counters (ap (λ (counters : List Counter). length counters == 0) alone) kept stood soon)
 
 -- by the test of the whole
 pub quiet_parts : (setup : Setup) (history : List HsEntry) (commands events : List (List ℕ)) → is_idle_on setup history commands events ≡ true → (commands ≡ []) × (events ≡ []) × (are_idle setup history ≡ true)

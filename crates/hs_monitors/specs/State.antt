@@ -1,8 +1,9 @@
 -- When a state of Health and Safety stands for what it was set up with and a history, and when it has nothing to do.
-use Rattle.std.specs.Prelude.{◌≡◌, ◌==◌, ℕ, nat_lt, Bool, not, ◌&&◌, List, [], ◌++◌, length, Option, Some, None}
+use Rattle.std.specs.Prelude.{◌≡◌, ◌==◌, ◌+◌, ◌<◌, ℕ, nat_lt, Bool, true, false, not, ◌&&◌, List, [], ◌++◌, length, Option, Some, None}
 use Rattle.commands.specs.Counting.{counts_of}
 use Rattle.table_files.specs.declared.kinds.TableKind.{TableKind}
 use Rattle.table_files.specs.declared.kinds.TableKind.TheVariants.{AppMon, EventMon, ExeCount, MsgActs, Ats, Rts, Dwell, Eeprom, Memory, Wdt, Adt}
+use Rattle.hs_tables.specs.declared.actions.ActRow.{ActRow}
 use Rattle.hs_tables.specs.declared.tables.HsTables.{HsTables}
 use Rattle.hs_actions.specs.Outcomes.{Past}
 use Rattle.hs_actions.specs.State.{ActionsStand, is_cooling}
@@ -42,6 +43,12 @@ are_idle setup history =
 -- Health and Safety has nothing to do where there are no packets and its monitors have nothing to do.
 unfoldable pub is_idle_on : Setup → List HsEntry → List (List ℕ) → List (List ℕ) → Bool
 is_idle_on setup history commands events = ((length commands == 0) && (length events == 0)) && are_idle setup history
+
+-- A wakeup without packets and counters does nothing but count a check: application monitoring is on, no cooldown runs, and no countdown can end.
+pub record OnlyCounts (duty : Duty) : Type 0 where
+  pub on : duty.monitoring ≡ true
+  pub cool : (acts : List ActRow) (past : Past) → ActionsStand acts past duty.actions → is_cooling acts past ≡ false
+  pub soon : duty.kept.passed + 1 < duty.kept.least
 
 -- The activation of a kind that Health and Safety has, with the table of the kind; none of another.
 abbrev pub activation_of : TableKind → HsTables → Option Activation

@@ -11,7 +11,7 @@ ghost use Rattle.hs_monitors.specs.Events.{event_attempts};
 ghost use Rattle.hs_monitors.specs.Attempts.{past_of, past_in};
 ghost use Rattle.hs_monitors.specs.Housekeeping.{watching_bits};
 ghost use Rattle.hs_monitors.specs.Entries.{KeptStands};
-ghost use Rattle.hs_monitors.specs.State.{DutyStands, are_idle};
+ghost use Rattle.hs_monitors.specs.State.{DutyStands, OnlyCounts, are_idle};
 ghost use Rattle.hs_monitors.specs.declared.instructions.Instruction.{Instruction};
 
 use crate::apps::places_in;
@@ -31,7 +31,7 @@ pub(crate) struct Duty {
     monitoring: bool,
     listening: bool,
     places: u8,
-    kept: Kept,
+    pub(crate) kept: Kept,
     pub(crate) actions: Actions,
 }
 
@@ -188,6 +188,21 @@ impl Duty {
             → result ≡ are_idle setup history }
     {
         !self.may_check() && !self.actions.is_cooling()
+    }
+
+    /// Whether a wakeup without packets and counters does nothing but count a check: application monitoring is on, no cooldown runs, and no
+    /// countdown can end.
+    #[inline(always)]
+    pub(crate) fn only_counts(&self) -> bool
+        ensures { result ≡ true → OnlyCounts self.now }
+    {
+        if !self.monitoring {
+            return false;
+        }
+        if !self.kept.ends_none() {
+            return false;
+        }
+        !self.actions.is_cooling()
     }
 
     /// Whether a used entry may be checked: without one, no more is asked.

@@ -1,5 +1,5 @@
 //! What is kept of all application monitors together, and their checks.
-ghost use Rattle.std.specs.Prelude.{◌≡◌, ℕ, ◌+◌, ◌<◌, ◌≤◌, List, [], ◌∷◌, ◌++◌, length, Some};
+ghost use Rattle.std.specs.Prelude.{◌≡◌, ℕ, ◌+◌, ◌<◌, ◌≤◌, List, [], ◌∷◌, ◌++◌, length, Some, nat_lt};
 ghost use Rattle.std.specs.List.{flat_map, AllPass};
 ghost use Rattle.bus_pipes.specs.Counted.{is_item_counted};
 ghost use Rattle.packet_forms.specs.declared.name.Counter.{Counter};
@@ -75,6 +75,24 @@ impl Kept {
             return;
         }
         self.check_each(tables, places, counters, now, actions, out);
+    }
+
+    /// Whether no countdown can end in a check.
+    #[inline(always)]
+    pub(crate) fn ends_none(&self) -> bool
+        ensures { result ≡ nat_lt (self.now.passed + 1) self.now.least }
+    {
+        self.passed as u32 + 1 < self.least as u32
+    }
+
+    /// Counts a check without counters in which no countdown ends.
+    #[inline(always)]
+    pub(crate) fn count(&mut self)
+        requires { self.old.passed + 1 < self.old.least }
+        ensures { self.new ≡ record self.old { passed = self.old.passed + 1 } }
+    {
+        let passed = self.passed;
+        self.passed = passed + 1;
     }
 
     /// A check in which no countdown ends: those of entries whose counters changed begin anew.

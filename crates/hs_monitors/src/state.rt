@@ -3,7 +3,7 @@ ghost use Rattle.std.specs.Prelude.{◌≡◌, true, List, [], ◌∷◌, ◌++�
 ghost use Rattle.histories.specs.Entries.Entry.{Woken, Activated};
 ghost use Rattle.hs_monitors.specs.Histories.{Input, Activation, HsEntry, Setup, setup_of};
 ghost use Rattle.hs_monitors.specs.Step.{hs_items, resets_made, resets_maximum};
-ghost use Rattle.hs_monitors.specs.State.{Stands, is_idle_on, activation_of};
+ghost use Rattle.hs_monitors.specs.State.{Stands, OnlyCounts, is_idle_on, activation_of};
 
 use crate::duty::Duty;
 use crate::input::HsInput;
@@ -84,5 +84,27 @@ impl Hs {
             return false;
         }
         self.duty.are_idle()
+    }
+
+    /// Whether a wakeup without packets and counters does nothing but count a check.
+    #[inline(always)]
+    pub fn only_counts(&self) -> bool
+        ensures { result ≡ true → OnlyCounts self.now.duty }
+    {
+        self.duty.only_counts()
+    }
+
+    /// Performs a wakeup without packets and counters that does nothing but count a check.
+    #[inline(always)]
+    pub fn count(&mut self)
+        requires { OnlyCounts self.old.duty }
+        ensures stands { (setup : Setup) (history : List HsEntry) (i : Input) → i.commands ≡ []
+            → i.seen.events ≡ [] → i.seen.counters ≡ [] → Stands setup history self.old
+            → Stands setup (history ++ Woken i ∷ []) self.new }
+        ensures items { (setup : Setup) (history : List HsEntry) (i : Input) → i.commands ≡ []
+            → i.seen.events ≡ [] → i.seen.counters ≡ [] → Stands setup history self.old
+            → hs_items setup history i ≡ [] }
+    {
+        self.duty.kept.count();
     }
 }
