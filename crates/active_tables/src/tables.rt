@@ -111,7 +111,7 @@ impl<'f> Tables<'f> {
     }
 
     /// Makes the table of this FILE the active one of its kind. Its entries have no fault, so they aren't asked for one again.
-    pub fn activate(&mut self, file: u32)
+    pub fn activate_checked(&mut self, file: u32)
         requires named { (kind : TableKind) × (kind_at self.old.files file ≡ Some kind) }
         requires well { tables_fault self.old.files ≡ None }
         ensures { self.new ≡ record self.old {

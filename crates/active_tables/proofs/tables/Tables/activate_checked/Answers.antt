@@ -3,7 +3,7 @@ use Rattle.table_files.specs.Files.{file_at}
 use Rattle.table_files.proofs.Lists.{numbers_of_tables}
 use Rattle.active_tables.specs.Tables.{with_file, tables_fault}
 use Rattle.active_tables.proofs.GivenTables.{file_well}
-use Rattle.active_tables.proofs.tables.Tables.activate.Goals as goal
+use Rattle.active_tables.proofs.tables.Tables.activate_checked.Goals as goal
 
 pub get-requires-clause-least : goal.get-requires-clause-least
 get-requires-clause-least c = ((numbers_of_tables c.args.self.now.files c.args.file c.requires.named.0).0 c.requires.named.1).0
