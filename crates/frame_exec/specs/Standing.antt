@@ -42,7 +42,7 @@ pub record IsReady (b : Bench) : Type 0 where
 
 -- where it is noted that the bench is idle it is
 abbrev pub IsNoted : Bench → Type 0
-IsNoted b = b.idle ≡ true → IsIdle b.wires.bus b.apps
+IsNoted b = b.idle ≡ true → IsIdle b.wires.bus b.counts b.apps
 
 -- these upsets lie in memory
 abbrev pub AreMapped : List Upset → Memory → Type 0

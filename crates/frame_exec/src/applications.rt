@@ -55,7 +55,8 @@ impl Applications {
     ghost use Rattle.frame_runs.specs.Runs.{left_by};
     ghost use Rattle.frame_wires.specs.Sending.{is_reset, shown};
     ghost use Rattle.scenario.specs.declared.frame.App.{App};
-    ghost use Rattle.frame_exec.specs.Idling.{AreIdle, IsNoneDue};
+    ghost use Rattle.hs_monitors.specs.State.{OnlyCounts};
+    ghost use Rattle.frame_exec.specs.Idling.{AreIdle, HasPassed, HsPasses, IsNoneDue};
     ghost use Rattle.frame_exec.specs.Parts.{AreClear, AreReadyOn, AreStamped, CanBeSent, HistoriesBegin, IsTaken, KeepsApps, KeepsRoom, TakeAll, TakesOver, given_in, items_in};
 
     /// The applications on these tables before the first frame, whose time is `time`, with a crew of so many workers; and whether LC
@@ -195,19 +196,50 @@ impl Applications {
         hs & cs & sc & mm & md
     }
 
-    /// Whether each application but SC rests as long as it has no packets and HS no counters.
+    /// Whether HS may have something to do though it has no packets and no counters.
     #[inline(always)]
-    pub(crate) fn are_idle(&self) -> bool
-        ensures { result ≡ true → AreIdle self.now }
+    pub(crate) fn hs_may_count(&self) -> bool
+        ensures { result ≡ false → HsPasses self.now.hs.state.value self.now.hs.state.value }
     {
         let none = HsInput {
             commands: &[],
             events: &[],
             counters: &[],
         };
-        if !self.hs.state.is_idle(&none) {
-            return false;
+        !self.hs.state.is_idle(&none)
+    }
+
+    /// Whether HS has at most a check to count as long as it has no packets and no counters. It is asked only where it `counts`.
+    #[inline(always)]
+    pub(crate) fn hs_only_counts(&self, counts: bool) -> bool
+        ensures { result ≡ true → counts ≡ true → OnlyCounts self.now.hs.state.value.duty }
+    {
+        if !counts {
+            return true;
         }
+        self.hs.state.only_counts()
+    }
+
+    /// Wakes HS without packets and counters, where it has at most a check to count. Where it doesn't count it rests.
+    #[inline(always)]
+    pub(crate) fn pass_hs(&mut self, counts: bool)
+        requires only { counts ≡ true → OnlyCounts self.old.hs.state.value.duty }
+        requires rests { counts ≡ false
+            → HsPasses self.old.hs.state.value self.old.hs.state.value }
+        ensures passed { HasPassed self.old self.new }
+        ensures same { counts ≡ false → self.new ≡ self.old }
+        ensures keeps { KeepsRoom self.old self.new }
+    {
+        if counts {
+            self.hs.state.count();
+        }
+    }
+
+    /// Whether each application but HS and SC rests as long as it has no packets.
+    #[inline(always)]
+    pub(crate) fn are_idle(&self) -> bool
+        ensures { result ≡ true → AreIdle self.now }
+    {
         if !self.md.state.is_idle(&[]) {
             return false;
         }

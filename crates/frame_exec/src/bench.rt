@@ -29,8 +29,11 @@ pub struct Bench<'f> {
     pub(crate) failed: bool,
     // whether a processor reset was asked for in the frame that was run
     pub(crate) resets: bool,
-    // whether it is noted that the bench is idle: a frame of no items does nothing but count, as long as no command of SC is due
+    // whether it is noted that the bench is idle: a frame of no items does nothing but count, as long as no command of SC is due and HS has at
+    // most a check to count
     pub(crate) idle: bool,
+    // whether HS is asked then: it may have checks to count
+    pub(crate) counts: bool,
     // how many threads may land operations, or cycle a crowd, at once
     pub(crate) workers: u32,
     pub(crate) tables: Tables<'f>,
@@ -473,7 +476,7 @@ impl<'f> Bench<'f> {
             Naming::Running => return Naming::Running,
             Naming::Accepted => {}
         }
-        self.tables.activate(file);
+        self.tables.activate_checked(file);
         hand_over(
             &self.tables,
             kind,

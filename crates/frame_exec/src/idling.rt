@@ -10,13 +10,14 @@ use scenario::FrameInput;
 use std::thread::Threads;
 
 impl<'f> Bench<'f> {
-    ghost use Rattle.std.specs.Prelude.{◌+◌, ◌<◌, ◌++◌, List, true, is_err};
+    ghost use Rattle.std.specs.Prelude.{◌+◌, ◌<◌, ◌++◌, List, true, false, is_err};
     ghost use Rattle.fsw_outside.specs.Causes.{HasCause};
     ghost use Rattle.scenario.specs.FrameLists.{Frame, no_items};
     ghost use Rattle.frame_runs.specs.Runs.{Setup};
     ghost use Rattle.frame_exec.specs.Standing.{has_failed, CanRun};
     ghost use Rattle.frame_exec.specs.Following.{Follows, AddsFrame};
-    ghost use Rattle.frame_exec.specs.Idling.{IsIdle, IsNoneDue};
+    ghost use Rattle.hs_monitors.specs.State.{OnlyCounts};
+    ghost use Rattle.frame_exec.specs.Idling.{HsPasses, IsIdle, IsNoneDue};
     ghost use Rattle.frame_exec.specs.Stages.{time_of};
 
     /// Adds a frame beside no crowd, as `add_frame` does.
@@ -43,13 +44,16 @@ impl<'f> Bench<'f> {
         self.add_whole(rt, input, gate, sink)
     }
 
-    /// Whether nothing happens in a frame but that it is counted: it has no items, the bench is idle, and no command of SC is due.
+    /// Whether nothing happens in a frame but that it is counted: it has no items, the bench is idle, no command of SC is due, and HS has at
+    /// most a check to count.
     #[inline(always)]
     fn passes(&self, input: &FrameInput) -> bool
         requires time { self.now.epoch + self.now.number < 4294967296 }
         ensures none { result ≡ true → input.now ≡ no_items }
         ensures idle { result ≡ true → self.now.idle ≡ true }
         ensures due { result ≡ true → IsNoneDue (time_of self.now) self.now.apps }
+        ensures hs { result ≡ true → self.now.counts ≡ true
+            → OnlyCounts self.now.apps.hs.state.value.duty }
     {
         if !self.idle {
             return false;
@@ -57,16 +61,21 @@ impl<'f> Bench<'f> {
         if !has_no_items(input) {
             return false;
         }
-        self.apps.owes_nothing(self.epoch + self.number as u32)
+        if !self.apps.owes_nothing(self.epoch + self.number as u32) {
+            return false;
+        }
+        self.apps.hs_only_counts(self.counts)
     }
 
-    /// Adds a frame of no items to a bench that is idle, where no command of SC is due: only its end is noted, and it is counted.
+    /// Adds a frame of no items to a bench that is idle, where no command of SC is due: only its end is noted, a check of HS is counted where it
+    /// has one, and the frame is counted.
     #[inline(always)]
     fn count<O: Sink>(&mut self, sink: &mut O) -> Result<(), Cut>
         requires started { (setup : Setup) × (earlier : List Frame) × (later : List Frame)
             × Follows self.old setup earlier later × CanRun setup (earlier ++ later) no_items }
-        requires idle { IsIdle self.old.wires.bus self.old.apps }
+        requires idle { IsIdle self.old.wires.bus self.old.counts self.old.apps }
         requires due { IsNoneDue (time_of self.old) self.old.apps }
+        requires hs { self.old.counts ≡ true → OnlyCounts self.old.apps.hs.state.value.duty }
         ensures adds { (setup : Setup) (earlier later : List Frame)
             → Follows self.old setup earlier later
             → AddsFrame result setup earlier later no_items self.old self.new
@@ -74,6 +83,7 @@ impl<'f> Bench<'f> {
         ensures cause { HasCause (O.held sink.new) (O.faults sink.old) (O.faults sink.new) result }
         ensures failed { has_failed self.new ≡ is_err result }
     {
+        self.apps.pass_hs(self.counts);
         match self.lines.block.mark_end(sink) {
             Ok(()) => {
                 self.number += 1;
@@ -84,7 +94,7 @@ impl<'f> Bench<'f> {
     }
 
     /// Adds a frame beside no crowd, and notes whether the bench is idle behind it.
-    #[inline(never)]
+    #[inline(always)]
     fn add_whole<R: Threads + Sync, G: Gate, O: Sink>(
         &mut self,
         rt: &R,
@@ -103,6 +113,7 @@ impl<'f> Bench<'f> {
     {
         match self.add_on(rt, input, input.counters(), gate, sink) {
             Ok(()) => {
+                self.counts = self.apps.hs_may_count();
                 self.idle = self.is_idle_behind(input);
                 Ok(())
             }
@@ -114,7 +125,9 @@ impl<'f> Bench<'f> {
     /// something most likely happens in the next frame too.
     #[inline(always)]
     fn is_idle_behind(&self, input: &FrameInput) -> bool
-        ensures { result ≡ true → IsIdle self.now.wires.bus self.now.apps }
+        requires { self.now.counts ≡ false
+            → HsPasses self.now.apps.hs.state.value self.now.apps.hs.state.value }
+        ensures { result ≡ true → IsIdle self.now.wires.bus self.now.counts self.now.apps }
     {
         if !has_no_items(input) {
             return false;

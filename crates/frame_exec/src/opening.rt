@@ -71,6 +71,7 @@ impl<'f> Bench<'f> {
             failed: false,
             resets: false,
             idle: false,
+            counts: false,
             workers,
             tables,
             apps,

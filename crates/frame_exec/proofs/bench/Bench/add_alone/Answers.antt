@@ -23,3 +23,6 @@ pub returns-then-passes-clause-adds : goal.returns-then-passes-clause-adds
 returns-then-passes-clause-adds g c = λ setup earlier later follows.
     subst (λ (frame : Frame). AddsFrame c.count.result setup earlier later frame c.args.self.now c.count.new.self (g.O.Sink.held c.args.sink.now) (g.O.Sink.held c.count.new.sink)) (sym (c.passes.ensures.none c.if-passes.true))
     (c.count.ensures.adds setup earlier later follows)
+
+pub count-requires-clause-hs : goal.count-requires-clause-hs
+count-requires-clause-hs g c = c.passes.ensures.hs c.if-passes.true

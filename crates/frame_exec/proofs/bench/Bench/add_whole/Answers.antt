@@ -11,7 +11,7 @@ use Rattle.frame_exec.proofs.bench.Bench.add_whole.Goals as goal
 -- the frame's own counters are those that it was run on
 pub returns-in-Ok-clause-adds : goal.returns-in-Ok-clause-adds
 returns-in-Ok-clause-adds g c = λ setup earlier later follows. record {
-  follows = follows_noted c.add_on.new.self _ _ _ _ setup earlier _ c.is_idle_behind-self.ensures
+  follows = follows_noted c.add_on.new.self _ _ _ _ _ setup earlier _ c.is_idle_behind-self.ensures
       (subst (λ (counters : List Counter). Follows c.add_on.new.self setup earlier (later ++ with_counters counters c.args.input.now ∷ [])) c.counters.ensures.value (c.in-Ok.ensures.follows setup earlier later follows));
   told = subst (λ (counters : List Counter). WhereTold (tells (g.O.Sink.held c.args.sink.now) c.args.self.now.lines.block) (tells (g.O.Sink.held c.add_on.new.sink) c.add_on.new.self.lines.block)
       (λ before after. after ≡ before ++ frame_lines setup (earlier ++ later) (with_counters counters c.args.input.now))) c.counters.ensures.value (c.in-Ok.ensures.told setup earlier later follows);
