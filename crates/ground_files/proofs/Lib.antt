@@ -1,3 +1,4 @@
+pub mod InputLemmas
 pub mod PlaceLemmas
 pub mod ReadLemmas
 pub mod WriteLemmas

@@ -24,6 +24,11 @@ without_input held = record held { input = [] }
 abbrev pub input_taken : List ℕ → Held → Held
 input_taken name held = record held { input = if is_dash name then [] else held.input }
 
+-- The inputs of these names were opened one after another.
+abbrev pub inputs_taken : List (List ℕ) → Held → Held
+inputs_taken [] held = held
+inputs_taken (name ∷ names) held = inputs_taken names (input_taken name held)
+
 -- Files with one of this name and these bytes, in the place of the one that has the name, or else behind them.
 abbrev pub file_put : List ℕ → List ℕ → List Stored → List Stored
 file_put name bytes [] = (record { name = name; bytes = bytes }) ∷ []
