@@ -2,6 +2,7 @@
 use Rattle.std.specs.Prelude.{ℕ, ◌+◌, ◌-◌, ◌*◌, Bool, false, not, ◌&&◌, nat_lt, if◌then◌else◌, List, [], ◌∷◌, ◌++◌, length, map, take, find, min, sum_by, filter_map, flat_map, slice_index_or, Option, Some, None, option_map}
 use Rattle.std.specs.List.{range_with_len}
 use Rattle.packet_forms.specs.Numbers.{be16_at}
+use Rattle.packet_forms.specs.Packets.{is_checksum_right}
 use Rattle.table_files.specs.declared.kinds.TableKind.{TableKind}
 use Rattle.table_files.specs.declared.kinds.TableKind.TheVariants.{AppMon, EventMon, ExeCount, MsgActs, Ats, Rts, Dwell, Eeprom, Memory, Wdt, Adt}
 use Rattle.sc_tables.specs.declared.absolute.Timed.{Timed}
@@ -11,7 +12,7 @@ use Rattle.sc_tables.specs.Relative.{rts_of, no_relative}
 use Rattle.table_warnings.specs.declared.warning.Place.{Place}
 use Rattle.table_warnings.specs.declared.warning.Place.TheVariants.{Entry, Number}
 use Rattle.table_warnings.specs.declared.warning.Warning.{Warning}
-use Rattle.table_warnings.specs.declared.warning.Warning.TheVariants.{Gap, Unread, NoDelay, StartsItself, BehindEnd, Crowded, Unwatched}
+use Rattle.table_warnings.specs.declared.warning.Warning.TheVariants.{Gap, Unread, NoDelay, StartsItself, WrongChecksum, BehindEnd, Crowded, Unwatched}
 use Rattle.table_warnings.specs.Used.{count_of, used_at, is_some_at, is_gap}
 use Rattle.table_warnings.specs.Dwelling.{has_no_delay}
 use Rattle.table_warnings.specs.Commands.{starts_relative, ends_absolute, is_ninth}
@@ -72,6 +73,10 @@ unwatched_in payload = filter_map (unwatched_at payload) (range_with_len 0 32)
 
 -- ---- sequences
 
+-- a command's checksum is wrong
+abbrev pub wrong_checksum : Place → List ℕ → List Warning
+wrong_checksum place packet = warned_if (not (is_checksum_right packet)) (WrongChecksum place)
+
 -- the last of these times is the ninth of its second
 unfoldable pub crowded_last : Place → List ℕ → List Warning
 crowded_last place times = warned_if (is_ninth times (length times - 1)) (Crowded place)
@@ -94,7 +99,7 @@ tags_in commands = map (λ (c : Timed). c.tag) commands
 
 -- the warnings of a command behind an end and behind times, its own time being the last one
 abbrev pub timed_warnings : Timed → Option ℕ → List ℕ → List Warning
-timed_warnings c end times = warned_if (is_later end c.tag) (BehindEnd (Number c.number)) ++ crowded_last (Number c.number) times
+timed_warnings c end times = wrong_checksum (Number c.number) c.packet ++ warned_if (is_later end c.tag) (BehindEnd (Number c.number)) ++ crowded_last (Number c.number) times
 
 unfoldable pub absolute_at : List Timed → ℕ → List Warning
 absolute_at commands k = timed_warnings (slice_index_or commands k no_timed) (end_in (take k commands)) (tags_in (take (k + 1) commands))
@@ -107,7 +112,7 @@ unfoldable pub time_at : List Relative → ℕ → ℕ
 time_at commands k = min 4294967295 (sum_by (λ (c : Relative). c.tag) (take (k + 1) commands))
 
 abbrev pub relative_warnings : ℕ → Relative → ℕ → List ℕ → List Warning
-relative_warnings n c entry times = warned_if (starts_relative n c.packet) (StartsItself entry) ++ crowded_last (Entry entry) times
+relative_warnings n c entry times = wrong_checksum (Entry entry) c.packet ++ warned_if (starts_relative n c.packet) (StartsItself entry) ++ crowded_last (Entry entry) times
 
 unfoldable pub relative_at : ℕ → List Relative → ℕ → List Warning
 relative_at n commands k = relative_warnings n (slice_index_or commands k no_relative) (k + 1) (map (time_at commands) (range_with_len 0 (k + 1)))

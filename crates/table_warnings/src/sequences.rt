@@ -62,6 +62,11 @@ fn warn_timed(
         ++ timed_warnings command.now end (times.old.items ++ command.now.tag ∷ [])) }
 {
     let place = Place::Number(command.number);
+    warn_if(
+        !command.packet.checksum_ok(),
+        Warning::WrongChecksum(place),
+        warnings,
+    )?;
     let is_behind = is_later(end, command.tag);
     warn_if(is_behind, Warning::BehindEnd(place), warnings)?;
     push_time(place, command.tag, times, warnings)
@@ -99,9 +104,15 @@ fn warn_delayed(
     ensures told { OnOk result (warnings.new.items ≡ warnings.old.items
         ++ relative_warnings n command.now entry (times.old.items ++ time ∷ [])) }
 {
+    let place = Place::Entry(entry);
+    warn_if(
+        !command.packet.checksum_ok(),
+        Warning::WrongChecksum(place),
+        warnings,
+    )?;
     let is_own = starts_relative(n, &command.packet);
     warn_if(is_own, Warning::StartsItself(entry), warnings)?;
-    push_time(Place::Entry(entry), time, times, warnings)
+    push_time(place, time, times, warnings)
 }
 
 /// Warns of what is odd in a relative sequence, as its commands are stored.

@@ -27,6 +27,8 @@ pub enum Warning {
     NoDelay,
     #[error("entry {0} starts its own sequence")]
     StartsItself(u32),
+    #[error("{0} has a wrong checksum, so that it is refused where its sequence comes to it")]
+    WrongChecksum(Place),
     #[error("{0} is later than a command that ends its sequence")]
     BehindEnd(Place),
     #[error("{0} is the ninth of its second, and at most eight leave in a wakeup")]

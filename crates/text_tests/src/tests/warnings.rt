@@ -9,7 +9,10 @@ use table_warnings::{Place, Warning, find_split_ranges, find_unknown_names, find
 
 /// A packet of Stored Command of this code and number, behind the seconds of a relative sequence.
 fn started(seconds: u8, code: u8, number: u8) -> [u8; 12] {
-    [0, seconds, 0x18, 0xA9, 0xC0, 0, 0, 3, code, 0, 0, number]
+    let check = 0x8D ^ code ^ number;
+    [
+        0, seconds, 0x18, 0xA9, 0xC0, 0, 0, 3, code, check, 0, number,
+    ]
 }
 
 #[test]
@@ -55,6 +58,22 @@ fn a_sequence_that_starts_itself_is_told(rt: HostRuntime) -> Result<(), Fail> {
 }
 
 #[test]
+fn a_wrong_checksum_is_told(rt: HostRuntime) -> Result<(), Fail> {
+    let mut wrong = started(5, 5, 3);
+    wrong[9] = wrong[9] ^ 1;
+    let mut payload = Vec::new(rt.alloc());
+    payload.extend_from_slice(started(5, 5, 3).as_slice())?;
+    payload.extend_from_slice(wrong.as_slice())?;
+    assert!(rt; payload.len() <= 2_048);
+    let warnings = find_warnings(rt.alloc(), TableKind::Rts(3), payload.as_slice())?;
+    assert_eq!(rt;
+        warnings.as_slice(),
+        [Warning::WrongChecksum(Place::Entry(2))].as_slice()
+    );
+    Ok(())
+}
+
+#[test]
 fn an_id_that_is_not_watched_is_told(rt: HostRuntime) -> Result<(), Fail> {
     let mut payload = [0u8; 512];
     payload[1] = 1;
@@ -70,7 +89,10 @@ fn an_id_that_is_not_watched_is_told(rt: HostRuntime) -> Result<(), Fail> {
 
 /// A command of an absolute sequence: Stored Command's of this code.
 fn timed(number: u8, time: u8, code: u8) -> [u8; 14] {
-    [0, number, 0, 0, 0, time, 0x18, 0xA9, 0xC0, 0, 0, 1, code, 0]
+    let check = 0x8F ^ code;
+    [
+        0, number, 0, 0, 0, time, 0x18, 0xA9, 0xC0, 0, 0, 1, code, check,
+    ]
 }
 
 #[test]
