@@ -4,7 +4,7 @@ use Rattle.table_texts.specs.Lines.{Numbered}
 use Rattle.table_warnings.specs.declared.warning.Place.{Place}
 use Rattle.table_warnings.specs.declared.warning.Place.TheVariants as places
 use Rattle.table_warnings.specs.declared.warning.Warning.{Warning}
-use Rattle.table_warnings.specs.declared.warning.Warning.TheVariants.{Gap, Unread, NoDelay, StartsItself, BehindEnd, Crowded, Unwatched, Unknown, Split}
+use Rattle.table_warnings.specs.declared.warning.Warning.TheVariants.{Gap, Unread, NoDelay, StartsItself, WrongChecksum, BehindEnd, Crowded, Unwatched, Unknown, Split}
 use Rattle.entry_lines.specs.declared.words.Sought.TheVariants.{Entry, Behind, Command}
 use Rattle.entry_lines.specs.Found.{line_saying, line_of_command}
 
@@ -28,6 +28,7 @@ line_of_odd (Gap entry) lines = line_from entry lines
 line_of_odd (Unread entry) lines = line_from entry lines
 line_of_odd NoDelay lines = None
 line_of_odd (StartsItself entry) lines = line_of_command entry lines
+line_of_odd (WrongChecksum place) lines = line_of_place place lines
 line_of_odd (BehindEnd place) lines = line_of_place place lines
 line_of_odd (Crowded place) lines = line_of_place place lines
 line_of_odd (Unwatched entry id) lines = line_from entry lines

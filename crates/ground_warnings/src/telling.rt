@@ -1,14 +1,16 @@
 //! Warnings of tables, in words.
 
+use crate::action_packets::warn_of_actions;
 use crate::warning_lines::warning_line;
+use entry_lines::entry_line;
 use memory_window::Map;
 use packet_forms::Name;
 use std::alloc::AllocError;
-use table_files::{FileImage, read_file};
+use table_files::{FileImage, TableKind, read_file};
 use table_warnings::{Warning, find_split_ranges, find_unknown_names, find_warnings};
 
 /// The most bytes of a text: lines are counted in 32 bits.
-const MOST_TEXT: usize = 4_294_967_294;
+pub(crate) const MOST_TEXT: usize = 4_294_967_294;
 
 /// The text of a table: the name of the file in which it stands, how many lines stand in front of it there, and its bytes.
 #[derive(Clone, Copy, Debug)]
@@ -27,6 +29,20 @@ fn line_number(placed: &PlacedText<'_>, warning: Warning) -> Option<u32> {
         Some(line) => Some(placed.before.saturating_add(line.number)),
         None => None,
     }
+}
+
+/// The number of the line that says an entry of a table's text, counted in the file.
+pub fn entry_line_number(
+    placed: Option<PlacedText<'_>>,
+    kind: TableKind,
+    entry: u32,
+) -> Option<u32> {
+    let placed = placed?;
+    if placed.text.len() > MOST_TEXT {
+        return None;
+    }
+    let line = entry_line(kind, entry, placed.text)?;
+    Some(placed.before.saturating_add(line.number))
 }
 
 /// Tells a warning of a table's text with its line.
@@ -72,6 +88,9 @@ pub fn warn_of_table<R: Eprint + AllocGlobal>(
     };
     let warnings = find_warnings(rt.alloc(), kind, payload)?;
     tell_warnings(rt, name, placed, warnings.as_slice());
+    if kind == TableKind::MsgActs {
+        warn_of_actions(rt, name, placed, payload);
+    }
     if let Some(names) = names {
         let unknown = find_unknown_names(rt.alloc(), kind, names, payload)?;
         tell_warnings(rt, name, placed, unknown.as_slice());

@@ -42,7 +42,9 @@ fn line_of_odd(warning: Warning, number: u32, text: &[u8]) -> Option<Line<'_>>
         | Warning::Unknown(entry, _)
         | Warning::Split(entry) => line_from(entry, number, text),
         Warning::StartsItself(entry) => command_line(entry, number, text),
-        Warning::BehindEnd(place) | Warning::Crowded(place) => line_of_place(place, number, text),
+        Warning::WrongChecksum(place) | Warning::BehindEnd(place) | Warning::Crowded(place) => {
+            line_of_place(place, number, text)
+        }
         Warning::NoDelay => None,
     }
 }
