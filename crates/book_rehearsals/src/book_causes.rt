@@ -1,8 +1,10 @@
 //! Why the rehearsal of a book ended, in words.
 
+use ground_checks::tell_book_reads;
+use ground_faults::line_cause;
 use ground_files::Workspace;
 use ground_making::MOST_BYTES;
-use ground_runs::{CauseTeller, NOT_GIVEN, find_line, line_cause};
+use ground_runs::{CauseTeller, find_line};
 use rehearsal::{Report, Status as End};
 use row_forms::split_word;
 use std::io;
@@ -58,27 +60,23 @@ fn find_part(text: &[u8], number: u32) -> Option<Line<'_>> {
 }
 
 impl BookTeller<'_> {
-    /// Tells why a file is refused, by the line of its part. It has no fault of its own, since the book was read, so that only what the
-    /// scenario's memory gives can be missing.
-    fn tell_part<R: Eprint>(&self, rt: &R, report: &Report) -> io::Result<()> {
+    /// Tells why a file is refused. It has no fault of its own, since the book was read, so that only what the scenario's memory gives can be
+    /// missing: of that each entry is told, and where memory runs out for it the line of the file's part.
+    fn tell_part<R: Eprint + AllocGlobal>(&self, rt: &R, report: &Report) -> io::Result<()> {
+        if tell_book_reads(rt, self.name, self.text).is_ok() {
+            return Ok(());
+        }
         let name = self.name;
         let (number, entry, reason) = (report.file, report.line, report.reason);
-        let Some(line) = find_part(self.text, number) else {
-            return eprintln!(rt;
-                "{name}: file {number}: entry {entry}: reason {reason} (docs/FILES.md)"
-            );
-        };
-        let part = from_utf8(line.bytes.trim_ascii()).unwrap_or("part");
-        if reason == NOT_GIVEN {
-            return eprintln!(rt;
-                "{name}: line {0}: {part}: entry {entry}: the memory of the scenario doesn't give what it reads (reason {reason})",
+        match find_part(self.text, number) {
+            Some(line) => eprintln!(rt;
+                "{name}: part of line {0}: entry {entry}: the memory of the scenario doesn't give what it reads (reason {reason})",
                 line.number
-            );
+            ),
+            None => eprintln!(rt;
+                "{name}: file {number}: entry {entry}: reason {reason} (docs/FILES.md)"
+            ),
         }
-        eprintln!(rt;
-            "{name}: line {0}: {part}: entry {entry}: reason {reason} (docs/FILES.md)",
-            line.number
-        )
     }
 
     /// Tells why the scenario is refused, and shows the line.
@@ -88,7 +86,7 @@ impl BookTeller<'_> {
         let mut line = Vec::new(rt.alloc());
         let mut text = self.scenario;
         let _found = find_line(&mut text, number, &mut line);
-        let cause = line_cause(reason, line.as_slice());
+        let cause = line_cause(self.scenario, number, reason, line.as_slice());
         let said = from_utf8(line.as_slice()).unwrap_or("");
         eprintln!(rt; "{name}: line {number} of its scenario: {cause} (reason {reason}): {said:?}")
     }

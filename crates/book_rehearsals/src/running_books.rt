@@ -156,8 +156,10 @@ where
         → EndsBook run.now result before (W.held workspace.new) }
 {
     let name = run.scenario;
-    if !run.files.is_empty() {
-        let _told = eprintln!(rt; "{name}: a book has its files in it: no FILE stands behind it");
+    if let Some(file) = run.files.first() {
+        let _told = eprintln!(rt;
+            "{name}: a book has its files in it, and `{file}` is taken for a FILE behind it (two words of an --allow are quoted, as --allow 'CS 101')"
+        );
         return Status::WordsRefused;
     }
     let text = match read_input(rt.alloc(), workspace, name) {

@@ -8,27 +8,20 @@ use Rattle.memory_window.specs.declared.regions.Region.{Region}
 use Rattle.ground_files.specs.declared.verb_status.Status.{Status}
 use Rattle.ground_files.specs.declared.verb_status.Status.TheVariants as statuses
 use Rattle.fsw_outside.specs.Files.{Stored}
-use Rattle.ground_files.specs.Workspaces.{Held, KeepsFiles, is_dash, input_bytes, input_taken, settled_at, files_of, input_of}
+use Rattle.ground_files.specs.Workspaces.{Held, KeepsFiles, is_dash, input_bytes, input_taken, inputs_taken, settled_at, files_of, input_of}
+use Rattle.ground_files.proofs.InputLemmas.{taken_append, all_taken_files}
 use Rattle.ground_files.specs.Verbs.{KeepsAllFiles}
 use Rattle.load_books.specs.Books.{is_book_text}
 use Rattle.ground_checks.specs.Loading.{AreFaultless}
 use Rattle.ground_checks.specs.declared.checking.Check.{Check}
 use Rattle.ground_checks.specs.Maps.{IsMaplessBook}
-use Rattle.ground_checks.specs.Checked.{StaysTold, names_of, inputs_read, inputs_taken, IsTaken, IsRefused, AreTaken, IsAnyRefused, IsBookRead, IsAnyBook, is_of_files, Looked, Checked, IsMapNamed, IsBookNamed, IsMaplessNamed, ChecksFiles}
+use Rattle.ground_checks.specs.Checked.{StaysTold, names_of, inputs_read, IsTaken, IsInputRefused, AreTaken, IsAnyRefused, IsBookRead, IsAnyBook, is_of_files, Looked, Checked, IsMapNamed, IsBookNamed, IsMaplessNamed, ChecksFiles}
 
 -- ---- inputs that are read
-
-taken_more : (names : List (List ℕ)) (name : List ℕ) (held : Held) → inputs_taken (names ++ name ∷ []) held ≡ input_taken name (inputs_taken names held)
-taken_more [] name held = refl
-taken_more (first ∷ names) name held = taken_more names name (input_taken first held)
 
 read_more : (names : List (List ℕ)) (name : List ℕ) (held : Held) → inputs_read (names ++ name ∷ []) held ≡ inputs_read names held ++ input_bytes name (inputs_taken names held) ∷ []
 read_more [] name held = refl
 read_more (first ∷ names) name held = ap (λ (more : List (Option (List ℕ))). input_bytes first held ∷ more) (read_more names name (input_taken first held))
-
-taken_files : (names : List (List ℕ)) (held : Held) → (inputs_taken names held).files ≡ held.files
-taken_files [] held = refl
-taken_files (name ∷ names) held = taken_files names (input_taken name held)
 
 -- what is read of inputs depends on the files and on standard input alone
 read_same : (names : List (List ℕ)) (files : List Stored) (input one other : List ℕ)
@@ -48,7 +41,7 @@ any_first regions [] more any = absurd any
 any_first regions (first ∷ read) more (inl one) = inl one
 any_first regions (first ∷ read) more (inr any) = inr (any_first regions read more any)
 
-any_last : (regions : Option (List Region)) (read : List (Option (List ℕ))) (input : Option (List ℕ)) → IsRefused regions input → IsAnyRefused regions (read ++ input ∷ [])
+any_last : (regions : Option (List Region)) (read : List (Option (List ℕ))) (input : Option (List ℕ)) → IsInputRefused regions input → IsAnyRefused regions (read ++ input ∷ [])
 any_last regions [] input one = inl one
 any_last regions (first ∷ read) input one = inr (any_last regions read input one)
 
@@ -103,7 +96,7 @@ seen_few files view items old same none few = omega (arith, ap length same, ap l
 pub looked_more : (regions : Option (List Region)) (first status one new : Status) (names : List (List ℕ)) (name : List ℕ) (before : Held) (now after : Option Held)
     → Looked regions first status names before now → after ≡ option_map (input_taken name) now
     → (one ≡ statuses.Done → (held : Held) → now ≡ Some held → IsTaken regions (input_bytes name held))
-    → (one ≡ statuses.FileRefused → (held : Held) → now ≡ Some held → IsRefused regions (input_bytes name held))
+    → (one ≡ statuses.FileRefused → (held : Held) → now ≡ Some held → IsInputRefused regions (input_bytes name held))
     → (one ≡ statuses.WordsRefused → (held : Held) → now ≡ Some held → IsBookRead (input_bytes name held)) → is_of_files one ≡ true
     → (status ≡ statuses.Done → new ≡ one) → (status ≢ statuses.Done → new ≡ status)
     → Looked regions first new (names ++ name ∷ []) before after
@@ -111,7 +104,7 @@ looked_more regions first status one new names name before now after l moved tak
     let held = inputs_taken names before in
     let behind : inputs_read names before ++ input_bytes name held ∷ [] ≡ inputs_read (names ++ name ∷ []) before = sym (read_more names name before) in
     record {
-      held = moved ∙ ap (λ (o : Option Held). option_map (input_taken name) o) l.held ∙ ap (λ (h : Held). Some h) (sym (taken_more names name before));
+      held = moved ∙ ap (λ (o : Option Held). option_map (input_taken name) o) l.held ∙ ap (λ (h : Held). Some h) (sym (taken_append names name before));
       done = λ e. elim (is_done status) [
         | inl was ↦ let d = l.done was in (d.0, subst (AreTaken regions) behind (all_more regions _ _ d.1 (taken (sym (goes was) ∙ e) held l.held)))
         | inr not ↦ absurd (not (sym (stays not) ∙ e))
@@ -140,7 +133,7 @@ looked_more regions first status one new names name before now after l moved tak
 pub looked_next : (regions : Option (List Region)) (first status one new : Status) (files : List (Bor (List ℕ))) (i : ℕ) (d : Bor (List ℕ)) (before : Held) (now after : Option Held)
     → i < length files → Looked regions first status (names_of (take i files)) before now → after ≡ option_map (input_taken (get_or files i d).now) now
     → (one ≡ statuses.Done → (held : Held) → now ≡ Some held → IsTaken regions (input_bytes (get_or files i d).now held))
-    → (one ≡ statuses.FileRefused → (held : Held) → now ≡ Some held → IsRefused regions (input_bytes (get_or files i d).now held))
+    → (one ≡ statuses.FileRefused → (held : Held) → now ≡ Some held → IsInputRefused regions (input_bytes (get_or files i d).now held))
     → (one ≡ statuses.WordsRefused → (held : Held) → now ≡ Some held → IsBookRead (input_bytes (get_or files i d).now held)) → is_of_files one ≡ true
     → (status ≡ statuses.Done → new ≡ one) → (status ≢ statuses.Done → new ≡ status)
     → Looked regions first new (names_of (take (i + 1) files)) before after
@@ -156,7 +149,7 @@ looked_all regions first status files i before now h l = subst (λ (fs : List (B
 
 -- no file is another
 pub looked_kept : (regions : Option (List Region)) (first status : Status) (names : List (List ℕ)) (before : Held) (now : Option Held) → Looked regions first status names before now → KeepsAllFiles before now
-looked_kept regions first status names before now l = ap (λ (o : Option Held). option_map files_of o) l.held ∙ ap (λ (files : List Stored). Some files) (taken_files names before)
+looked_kept regions first status names before now l = ap (λ (o : Option Held). option_map files_of o) l.held ∙ ap (λ (files : List Stored). Some files) (all_taken_files names before)
 
 -- what was done kept the files
 pub kept_then : (before : Held) (act : Held → Held) (now after : Option Held) → after ≡ option_map act now → ((held : Held) → (act held).files ≡ held.files) → KeepsAllFiles before now → KeepsAllFiles before after
@@ -191,7 +184,7 @@ pub checked_ends : (regions : Option (List Region)) (first status result : Statu
     → (result ≡ statuses.WordsRefused → (status ≡ statuses.WordsRefused) ⊎ (100 < count)) → count ≤ length names → (is_of_files result ≡ false → status ≡ result)
     → ((held : Held) → now ≡ Some held → KeepsAllFiles held after) → Checked regions first names result before after
 checked_ends regions first status result names count before now after l done refused words few earlier kept = record {
-  kept = kept (inputs_taken names before) l.held ∙ ap (λ (files : List Stored). Some files) (taken_files names before);
+  kept = kept (inputs_taken names before) l.held ∙ ap (λ (files : List Stored). Some files) (all_taken_files names before);
   done = λ e. l.done (done e);
   refused = λ e. l.refused (refused e);
   words = λ e. elim (words e) [

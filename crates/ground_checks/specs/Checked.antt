@@ -5,7 +5,7 @@ use denote.Ref.{Bor}
 use Rattle.memory_window.specs.declared.regions.Region.{Region}
 use Rattle.ground_files.specs.declared.verb_status.Status.{Status}
 use Rattle.ground_files.specs.declared.verb_status.Status.TheVariants as statuses
-use Rattle.ground_files.specs.Workspaces.{Held, input_bytes, input_taken}
+use Rattle.ground_files.specs.Workspaces.{Held, input_bytes, input_taken, inputs_taken}
 use Rattle.ground_files.specs.Verbs.{KeepsAllFiles}
 use Rattle.load_books.specs.Books.{is_book_text}
 use Rattle.ground_checks.specs.declared.checking.Check.{Check}
@@ -25,27 +25,22 @@ abbrev pub inputs_read : List (List ℕ) → Held → List (Option (List ℕ))
 inputs_read [] held = []
 inputs_read (name ∷ names) held = input_bytes name held ∷ inputs_read names (input_taken name held)
 
--- inputs were read by their names
-abbrev pub inputs_taken : List (List ℕ) → Held → Held
-inputs_taken [] held = held
-inputs_taken (name ∷ names) held = inputs_taken names (input_taken name held)
-
 -- an input could be read, and has no fault unless it is a book
 abbrev pub IsTaken : Option (List Region) → Option (List ℕ) → Type 0
 IsTaken regions None = ⊥
 IsTaken regions (Some file) = is_book_text file ≡ false → fault_of regions file ≡ None
 
 -- an input could be read, and has a fault or is a book
-abbrev pub IsRefused : Option (List Region) → Option (List ℕ) → Type 0
-IsRefused regions None = ⊥
-IsRefused regions (Some file) = is_book_text file ≡ false → fault_of regions file ≢ None
+abbrev pub IsInputRefused : Option (List Region) → Option (List ℕ) → Type 0
+IsInputRefused regions None = ⊥
+IsInputRefused regions (Some file) = is_book_text file ≡ false → fault_of regions file ≢ None
 
 abbrev pub AreTaken : Option (List Region) → List (Option (List ℕ)) → Type 0
 AreTaken regions read = AllByRecursion (IsTaken regions) read
 
 abbrev pub IsAnyRefused : Option (List Region) → List (Option (List ℕ)) → Type 0
 IsAnyRefused regions [] = ⊥
-IsAnyRefused regions (input ∷ more) = IsRefused regions input ⊎ IsAnyRefused regions more
+IsAnyRefused regions (input ∷ more) = IsInputRefused regions input ⊎ IsAnyRefused regions more
 
 -- an input is a book
 abbrev pub IsBookRead : Option (List ℕ) → Type 0

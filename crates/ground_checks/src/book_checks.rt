@@ -6,14 +6,14 @@ ghost use Rattle.load_books.specs.Books.{is_book_text};
 ghost use Rattle.ground_checks.specs.Checked.{is_of_files};
 
 use crate::checking::{earlier, seen_at, tell_count};
-use crate::file_checks::{tell_faults, tell_file};
+use crate::file_checks::{LookedFile, tell_faults, tell_file};
 use crate::file_order::{SeenFile, warn_of_place};
 use crate::map_files::MOST_TEXT;
 use crate::map_texts::scenario_map;
 use crate::scenario_names::{Known, known_names, known_of};
 use ground_faults::{PartText, part_texts, tell_book, tell_line_ends};
 use ground_files::{Status, tell_no_memory};
-use ground_warnings::{PlacedText, warn_of_table};
+use ground_warnings::{PlacedText, warn_of_sends, warn_of_table};
 use load_books::{Book, BookError, BookFile, book_forms, is_book_text, read_book};
 use std::alloc::{AllocError, Global};
 use std::str::from_utf8;
@@ -164,10 +164,31 @@ pub(crate) fn tell_book_file<R: Eprint + AllocGlobal>(rt: &R, name: &str, text: 
         Ok(looked) => looked,
         Err(status) => return status,
     };
+    if warn_of_sends(rt, name, text).is_err() {
+        return tell_no_memory(rt);
+    }
     match tell_files(rt, &looked, name) {
         Ok(status) => status,
         Err(_) => tell_no_memory(rt),
     }
+}
+
+/// Tells the entries of a book's file whose reads the memory of the book's plan doesn't give, each with its line.
+fn tell_reads<R: Eprint + AllocGlobal>(
+    rt: &R,
+    looked: &LookedBook<'_>,
+    name: &str,
+    kind: &str,
+    file: &BookFile<'_>,
+) -> Result<(), AllocError> {
+    let part = from_utf8(file.name).unwrap_or("");
+    let title = format!(in rt.alloc(); "{name}: {part}{kind}")?;
+    let one = LookedFile {
+        title: title.as_str(),
+        placed: text_of(name, looked.parts.as_slice(), file),
+        bytes: file.bytes.as_slice(),
+    };
+    tell_faults(rt, Some(&looked.known.map), &one)
 }
 
 /// Tells what the program refuses of a file of a book, which the memory of the book's plan doesn't give, and what is odd in it.
@@ -177,14 +198,11 @@ fn warn_of_part<R: Eprint + AllocGlobal>(
     name: &str,
     file: &BookFile<'_>,
 ) -> Result<(), AllocError> {
+    tell_reads(rt, looked, name, ": warning", file)?;
     let map = Some(&looked.known.map);
-    let bytes = file.bytes.as_slice();
-    let part = from_utf8(file.name).unwrap_or("");
-    let place = format!(in rt.alloc(); "{name}: {part}: warning")?;
-    tell_faults(rt, map, place.as_str(), bytes)?;
     let names = known_names(&looked.known);
     let placed = text_of(name, looked.parts.as_slice(), file);
-    warn_of_table(rt, map, names, name, placed, bytes)
+    warn_of_table(rt, map, names, name, placed, file.bytes.as_slice())
 }
 
 /// Tells what the program refuses of the files of a book and what is odd in them.
@@ -209,6 +227,7 @@ fn warn_of_text<R: Eprint + AllocGlobal>(rt: &R, name: &str, text: &[u8]) -> Res
         Err(BookError::Book(_)) => return Ok(()),
     };
     let looked = with_plan(rt.alloc(), book, text)?;
+    warn_of_sends(rt, name, text)?;
     warn_of_files(rt, &looked, name)
 }
 
@@ -223,5 +242,36 @@ pub fn warn_of_book<R: Eprint + AllocGlobal>(rt: &R, name: &str, text: &[u8]) ->
     match warn_of_text(rt, name, text) {
         Ok(()) => Status::Done,
         Err(_) => tell_no_memory(rt),
+    }
+}
+
+/// Tells the entries of all files of a book whose reads the memory of its plan doesn't give, each with its line.
+fn tell_all_reads<R: Eprint + AllocGlobal>(
+    rt: &R,
+    looked: &LookedBook<'_>,
+    name: &str,
+) -> Result<(), AllocError> {
+    'files: for file in looked.book.files.as_slice() {
+        tell_reads(rt, looked, name, "", file)?;
+    }
+    Ok(())
+}
+
+/// Tells the entries of a book's tables whose reads the memory of its plan doesn't give, each with its line. Of a text that isn't a book, and of a
+/// book that is refused, nothing is told.
+pub fn tell_book_reads<R: Eprint + AllocGlobal>(
+    rt: &R,
+    name: &str,
+    text: &[u8],
+) -> Result<(), AllocError> {
+    if !is_book(text) {
+        return Ok(());
+    }
+    match read_book(rt.alloc(), &book_forms(), text) {
+        Ok(book) => {
+            let looked = with_plan(rt.alloc(), book, text)?;
+            tell_all_reads(rt, &looked, name)
+        }
+        Err(_) => Ok(()),
     }
 }

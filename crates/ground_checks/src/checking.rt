@@ -6,13 +6,13 @@ ghost use Rattle.ground_files.specs.Workspaces.{Held, KeepsFiles, input_taken, i
 ghost use Rattle.ground_files.specs.Verbs.{KeepsAllFiles};
 ghost use Rattle.load_books.specs.Books.{is_book_text};
 ghost use Rattle.ground_checks.specs.Faults.{fault_of};
-ghost use Rattle.ground_checks.specs.Checked.{names_of, IsTaken, IsRefused, IsBookRead, is_of_files, Looked, Checked, ChecksFiles};
+ghost use Rattle.ground_checks.specs.Checked.{names_of, IsTaken, IsInputRefused, IsBookRead, is_of_files, Looked, Checked, ChecksFiles};
 
 use crate::book_checks::{is_book, tell_book_file};
 use crate::file_checks::tell_file;
 use crate::file_order::{Holding, SeenFile, tell_order, warn_of_place};
 use crate::map_files::read_map;
-use crate::read_words::tell_regions;
+use crate::map_words::tell_regions;
 use crate::scenario_names::{Known, known_names};
 use ground_files::{
     Status, Workspace, input_name, is_stream, output_name, read_input, tell_no_memory, tell_unread,
@@ -81,6 +81,45 @@ pub(crate) fn seen_file<'a, W: Workspace>(
 ) -> Result<SeenFile<'a>, AllocError> {
     let place = path_of_file(alloc, workspace, path)?;
     seen_at(alloc, input_name(path), place, file, is_taken)
+}
+
+/// The number of the place of the first of these paths that is this one.
+fn place_of(paths: &[String], path: &str) -> Option<usize> {
+    for place in 0..paths.len() {
+        if paths[place].as_str() == path {
+            return Some(place);
+        }
+    }
+    None
+}
+
+/// Warns of a file that is given already, and as what, where that is another path.
+fn warn_of_repeat<R: Eprint>(rt: &R, path: &str, earlier: &str) {
+    // There is no other place to tell it.
+    let _told = if earlier == path {
+        eprintln!(rt; "{path}: warning: this file is given already")
+    } else {
+        eprintln!(rt; "{path}: warning: this file is given already, as {earlier}")
+    };
+}
+
+/// Warns of each file that is given again, under the same path or another.
+pub(crate) fn warn_of_repeats<R: Eprint + AllocGlobal, W: Workspace>(
+    rt: &R,
+    workspace: &W,
+    files: &[&str],
+) -> Result<(), AllocError> {
+    let mut places: Vec<String> = Vec::new(rt.alloc());
+    'files: for path in files {
+        let place = path_of_file(rt.alloc(), workspace, path)?;
+        if let Some(at) = place_of(places.as_slice(), place.as_str()) {
+            if let Some(earlier) = files.get(at) {
+                warn_of_repeat(rt, input_name(path), input_name(earlier));
+            }
+        }
+        places.push(place)?;
+    }
+    Ok(())
 }
 
 /// What `check` is asked for.
@@ -156,7 +195,7 @@ fn check_file<'a, R: Eprint + AllocGlobal, W: Workspace>(
         → IsTaken (option_map (λ known. known.now) map.entry) (input_bytes path.now before)) }
     ensures refused { IfOk result (λ status. status ≡ statuses.FileRefused
         → (before : Held) → W.held workspace.old ≡ Some before
-        → IsRefused (option_map (λ known. known.now) map.entry) (input_bytes path.now before)) }
+        → IsInputRefused (option_map (λ known. known.now) map.entry) (input_bytes path.now before)) }
     ensures words { IfOk result (λ status. status ≡ statuses.WordsRefused
         → (before : Held) → W.held workspace.old ≡ Some before
         → IsBookRead (input_bytes path.now before)) }
@@ -286,6 +325,9 @@ fn check_all<R: Eprint + AllocGlobal, W: Workspace>(
         → Checked (option_map (λ known. known.now) map.entry) first (names_of files.now) result
         before (W.held workspace.new) }
 {
+    if warn_of_repeats(rt, workspace, files).is_err() {
+        return tell_no_memory(rt);
+    }
     let mut seen = Vec::new(rt.alloc());
     match look_at_files(rt, workspace, map, names, files, first, &mut seen) {
         Ok(status) => end_check(rt, workspace, seen.as_slice(), status),

@@ -4,10 +4,9 @@ ghost use Rattle.std.specs.Prelude.{◌≡◌, ◌≢◌, ◌⊎◌, None, optio
 ghost use Rattle.ground_checks.specs.Faults.{fault_of};
 
 use crate::finding::{FoundFault, find_faults};
-use crate::read_words::tell_read;
-use ground_faults::{PAYLOAD, tell_entry, tell_headers};
+use ground_faults::{PAYLOAD, tell_entry, tell_headers, tell_read};
 use ground_files::{Status, tell_no_memory};
-use ground_warnings::{PlacedText, warn_of_table};
+use ground_warnings::{PlacedText, entry_line_number, warn_of_table};
 use memory_window::Map;
 use packet_forms::{Name, behind};
 use std::alloc::AllocError;
@@ -22,14 +21,41 @@ fn kind_of(file: &[u8]) -> Option<TableKind> {
     }
 }
 
+/// A file that is looked at: its title, the text of which it was made, where that is known, and its bytes.
+#[derive(Clone, Copy, Debug)]
+pub(crate) struct LookedFile<'a> {
+    pub title: &'a str,
+    pub placed: Option<PlacedText<'a>>,
+    pub bytes: &'a [u8],
+}
+
+/// Tells an entry whose read memory doesn't give, with the line of the text where it stands.
+fn tell_placed<R: Eprint + AllocGlobal>(
+    rt: &R,
+    map: Option<&Map>,
+    looked: &LookedFile<'_>,
+    kind: TableKind,
+    entry: u32,
+) -> Result<(), AllocError> {
+    let title = looked.title;
+    let payload = behind(looked.bytes, PAYLOAD);
+    match entry_line_number(looked.placed, kind, entry) {
+        Some(line) => {
+            let place = format!(in rt.alloc(); "{title}: line {line}")?;
+            tell_read(rt, map, place.as_str(), kind, payload, entry)
+        }
+        None => tell_read(rt, map, title, kind, payload, entry),
+    }
+}
+
 /// Tells a fault of a file.
 fn tell_found<R: Eprint + AllocGlobal>(
     rt: &R,
     map: Option<&Map>,
-    name: &str,
-    file: &[u8],
+    looked: &LookedFile<'_>,
     fault: FoundFault,
 ) -> Result<(), AllocError> {
+    let (name, file) = (looked.title, looked.bytes);
     let payload = behind(file, PAYLOAD);
     match (fault, kind_of(file)) {
         (FoundFault::Long, _) => {
@@ -43,7 +69,7 @@ fn tell_found<R: Eprint + AllocGlobal>(
             Ok(())
         }
         (FoundFault::Entry(fault), Some(kind)) => tell_entry(rt, name, kind, payload, fault),
-        (FoundFault::Read(entry), Some(kind)) => tell_read(rt, map, name, kind, payload, entry),
+        (FoundFault::Read(entry), Some(kind)) => tell_placed(rt, map, looked, kind, entry),
         (FoundFault::Entry(_) | FoundFault::Read(_), None) => Ok(()),
     }
 }
@@ -52,12 +78,11 @@ fn tell_found<R: Eprint + AllocGlobal>(
 fn tell_all<R: Eprint + AllocGlobal>(
     rt: &R,
     map: Option<&Map>,
-    name: &str,
-    file: &[u8],
+    looked: &LookedFile<'_>,
     faults: &[FoundFault],
 ) -> Result<(), AllocError> {
     for fault in faults {
-        tell_found(rt, map, name, file, *fault)?;
+        tell_found(rt, map, looked, *fault)?;
     }
     Ok(())
 }
@@ -66,11 +91,10 @@ fn tell_all<R: Eprint + AllocGlobal>(
 pub(crate) fn tell_faults<R: Eprint + AllocGlobal>(
     rt: &R,
     map: Option<&Map>,
-    name: &str,
-    file: &[u8],
+    looked: &LookedFile<'_>,
 ) -> Result<(), AllocError> {
-    let faults = find_faults(rt.alloc(), map, file)?;
-    tell_all(rt, map, name, file, faults.as_slice())
+    let faults = find_faults(rt.alloc(), map, looked.bytes)?;
+    tell_all(rt, map, looked, faults.as_slice())
 }
 
 /// The status of a file whose faults were told.
@@ -125,6 +149,11 @@ pub(crate) fn tell_file<R: Eprint + AllocGlobal>(
         let told = warn_of_table(rt, map, names, name, placed, file);
         return status_taken(rt, told);
     }
-    let told = tell_all(rt, map, name, file, faults.as_slice());
+    let looked = LookedFile {
+        title: name,
+        placed,
+        bytes: file,
+    };
+    let told = tell_all(rt, map, &looked, faults.as_slice());
     status_refused(rt, told)
 }

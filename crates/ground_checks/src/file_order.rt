@@ -69,7 +69,7 @@ fn is_among(files: &[SeenFile<'_>], file: &SeenFile<'_>) -> bool {
     false
 }
 
-/// Warns, under its title, of a file that is given again, or whose table an earlier file has.
+/// Warns, under its title, of a file whose table an earlier file has. Of a file that is given again that is told.
 pub(crate) fn warn_of_place<R: Eprint>(
     rt: &R,
     title: &str,
@@ -77,7 +77,6 @@ pub(crate) fn warn_of_place<R: Eprint>(
     file: &SeenFile<'_>,
 ) {
     if is_among(before, file) {
-        let _told = eprintln!(rt; "{title}: warning: this file is given already");
         return;
     }
     let Some(first) = first_of_table(before, file) else {

@@ -9,12 +9,12 @@ mod finding;
 pub mod laws;
 mod map_files;
 mod map_texts;
+mod map_words;
 mod order_warnings;
 mod read_faults;
-mod read_words;
 mod scenario_names;
 
-pub use book_checks::warn_of_book;
+pub use book_checks::{tell_book_reads, warn_of_book};
 pub use checking::{Check, check_files};
 pub use finding::{FoundFault, find_faults};
 pub use map_texts::{MapFault, scenario_map};

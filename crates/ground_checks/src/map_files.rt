@@ -10,9 +10,8 @@ ghost use Rattle.ground_checks.specs.Maps.{map_said, IsPlanMap, IsBookMap, IsMap
 use crate::book_checks::{is_book, tell_unread_book};
 use crate::map_texts::{MapFault, UNENDED, scenario_map};
 use crate::scenario_names::{Known, known_of};
-use ground_faults::{WantedText, key_in_plan, tell_kind, tell_line_ends};
+use ground_faults::{Hint, WantedText, hint_in_plan, line_cause, tell_kind, tell_line_ends};
 use ground_files::{Status, Workspace, input_name, read_input, tell_no_memory, tell_unread};
-use ground_runs::line_cause;
 use load_books::{book_forms, read_book};
 use memory_window::Map;
 use packet_forms::{behind, front};
@@ -107,7 +106,7 @@ fn tell_line<R: Eprint>(rt: &R, name: &str, text: &[u8], line: u32, reason: u8) 
         return Status::ScenarioRefused;
     }
     let bytes = line_of(text, line);
-    let cause = line_cause(reason, bytes);
+    let cause = line_cause(text, line, reason, bytes);
     let _told = match from_utf8(front(bytes, 200)) {
         Ok(words) => eprintln!(rt; "{name}: line {line}: {cause} (reason {reason}): {words:?}"),
         Err(_) => eprintln!(rt; "{name}: line {line}: {cause} (reason {reason})"),
@@ -129,8 +128,9 @@ fn tell_text<R: Eprint>(rt: &R, name: &str, text: &[u8], fault: TextFault) -> St
     match fault {
         TextFault::Plan(fault) => {
             tell_look(rt, name, text);
-            let _told = match key_in_plan(text, &fault) {
-                Some(key) => eprintln!(rt; "{name}: {fault}: {key}"),
+            let _told = match hint_in_plan(text, &fault) {
+                Some(Hint::Cause(line, cause)) => eprintln!(rt; "{name}: line {line}: {cause}"),
+                Some(hint) => eprintln!(rt; "{name}: {fault}: {hint}"),
                 None => eprintln!(rt; "{name}: {fault}"),
             };
             Status::ScenarioRefused

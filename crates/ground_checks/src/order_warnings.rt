@@ -2,7 +2,7 @@
 
 ghost use Rattle.std.specs.Prelude.{◌≡◌};
 
-use crate::checking::seen_file;
+use crate::checking::{seen_file, warn_of_repeats};
 use crate::file_order::{SeenFile, warn_of_place};
 use ground_files::Workspace;
 use ground_runs::read_again;
@@ -35,6 +35,7 @@ pub fn warn_of_order<R: Eprint + AllocGlobal, W: Workspace>(
 ) -> Result<(), AllocError>
     ensures { W.held workspace.new ≡ W.held workspace.old }
 {
+    warn_of_repeats(rt, workspace, files)?;
     let mut seen = Vec::new(rt.alloc());
     'files: for file in files {
         warn_of_file(rt, workspace, file, &mut seen)?;

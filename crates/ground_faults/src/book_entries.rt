@@ -4,9 +4,10 @@ ghost use Rattle.std.specs.Prelude.{◌≡◌, ◌⊎◌};
 ghost use Rattle.ground_files.specs.declared.verb_status.Status.TheVariants as statuses;
 
 use crate::book_parts::{PartText, part_texts};
+use crate::hints::hint_in_book;
 use crate::said_entries::{MOST_TEXT, said_entry};
 use crate::telling::tell_entry;
-use crate::wanted_keys::key_in_book;
+use crate::wanted::Hint;
 use ground_files::{Status, tell_no_memory};
 use load_books::{BookFault, book_forms};
 use std::alloc::{AllocError, Global};
@@ -239,8 +240,9 @@ pub fn tell_book_fault<R: Eprint + AllocGlobal>(
         return status_told(rt, told);
     }
     // There is no other place to tell it.
-    let _told = match key_in_book(text, fault) {
-        Some(key) => eprintln!(rt; "{name}: {fault}: {key}"),
+    let _told = match hint_in_book(text, fault) {
+        Some(Hint::Cause(line, cause)) => eprintln!(rt; "{name}: line {line}: {cause}"),
+        Some(hint) => eprintln!(rt; "{name}: {fault}: {hint}"),
         None => eprintln!(rt; "{name}: {fault}"),
     };
     Status::FileRefused

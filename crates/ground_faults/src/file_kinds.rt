@@ -117,6 +117,10 @@ pub(crate) fn file_kind(bytes: &[u8]) -> Option<FileKind> {
 
 /// Tells of a refused text that it is something else than what is wanted, where its beginning shows it.
 pub fn tell_kind<R: Eprint>(rt: &R, name: &str, text: &[u8], wanted: WantedText) {
+    if text.is_empty() {
+        // There is no other place to tell it.
+        let _told = eprintln!(rt; "{name}: it is empty, where {wanted} is wanted");
+    }
     let Some(kind) = file_kind(text) else {
         return;
     };

@@ -6,11 +6,15 @@ use packet_forms::{be32, behind, crc16, front};
 use std::io;
 use std::str::from_utf8;
 use table_files::FileFault;
+use table_forms::table_kind;
 
 /// How many bytes the headers of a table have, and those of bytes to be loaded.
 const TABLE_HEADERS: usize = 116;
 
 const LOAD_HEADERS: usize = 80;
+
+/// How many of the first bytes are looked at of a file whose beginning isn't known.
+const SEEN: usize = 16;
 
 /// The subtype of a table.
 const TABLE: u32 = 8;
@@ -20,7 +24,36 @@ const NAME: usize = 76;
 
 const NAME_BYTES: usize = 40;
 
-/// What a text is that was given in the place of a file; none where that isn't known.
+/// Whether a byte may stand in a text.
+fn is_of_text(byte: u8) -> bool {
+    byte >= b' ' || byte == b'\n' || byte == b'\r' || byte == b'\t'
+}
+
+/// What is told of bytes whose beginning isn't known: where it looks like a text, that it is one.
+fn unknown_hint(file: &[u8]) -> Option<&'static str> {
+    let beginning = front(file, SEEN);
+    if beginning.is_empty() {
+        return Some("it is empty");
+    }
+    if !beginning.iter().all(|byte| is_of_text(*byte)) {
+        return None;
+    }
+    if beginning.iter().any(|byte| *byte == b'\r') {
+        return Some(
+            "it is a text whose lines end with carriage returns: save it with LF line ends",
+        );
+    }
+    if beginning.iter().any(|byte| *byte == b'\t') {
+        return Some(
+            "it is a text with tabs, where a file of a table or of a load is wanted: words stand between spaces",
+        );
+    }
+    Some(
+        "it is a text that begins with no word of a table, a load, a plan, a scenario or a book, where a file of a table or of a load is wanted",
+    )
+}
+
+/// What a text is that was given in the place of a file; none where it is no text.
 fn text_hint(file: &[u8]) -> Option<&'static str> {
     if is_wide(file) {
         return Some("it is UTF-16: save it as UTF-8");
@@ -28,7 +61,10 @@ fn text_hint(file: &[u8]) -> Option<&'static str> {
     if has_order_mark(file) {
         return Some("it begins with a byte order mark: save it without");
     }
-    match file_kind(file)? {
+    let Some(kind) = file_kind(file) else {
+        return unknown_hint(file);
+    };
+    match kind {
         FileKind::Image => None,
         FileKind::Manifest => {
             Some("it is the manifest of a book: the files are taken that it names")
@@ -59,6 +95,18 @@ fn table_name(file: &[u8]) -> &str {
         .position(|byte| *byte == 0)
         .unwrap_or(field.len());
     from_utf8(front(field, end)).unwrap_or("")
+}
+
+/// Tells why the name of a table is refused: there is none, or other bytes stand behind its end.
+fn tell_name<R: Eprint>(rt: &R, name: &str, file: &[u8]) -> io::Result<()> {
+    let reason = FileFault::Name.number();
+    let found = table_name(file);
+    if table_kind(found.as_bytes()).is_some() {
+        return eprintln!(rt;
+            "{name}: bytes that aren't zero stand behind the name {found} in its header (reason {reason})"
+        );
+    }
+    eprintln!(rt; "{name}: no table has the name {found:?} (reason {reason})")
 }
 
 /// Tells why the number of a table's bytes is refused.
@@ -104,7 +152,12 @@ fn tell_check<R: Eprint>(rt: &R, name: &str, file: &[u8]) -> io::Result<()> {
 fn tell_field<R: Eprint>(rt: &R, name: &str, file: &[u8], fault: FileFault) -> io::Result<()> {
     let reason = fault.number();
     match fault {
-        FileFault::Short => eprintln!(rt; "{name}: {fault} (reason {reason})"),
+        FileFault::Short => {
+            let there = file.len();
+            eprintln!(rt;
+                "{name}: {fault}: it has {there} bytes, and the headers of a table have {TABLE_HEADERS}, those of a load {LOAD_HEADERS} (reason {reason})"
+            )
+        }
         FileFault::ContentType => {
             let found = number_at(file, 0);
             eprintln!(rt;
@@ -123,10 +176,7 @@ fn tell_field<R: Eprint>(rt: &R, name: &str, file: &[u8], fault: FileFault) -> i
                 "{name}: its table begins at offset {found}, and whole tables are taken, at offset 0 (reason {reason})"
             )
         }
-        FileFault::Name => {
-            let found = table_name(file);
-            eprintln!(rt; "{name}: no table has the name {found:?} (reason {reason})")
-        }
+        FileFault::Name => tell_name(rt, name, file),
         FileFault::Size => {
             if number_at(file, 4) == TABLE {
                 tell_table_size(rt, name, file)

@@ -5,7 +5,8 @@ use Rattle.std.specs.Prelude.{option_map, ◌⊎◌, if◌then◌else◌}
 use Rattle.fsw_outside.specs.Files.{Stored}
 use Rattle.ground_files.specs.declared.verb_status.Status.{Status}
 use Rattle.ground_files.specs.declared.verb_status.Status.TheVariants as statuses
-use Rattle.ground_files.specs.Workspaces.{Held, is_dash, input_bytes, input_taken, file_put, put_at, files_of, input_of, KeepsFiles}
+use Rattle.ground_files.specs.Workspaces.{Held, is_dash, input_bytes, input_taken, inputs_taken, file_put, put_at, files_of, input_of, KeepsFiles}
+use Rattle.ground_files.proofs.InputLemmas.{taken_append, all_taken_files}
 use Rattle.ground_files.specs.Verbs.{MakesOutput, KeepsAllFiles, KeepsOtherFiles, IsOver}
 use Rattle.load_texts.specs.Loaded.{file_asked}
 use Rattle.load_texts.specs.Loads.{is_load_text, SaysLoad}
@@ -17,7 +18,7 @@ use Rattle.ground_making.specs.MadeFiles.{Asked, IsMadeIn, PutsMade, IsRefusedIn
 use Rattle.ground_making.specs.Causes.{IsCaused}
 use Rattle.ground_making.proofs.MadeLemmas.{load_made, bytes_made}
 use Rattle.ground_making.proofs.CauseLemmas.{cause_map, cause_read}
-use Rattle.ground_making.specs.ShownFiles.{asked_of, inputs_taken, AppendsText, ShowsAll, RefusesOne, IsOverOne, some_put, EndsShowingSeveral, EndsShowing}
+use Rattle.ground_making.specs.ShownFiles.{asked_of, AppendsText, ShowsAll, RefusesOne, IsOverOne, some_put, EndsShowingSeveral, EndsShowing}
 
 -- ---- one file
 
@@ -87,10 +88,6 @@ ends_made asked status before read given old mid new was is here same done undon
 
 -- ---- several files
 
-pub taken_append : (names : List (List ℕ)) (name : List ℕ) (held : Held) → inputs_taken (names ++ name ∷ []) held ≡ input_taken name (inputs_taken names held)
-taken_append [] name held = refl
-taken_append (n ∷ names) name held = taken_append names name (input_taken n held)
-
 pub more_taken : (names : List (List ℕ)) (name : List ℕ) (first mid new : Option Held) → mid ≡ option_map (inputs_taken names) first → new ≡ option_map (input_taken name) mid → new ≡ option_map (inputs_taken (names ++ name ∷ [])) first
 more_taken names name first mid new was is = is ∙ ap (option_map (input_taken name)) was ∙ by_held first
   where
@@ -106,10 +103,6 @@ pub held_more : (shown : Shown) (asked : Asked) (name : List ℕ) (names more : 
 held_more shown asked name names more first mid new same are was is =
     let step : new ≡ option_map (input_taken name) mid = is ∙ ap (λ (a : Asked). option_map (input_taken a.file) mid) same in
     subst (λ (ns : List (List ℕ)). new ≡ option_map (inputs_taken ns) first) (sym are) (more_taken names name first mid new was step)
-
-all_taken_files : (names : List (List ℕ)) (held : Held) → (inputs_taken names held).files ≡ held.files
-all_taken_files [] held = refl
-all_taken_files (name ∷ names) held = all_taken_files names (input_taken name held)
 
 pub taken_all_files : (names : List (List ℕ)) (old new : Option Held) → new ≡ option_map (inputs_taken names) old → option_map files_of new ≡ option_map files_of old
 taken_all_files names old new is = ap (option_map files_of) is ∙ by_held old

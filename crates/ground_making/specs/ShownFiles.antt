@@ -4,7 +4,7 @@ use Rattle.std.specs.Borrow.{Bor}
 use Rattle.ground_files.specs.declared.verb_status.Status.{Status}
 use Rattle.ground_files.specs.declared.verb_status.Status.TheVariants as statuses
 use Rattle.ground_files.specs.Inputs.{input_shown}
-use Rattle.ground_files.specs.Workspaces.{Held, input_taken, put_at}
+use Rattle.ground_files.specs.Workspaces.{Held, input_taken, inputs_taken, put_at}
 use Rattle.ground_files.specs.Verbs.{KeepsAllFiles, KeepsOtherFiles, IsOver}
 use Rattle.ground_making.specs.declared.making.Making.TheVariants as makings
 use Rattle.ground_making.specs.declared.shown_files.Shown.{Shown}
@@ -32,11 +32,6 @@ pub record AppendsText (asked : Asked) (before : Held) (old new : List ℕ) : Ty
   pub text : List ℕ
   pub is_text : IsMadeOfInput asked before text
   pub appended : new ≡ with_text old (input_shown asked.file) text
-
--- The inputs of these names were opened one after another.
-abbrev pub inputs_taken : List (List ℕ) → Held → Held
-inputs_taken [] held = held
-inputs_taken (name ∷ names) held = inputs_taken names (input_taken name held)
 
 -- Behind `front` the texts of files stand in the order of their names: each is of what its name has once those before it were read.
 abbrev pub ShowsAll : Shown → Held → List ℕ → List (List ℕ) → List ℕ → Type 0

@@ -18,7 +18,7 @@ use ground_files::{
     Status, Workspace, input_name, output_name, put_output, read_input, replaces, tell_replaced,
     tell_unread, tell_unwritten,
 };
-use ground_warnings::warn_of_text;
+use ground_warnings::{warn_of_sends, warn_of_text};
 use load_texts::is_load_text;
 
 /// What a verb of one file is asked for.
@@ -111,11 +111,14 @@ fn tell_shown<R: Eprint + AllocGlobal>(rt: &R, wanted: &Wanted<'_>, file: &[u8])
     }
 }
 
-/// Tells what is odd in a table whose file was made of its text.
+/// Tells what is odd in a table whose file was made of its text, or in a plan of which a scenario was made.
 fn warn_of_made<R: Eprint + AllocGlobal>(rt: &R, wanted: &Wanted<'_>, text: &[u8], made: &[u8]) {
-    if wanted.making == Making::Table {
-        let _told = warn_of_text(rt, input_name(wanted.file), text, made);
-    }
+    let name = input_name(wanted.file);
+    let _told = match wanted.making {
+        Making::Table => warn_of_text(rt, name, text, made),
+        Making::Scenario => warn_of_sends(rt, name, text),
+        Making::Text => Ok(()),
+    };
 }
 
 /// What is made of bytes, or the status, once it was told why nothing is.

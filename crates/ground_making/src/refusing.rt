@@ -6,24 +6,36 @@ ghost use Rattle.ground_making.specs.Causes.{IsToldBy};
 
 use crate::making::Refusal;
 use ground_faults::{
-    WantedKey, WantedText, key_in_book, key_in_load, key_in_plan, key_in_table, tell_book_fault,
-    tell_headers, tell_kind, tell_line_ends,
+    Hint, WantedText, hint_in_book, hint_in_load, hint_in_plan, hint_in_scenario, hint_in_table,
+    tell_book_fault, tell_headers, tell_kind, tell_line_ends,
 };
 use ground_files::Status;
+use plan_text::LineReason;
+use shown_plans::{ScenarioFault, ShowError};
 use std::alloc::AllocError;
 
-/// The key that is wanted where a text has another one.
-fn key_of<'a>(text: &'a [u8], refusal: &Refusal) -> Option<WantedKey<'a>> {
+/// What helps to mend a fault for which a scenario isn't shown as a plan.
+fn hint_of_shown<'a>(text: &'a [u8], error: &ShowError) -> Option<Hint<'a>> {
+    match *error {
+        ShowError::Scenario(ScenarioFault::Words(line)) => {
+            hint_in_scenario(text, line, LineReason::Words)
+        }
+        ShowError::Scenario(ScenarioFault::Line(line, reason)) => {
+            hint_in_scenario(text, line, reason)
+        }
+        ShowError::Memory(_) | ShowError::Long | ShowError::Plan(_) | ShowError::Differs => None,
+    }
+}
+
+/// What helps to mend the fault for which a text is refused.
+fn hint_of<'a>(text: &'a [u8], refusal: &Refusal) -> Option<Hint<'a>> {
     match refusal {
-        Refusal::Text(fault) => key_in_table(text, fault),
-        Refusal::LoadText(fault) => key_in_load(text, fault),
-        Refusal::Plan(fault) => key_in_plan(text, fault),
-        Refusal::Book(fault) => key_in_book(text, fault),
-        Refusal::Scenario(_)
-        | Refusal::Entry(_, _)
-        | Refusal::File(_)
-        | Refusal::Long
-        | Refusal::Memory => None,
+        Refusal::Text(fault) => hint_in_table(text, fault),
+        Refusal::LoadText(fault) => hint_in_load(text, fault),
+        Refusal::Plan(fault) => hint_in_plan(text, fault),
+        Refusal::Scenario(error) => hint_of_shown(text, error),
+        Refusal::Book(fault) => hint_in_book(text, fault),
+        Refusal::Entry(_, _) | Refusal::File(_) | Refusal::Long | Refusal::Memory => None,
     }
 }
 
@@ -59,8 +71,9 @@ pub fn tell_refusal<R: Eprint + AllocGlobal>(
         let _told = tell_headers(rt, name, bytes, *fault);
         return Status::FileRefused;
     }
-    let _told = match key_of(bytes, refusal) {
-        Some(key) => eprintln!(rt; "{name}: {refusal}: {key}"),
+    let _told = match hint_of(bytes, refusal) {
+        Some(Hint::Cause(line, cause)) => eprintln!(rt; "{name}: line {line}: {cause}"),
+        Some(hint) => eprintln!(rt; "{name}: {refusal}: {hint}"),
         None => eprintln!(rt; "{name}: {refusal}"),
     };
     if *refusal == Refusal::Memory {

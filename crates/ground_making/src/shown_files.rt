@@ -3,12 +3,12 @@
 ghost use Rattle.std.specs.Prelude.{◌≡◌, ◌≢◌, ◌⊎◌, ◌++◌, true, [], Some, option_map, IfOk, OnOk, IfErr};
 ghost use Rattle.ground_files.specs.declared.verb_status.Status.TheVariants as statuses;
 ghost use Rattle.ground_files.specs.Inputs.{input_shown};
-ghost use Rattle.ground_files.specs.Workspaces.{Held, input_taken, files_of};
+ghost use Rattle.ground_files.specs.Workspaces.{Held, input_taken, inputs_taken, files_of};
 ghost use Rattle.ground_files.specs.Verbs.{KeepsOtherFiles};
 ghost use Rattle.ground_making.specs.declared.making.Making.TheVariants as makings;
 ghost use Rattle.ground_making.specs.Causes.{IsCaused};
 ghost use Rattle.ground_making.specs.MadeFiles.{asked_by, IsMadeOfInput, IsRefusedInput};
-ghost use Rattle.ground_making.specs.ShownFiles.{asked_of, names_in, gap, with_text, inputs_taken, ShowsAll, AppendsText, RefusesOne, IsOverOne, some_put, EndsShowingSeveral, EndsShowing};
+ghost use Rattle.ground_making.specs.ShownFiles.{asked_of, names_in, gap, with_text, ShowsAll, AppendsText, RefusesOne, IsOverOne, some_put, EndsShowingSeveral, EndsShowing};
 
 use crate::made_files::{Wanted, made_of, make_one, write_made};
 use crate::making::Making;

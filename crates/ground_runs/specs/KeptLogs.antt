@@ -10,7 +10,7 @@ use Rattle.rehearsal.specs.Promise.{ShelfUse, SinkUse, Promise}
 use Rattle.rehearsal.specs.declared.report.Report.{Report}
 use Rattle.ground_runs.specs.declared.asked_run.Run.{Run}
 use Rattle.ground_runs.specs.Endings.{status_at, unjudged, is_kept}
-use Rattle.ground_runs.specs.Refusals.{is_drill, IsRefused}
+use Rattle.ground_runs.specs.Refusals.{is_drill, AreWordsRefused}
 use Rattle.ground_runs.specs.Rehearsing.{silent}
 
 -- ---- how a rehearsal ended
@@ -74,7 +74,7 @@ pub record KeepsNone {S : Type 0} (what : Staged S) (status : Status) (before : 
 -- How a rehearsal of what is staged ends that is asked for so, and what it leaves.
 abbrev pub EndsRun : {S : Type 0} → Staged S → Run → Status → Held → Option Held → Type 0
 EndsRun what run statuses.Done before after = Settles what run statuses.Done before after
-EndsRun what run statuses.WordsRefused before after = (IsRefused run before × KeepsAllFiles before after) ⊎ KeepsNone what statuses.WordsRefused before after
+EndsRun what run statuses.WordsRefused before after = (AreWordsRefused run before × KeepsAllFiles before after) ⊎ KeepsNone what statuses.WordsRefused before after
 EndsRun what run statuses.FileRefused before after = KeepsNone what statuses.FileRefused before after
 EndsRun what run statuses.ScenarioRefused before after = Settles what run statuses.ScenarioRefused before after
 EndsRun what run statuses.ReadFailed before after = Settles what run statuses.ReadFailed before after

@@ -40,16 +40,16 @@ IsLogOverInput run None held = ⊥
 IsLogOverInput run (Some log) held = IsOverInput run log.now held
 
 -- either output is
-abbrev pub IsOverRead : Run → Held → Type 0
-IsOverRead run held = IsLogOverInput run run.log held ⊎ IsOverInput run run.output.now held
+abbrev pub IsRunOverRead : Run → Held → Type 0
+IsRunOverRead run held = IsLogOverInput run run.log held ⊎ IsOverInput run run.output.now held
 
 -- The words of a rehearsal are refused: the log can't be kept there, or not of this scenario, an output is over what is read, or there is an `--allow` that may name nothing.
-abbrev pub IsRefused : Run → Held → Type 0
-IsRefused run held = IsMisasked run ⊎ IsOverRead run held ⊎ (run.allowed.now ≢ [])
+abbrev pub AreWordsRefused : Run → Held → Type 0
+AreWordsRefused run held = IsMisasked run ⊎ IsRunOverRead run held ⊎ (run.allowed.now ≢ [])
 
 -- nothing is rehearsed: the words are refused, or memory ran out
 abbrev pub IsEarly : Run → Status → Held → Type 0
-IsEarly run status held = ((status ≡ statuses.WordsRefused) × IsRefused run held) ⊎ (status ≡ statuses.NoMemory)
+IsEarly run status held = ((status ≡ statuses.WordsRefused) × AreWordsRefused run held) ⊎ (status ≡ statuses.NoMemory)
 
 -- ---- what the code gives
 

@@ -4,9 +4,9 @@ ghost use Rattle.std.specs.Prelude.{◌≡◌, false};
 ghost use Rattle.ground_runs.specs.Endings.{status_at, is_kept, is_reported};
 
 use crate::asked_run::Run;
-use crate::line_causes::{find_line, line_cause};
+use crate::scenario_lines::{find_line, read_beginning};
 use crate::second_looks::{can_be_read_again, read_again};
-use ground_faults::{PAYLOAD, tell_entry, tell_headers};
+use ground_faults::{LineCause, PAYLOAD, line_cause, tell_entry, tell_headers, tell_read};
 use ground_files::{
     Status, Workspace, input_name, is_stream, output_name, tell_no_memory, tell_unwritten,
 };
@@ -15,13 +15,14 @@ use packet_forms::{behind, front};
 use rehearsal::{Report, Status as End};
 use std::alloc::Global;
 use std::io::{self, Read};
+use table_files::{FileImage, read_file};
 use table_forms::{TableFault, find_refusal};
 
 /// The reason of a file that is longer than any that is read.
 const TOO_LONG: u8 = 9;
 
 /// The reason of an entry whose read the memory of the scenario doesn't give.
-pub const NOT_GIVEN: u8 = 10;
+const NOT_GIVEN: u8 = 10;
 
 /// How many bytes of a line are shown.
 const MOST_SHOWN: usize = 200;
@@ -47,7 +48,26 @@ fn tell_number<R: Eprint>(rt: &R, path: &str, entry: u32, reason: u8) -> io::Res
             "{path}: entry {entry}: the memory of the scenario doesn't give what it reads (reason {reason})"
         );
     }
-    eprintln!(rt; "{path}: entry {entry}: reason {reason} (docs/FILES.md)")
+    eprintln!(rt;
+        "{path}: entry {entry}: reason {reason} (docs/FILES.md; a file that is given by its path is told in words, and what comes through a pipe can't be read again)"
+    )
+}
+
+/// Tells of an entry whose read the scenario's memory doesn't give, by what another look at its file finds.
+fn tell_refused_read<R: Eprint + AllocGlobal>(
+    rt: &R,
+    path: &str,
+    file: &[u8],
+    entry: u32,
+) -> io::Result<()> {
+    match read_file(file) {
+        Ok(FileImage::Table { kind, payload }) => {
+            Ok(tell_read(rt, None, path, kind, payload, entry)?)
+        }
+        Ok(FileImage::Load { at: _, bytes: _ }) | Err(_) => {
+            tell_number(rt, path, entry, NOT_GIVEN)
+        }
+    }
 }
 
 /// Tells why a file is refused, by what another look at it finds: its entry and why, or what is wrong with its headers.
@@ -58,6 +78,9 @@ fn tell_found<R: Eprint + AllocGlobal>(
     report: &Report,
 ) -> io::Result<()> {
     let reason = report.reason;
+    if reason == NOT_GIVEN {
+        return tell_refused_read(rt, path, file, report.line);
+    }
     match find_refusal(file) {
         Some(TableFault::Entry(kind, fault)) => {
             Ok(tell_entry(rt, path, kind, behind(file, PAYLOAD), fault)?)
@@ -81,21 +104,41 @@ fn tell_file<R: Eprint + AllocGlobal, W: Workspace>(
     if reason == TOO_LONG {
         return eprintln!(rt; "{path}: it has over 65700 bytes (reason {reason})");
     }
-    if reason == NOT_GIVEN {
-        return tell_number(rt, path, report.line, reason);
-    }
     match read_again(rt.alloc(), workspace, path) {
         Ok(Some(file)) => tell_found(rt, path, file.as_slice(), report),
         _ => tell_number(rt, path, report.line, reason),
     }
 }
 
-/// Why a scenario is refused at a line. The lines are counted from 1.
-fn cause_at(number: u32, reason: u8, line: &[u8]) -> &'static str {
-    if number == 0 {
-        return "the text is empty";
+/// The beginning of a scenario's text, as far as it can be read again.
+fn beginning_of<W: Workspace>(alloc: Global, workspace: &mut W, path: &str) -> Vec<u8>
+    ensures { W.held workspace.new ≡ W.held workspace.old }
+{
+    let mut beginning = Vec::new(alloc);
+    if !can_be_read_again(workspace, path).unwrap_or(false) {
+        return beginning;
     }
-    line_cause(reason, line)
+    if let Ok(text) = workspace.open(path) {
+        let _read = read_beginning(text, &mut beginning);
+    }
+    beginning
+}
+
+/// Why a scenario is refused at a line. The lines are counted from 1.
+fn cause_at<W: Workspace>(
+    alloc: Global,
+    workspace: &mut W,
+    path: &str,
+    report: &Report,
+    line: &[u8],
+) -> LineCause
+    ensures { W.held workspace.new ≡ W.held workspace.old }
+{
+    if report.line == 0 {
+        return LineCause::Words("the text is empty");
+    }
+    let beginning = beginning_of(alloc, workspace, path);
+    line_cause(beginning.as_slice(), report.line, report.reason, line)
 }
 
 /// Tells why a scenario is refused, and shows the line.
@@ -109,12 +152,17 @@ fn tell_line<R: Eprint + AllocGlobal, W: Workspace>(
 {
     let (number, reason) = (report.line, report.reason);
     let line = line_of(rt.alloc(), workspace, path, number);
-    let cause = cause_at(number, reason, line.as_slice());
+    let cause = cause_at(rt.alloc(), workspace, path, report, line.as_slice());
     match std::str::from_utf8(front(line.as_slice(), MOST_SHOWN)) {
         Ok(text) if !text.is_empty() => {
             eprintln!(rt; "{path}: line {number}: {cause} (reason {reason}): {text:?}")
         }
-        _ => eprintln!(rt; "{path}: line {number}: {cause} (reason {reason})"),
+        _ if can_be_read_again(workspace, path).unwrap_or(false) => {
+            eprintln!(rt; "{path}: line {number}: {cause} (reason {reason})")
+        }
+        _ => eprintln!(rt;
+            "{path}: line {number}: {cause} (reason {reason}; of a scenario that is given by its path more is told: what comes through a pipe can't be read again)"
+        ),
     }
 }
 

@@ -6,7 +6,7 @@ ghost use Rattle.ground_files.specs.Workspaces.{Held};
 ghost use Rattle.ground_files.specs.declared.verb_status.Status.TheVariants as statuses;
 ghost use Rattle.ground_runs.specs.AskedWords.{words_of};
 ghost use Rattle.ground_runs.specs.Endings.{is_kept};
-ghost use Rattle.ground_runs.specs.Refusals.{IsOverRead, IsEarly, IsWellNamed};
+ghost use Rattle.ground_runs.specs.Refusals.{IsRunOverRead, IsEarly, IsWellNamed};
 ghost use Rattle.ground_runs.specs.KeptLogs.{staged, SettledAs, EndsRun};
 
 use crate::asked_run::Run;
@@ -167,6 +167,16 @@ where
     settle_alone(rt, workspace, run.output, ending, words)
 }
 
+/// Tells that an `--allow` has no part in a rehearsal that isn't judged.
+fn tell_unused_allow<R: Eprint>(rt: &R, run: &Run<'_>) {
+    if !run.is_strict && !run.allowed.is_empty() {
+        // There is no other place to tell it.
+        let _told = eprintln!(rt;
+            "--allow has a part with --strict alone: nothing is judged without it"
+        );
+    }
+}
+
 /// Says which words of `--allow` name nothing, if any do, and answers the status.
 fn refuse_allow<R: Eprint + AllocGlobal>(rt: &R, allowed: &[&str]) -> Option<Status>
     ensures { IfSome result (λ status. ((status ≡ statuses.WordsRefused)
@@ -189,7 +199,7 @@ fn refuse_allow<R: Eprint + AllocGlobal>(rt: &R, allowed: &[&str]) -> Option<Sta
 /// The output that is read here, if one is.
 fn replaced<'a, W: Workspace>(workspace: &W, run: &Run<'a>) -> Option<&'a str>
     ensures { IfSome result (λ output. (now : Held) → W.held workspace.now ≡ Some now
-        → IsOverRead run.now now) }
+        → IsRunOverRead run.now now) }
 {
     if let Some(log) = run.log {
         if run.would_replace(workspace, log) {
@@ -220,6 +230,7 @@ fn refuse<R: Eprint + AllocGlobal, W: Workspace>(
         tell_replaced(rt, output);
         return Some(Status::WordsRefused);
     }
+    tell_unused_allow(rt, run);
     refuse_allow(rt, run.allowed)
 }
 

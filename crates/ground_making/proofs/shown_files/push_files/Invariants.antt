@@ -1,9 +1,9 @@
 use Rattle.std.proofs.Common.{◌≡◌, ℕ, List, map, take, Some, Bor}
 use Rattle.std.specs.Prelude.{option_map}
 use Rattle.ground_files.specs.declared.verb_status.Status.TheVariants as statuses
-use Rattle.ground_files.specs.Workspaces.{Held}
+use Rattle.ground_files.specs.Workspaces.{Held, inputs_taken}
 use Rattle.ground_making.specs.Causes.{IsCaused}
-use Rattle.ground_making.specs.ShownFiles.{inputs_taken, ShowsAll, RefusesOne}
+use Rattle.ground_making.specs.ShownFiles.{ShowsAll, RefusesOne}
 use Rattle.ground_making.proofs.shown_files.push_files.Given as goal
 
 -- the files so far

@@ -1,5 +1,5 @@
 use Rattle.std.proofs.Common.{◌+◌, ◌<◌, ◌^◌, length}
-use Rattle.ground_faults.proofs.wanted_keys.table_line.Given as goal
+use Rattle.ground_faults.proofs.region_faults.shared_with.Given as goal
 
 abbrev pub invariant-lines : goal.invariant-lines
 invariant-lines l = l.next + length l.rest < 2 ^ 32

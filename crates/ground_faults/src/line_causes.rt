@@ -4,37 +4,27 @@ use crate::line_words::begins_with;
 use crate::number_causes::number_cause;
 use crate::other_texts::character_cause;
 use crate::packet_causes::packet_cause;
+use crate::region_faults::{RegionFault, end_before, region_fault};
 use crate::word_causes::word_cause;
-use std::alloc::AllocError;
-use std::io::{self, Read};
+use thiserror::Error;
 
-/// How many bytes of a line are looked at: one more than a scenario's line has.
-const MOST_BYTES: usize = 641;
+/// The reason of words that can't stand there.
+const WORDS: u8 = 1;
 
-/// How many bytes of a text are read for a line: more than a scenario has that is read to its end, and fewer than a device without one gives.
-const MOST_READ: usize = 16_800_000;
+/// The reason of regions that make no map, and of an upset outside of them (docs/SCENARIO.md).
+const NO_MAP: u8 = 4;
 
-/// A line of a text, as far as it is looked at.
-pub fn find_line<R: Read>(text: &mut R, number: u32, line: &mut Vec<u8>) -> io::Result<()> {
-    let mut piece = [0u8; 4_096];
-    let mut at: u32 = 1;
-    let mut read: usize = 0;
-    line.clear();
-    for _ in 0..u64::MAX {
-        let count = text.read(&mut piece)?;
-        if count == 0 || at > number || read > MOST_READ {
-            return Ok(());
-        }
-        read = read.saturating_add(count);
-        for byte in &piece[..count] {
-            if *byte == b'\n' {
-                at = at.saturating_add(1);
-            } else if at == number && line.len() < MOST_BYTES {
-                line.push(*byte).map_err(AllocError::from)?;
-            }
-        }
-    }
-    Ok(())
+/// Why a line is refused.
+#[derive(Clone, Copy, Debug, PartialEq, Eq, Error)]
+pub enum LineCause {
+    #[error("{0}")]
+    Words(&'static str),
+    /// The line `start`: the regions before it make no map.
+    #[error("{0}")]
+    Regions(RegionFault),
+    /// A line behind one that ends the scenario.
+    #[error("`end` stands in line {0}, and behind it nothing may stand")]
+    Behind(u32),
 }
 
 /// Why the regions, or an upset, are refused.
@@ -63,14 +53,30 @@ fn form_cause(reason: u8, line: &[u8]) -> &'static str {
     }
 }
 
-/// Why a line is refused, by its number of the reason (docs/SCENARIO.md) and its text, of which nothing may be known.
-pub fn line_cause(reason: u8, line: &[u8]) -> &'static str {
+/// Why a line is refused, by its number of the reason and its text alone.
+fn words_of(reason: u8, line: &[u8]) -> &'static str {
     match reason {
         1 | 2 | 3 => form_cause(reason, line),
-        4 => map_cause(line),
+        NO_MAP => map_cause(line),
         5 => "a frame has at most 64 lines `send`, `app`, `upset`, `hold` and `activate`",
         6 => "a line has at most 640 bytes, a scenario at most 16777216 bytes and 100000 frames",
         7 => "`end` is missing behind this line",
         _ => "it is refused",
     }
+}
+
+/// Why a line of a scenario is refused, by its number of the reason (docs/SCENARIO.md), the line and its number, and the scenario's text, of
+/// which the beginning suffices. Nothing may be known of either.
+pub fn line_cause(text: &[u8], number: u32, reason: u8, line: &[u8]) -> LineCause {
+    if reason == NO_MAP && begins_with(line, b"start") {
+        if let Some(fault) = region_fault(text, number) {
+            return LineCause::Regions(fault);
+        }
+    }
+    if reason == WORDS {
+        if let Some(end) = end_before(text, number) {
+            return LineCause::Behind(end);
+        }
+    }
+    LineCause::Words(words_of(reason, line))
 }

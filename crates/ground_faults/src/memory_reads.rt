@@ -1,12 +1,9 @@
 //! What the memory of a scenario doesn't give, in words.
 
-ghost use Rattle.std.specs.Prelude.{OnOk};
-ghost use Rattle.ground_checks.specs.Checked.{StaysTold};
-
 use memory_window::{Kind, Map, Region};
 use packet_forms::{be16, be32, behind};
 use std::alloc::{AllocError, Global};
-use std::io::{self, Write};
+use std::io;
 use table_files::TableKind;
 
 /// The reason of an entry whose read the memory of the scenario doesn't give.
@@ -93,14 +90,11 @@ fn cause_in(region: Region, wanted: WantedBytes) -> &'static str {
     }
 }
 
-/// Why memory doesn't give bytes.
-fn cause_of(map: Option<&Map>, wanted: WantedBytes) -> &'static str {
-    let Some(map) = map else {
-        return "no region is known";
-    };
-    match region_at(map, wanted.address) {
-        Some(region) => cause_in(region, wanted),
-        None => "no region has this address",
+/// Why memory doesn't give bytes, where its map is known.
+fn cause_of(map: Option<&Map>, wanted: WantedBytes) -> Option<&'static str> {
+    match region_at(map?, wanted.address) {
+        Some(region) => Some(cause_in(region, wanted)),
+        None => Some("no region has this address"),
     }
 }
 
@@ -121,8 +115,27 @@ fn title_of(alloc: Global, kind: TableKind) -> Result<String, AllocError> {
     }
 }
 
+/// Tells that memory doesn't give the bytes that an entry reads, and why, where that is known.
+fn tell_bytes<R: Eprint>(
+    rt: &R,
+    place: &str,
+    wanted: WantedBytes,
+    cause: Option<&str>,
+) -> io::Result<()> {
+    let WantedBytes { address, size } = wanted;
+    let bytes = if size == 1 { "byte" } else { "bytes" };
+    match cause {
+        Some(cause) => eprintln!(rt;
+            "{place}: the memory of the scenario doesn't give the {size} {bytes} at 0x{address:08X}: {cause} (reason {NOT_GIVEN})"
+        ),
+        None => eprintln!(rt;
+            "{place}: the memory of the scenario doesn't give the {size} {bytes} at 0x{address:08X} (reason {NOT_GIVEN})"
+        ),
+    }
+}
+
 /// Tells an entry of a table's payload that reads what the memory of the scenario doesn't give.
-pub(crate) fn tell_read<R: Eprint + AllocGlobal>(
+pub fn tell_read<R: Eprint + AllocGlobal>(
     rt: &R,
     map: Option<&Map>,
     place: &str,
@@ -131,42 +144,14 @@ pub(crate) fn tell_read<R: Eprint + AllocGlobal>(
     entry: u32,
 ) -> Result<(), AllocError> {
     let title = title_of(rt.alloc(), kind)?;
+    let place = format!(in rt.alloc(); "{place}: {title}, entry {entry}")?;
+    let place = place.as_str();
     // There is no other place to tell it.
     let _told = match wanted_bytes(kind, payload, entry) {
-        Some(wanted) => {
-            let WantedBytes { address, size } = wanted;
-            let cause = cause_of(map, wanted);
-            let bytes = if size == 1 { "byte" } else { "bytes" };
-            eprintln!(rt;
-                "{place}: {title}, entry {entry}: the memory of the scenario doesn't give the {size} {bytes} at 0x{address:08X}: {cause} (reason {NOT_GIVEN})"
-            )
-        }
+        Some(wanted) => tell_bytes(rt, place, wanted, cause_of(map, wanted)),
         None => eprintln!(rt;
-            "{place}: {title}, entry {entry}: the memory of the scenario doesn't give what it reads (reason {NOT_GIVEN})"
+            "{place}: the memory of the scenario doesn't give what it reads (reason {NOT_GIVEN})"
         ),
     };
-    Ok(())
-}
-
-/// A region's kind, as a scenario has it.
-fn kind_word(kind: Kind) -> &'static str {
-    match kind {
-        Kind::Ram => "RAM",
-        Kind::Eeprom => "EEPROM",
-        Kind::Mem8 => "MEM8",
-        Kind::Mem16 => "MEM16",
-        Kind::Mem32 => "MEM32",
-    }
-}
-
-/// Tells the regions of a map, each as its line of the scenario has it.
-pub(crate) fn tell_regions<O: Write>(out: &mut O, name: &str, map: &Map) -> io::Result<()>
-    ensures { OnOk result (StaysTold (O.contents out.old) (O.contents out.new)) }
-{
-    for region in map.regions() {
-        let Region { kind, start, len } = *region;
-        let kind = kind_word(kind);
-        writeln!(out, "map {name} {kind} 0x{start:08X} {len}")?;
-    }
     Ok(())
 }

@@ -23,15 +23,22 @@ fn is_kind(word: &[u8]) -> bool {
     matches!(word, b"RAM" | b"EEPROM" | b"MEM8" | b"MEM16" | b"MEM32")
 }
 
-/// Why a line `region` is refused.
-fn region_cause(line: &[u8]) -> &'static str {
+/// Why the words of a line `region` aren't those of a region.
+pub(crate) fn region_words_cause(line: &[u8]) -> Option<&'static str> {
     if !has_behind(line, 3) {
-        return "`region` takes three words: KIND START LEN";
+        return Some("`region` takes three words: KIND START LEN");
     }
     if !is_kind(word_at(line, 1)) {
-        return "the kind of a region is RAM, EEPROM, MEM8, MEM16 or MEM32";
+        return Some("the kind of a region is RAM, EEPROM, MEM8, MEM16 or MEM32");
     }
-    "`region` stands behind `epoch` and before `start`: `epoch` may be missing before this line"
+    None
+}
+
+/// Why a line `region` is refused.
+fn region_cause(line: &[u8]) -> &'static str {
+    region_words_cause(line).unwrap_or(
+        "`region` stands behind `epoch` and before `start`: `epoch` may be missing before this line",
+    )
 }
 
 /// Why a line `start` is refused.
@@ -50,22 +57,26 @@ fn send_cause(line: &[u8]) -> &'static str {
     "`send` takes one word, the bytes of one packet in hexadecimal digits; of a plan, `groundkit scenario` makes the scenario"
 }
 
-/// Why a line `app` is refused.
-fn app_cause(line: &[u8]) -> &'static str {
-    if !has_behind(line, 2) {
-        return "`app` takes two words: NAME N";
-    }
-    let name = word_at(line, 1);
+/// Why a word is no name of a counter.
+pub(crate) fn name_cause(name: &[u8]) -> Option<&'static str> {
     if name.len() > MOST_CHARACTERS {
-        return "the name has more than 19 characters";
+        return Some("the name has more than 19 characters");
     }
     if !name
         .iter()
         .all(|byte| byte.is_ascii_alphanumeric() || *byte == b'_')
     {
-        return "a name is 1 to 19 letters, digits and underscores";
+        return Some("a name is 1 to 19 letters, digits and underscores");
     }
-    OUT_OF_FRAME
+    None
+}
+
+/// Why a line `app` is refused.
+fn app_cause(line: &[u8]) -> &'static str {
+    if !has_behind(line, 2) {
+        return "`app` takes two words: NAME N";
+    }
+    name_cause(word_at(line, 1)).unwrap_or(OUT_OF_FRAME)
 }
 
 /// Why a line `upset` is refused.
@@ -76,16 +87,21 @@ fn upset_cause(line: &[u8]) -> &'static str {
     "`upset` takes two words: an address, and a byte from 0 to 255"
 }
 
+/// Why a word is no application that can be held.
+pub(crate) fn held_cause(word: &[u8]) -> Option<&'static str> {
+    match word {
+        b"HS" | b"CS" | b"SC" | b"MM" | b"MD" => None,
+        b"LC" => Some("Limit Checker can't be held: `hold` takes HS, CS, SC, MM or MD"),
+        _ => Some("`hold` takes an application, which is HS, CS, SC, MM or MD"),
+    }
+}
+
 /// Why a line `hold` is refused.
 fn hold_cause(line: &[u8]) -> &'static str {
     if !has_behind(line, 1) {
         return "`hold` takes one word, HS, CS, SC, MM or MD; of a plan, `groundkit scenario` makes the scenario";
     }
-    match word_at(line, 1) {
-        b"HS" | b"CS" | b"SC" | b"MM" | b"MD" => OUT_OF_FRAME,
-        b"LC" => "Limit Checker can't be held: `hold` takes HS, CS, SC, MM or MD",
-        _ => "`hold` takes an application, which is HS, CS, SC, MM or MD",
-    }
+    held_cause(word_at(line, 1)).unwrap_or(OUT_OF_FRAME)
 }
 
 /// Why a line `activate` is refused.
