@@ -249,6 +249,19 @@ fn replaces_book<R: Eprint, W: Workspace>(
     false
 }
 
+/// Tells why a folder can't be made, and answers the status.
+fn tell_unmade<R: Eprint>(rt: &R, folder: &str, error: &io::Error) -> Status
+    ensures { result ≡ statuses.WriteFailed }
+{
+    if error.kind() == ErrorKind::AlreadyExists {
+        let _told = eprintln!(rt;
+            "{folder}: it is a file, and -o wants a folder: a book gives several files"
+        );
+        return Status::WriteFailed;
+    }
+    tell_unwritten(rt, folder, error)
+}
+
 /// Makes the folder where it isn't there, and writes the files into it.
 fn fill_folder<R: Eprint + AllocGlobal, W: Workspace>(
     rt: &R,
@@ -265,6 +278,10 @@ fn fill_folder<R: Eprint + AllocGlobal, W: Workspace>(
         ⊥ result }
 {
     let folder = build.folder.unwrap_or(".");
+    if folder.is_empty() {
+        let _told = eprintln!(rt; "-o wants a folder, and its name is empty");
+        return Status::WriteFailed;
+    }
     let mut files = match placed(rt.alloc(), build.folder, files) {
         Ok(files) => files,
         Err(error) => return tell_unwritten(rt, folder, &error),
@@ -274,7 +291,7 @@ fn fill_folder<R: Eprint + AllocGlobal, W: Workspace>(
     }
     match workspace.make_folder(folder) {
         Ok(()) => write_files(rt, workspace, files.as_mut_slice()),
-        Err(error) => tell_unwritten(rt, folder, &error),
+        Err(error) => tell_unmade(rt, folder, &error),
     }
 }
 
