@@ -3,8 +3,8 @@
 use crate::other_files::other_file;
 use crate::telling::Telling;
 use ground_files::Fault;
-use log_lines::LogFault;
-use packet_forms::front;
+use log_lines::{LineFault, LogFault};
+use packet_forms::{PacketFault, behind, front};
 
 /// How many of the lines that are none of a log's are told one by one.
 const MOST_TOLD: u64 = 5;
@@ -15,12 +15,34 @@ pub(crate) struct StrangeLines {
     count: u64,
 }
 
-/// What else is so of a line that is none of a log's, where it ends so.
-fn end_hint(line: &[u8]) -> &'static str {
-    if line.ends_with(b"\r\n") {
-        ", and the line ends with a carriage return: save the log with LF line ends"
-    } else {
-        ""
+/// The last line of a piece that ends with it, without its LF.
+fn last_line(piece: &[u8]) -> &[u8] {
+    let whole = match piece.split_last() {
+        Some((b'\n', before)) => before,
+        _ => piece,
+    };
+    match whole.iter().rposition(|byte| *byte == b'\n') {
+        Some(end) => behind(whole, end.saturating_add(1)),
+        None => whole,
+    }
+}
+
+/// What else is so of a line that is none of a log's.
+fn line_hint(line: &[u8], fault: LineFault) -> &'static str {
+    if line.ends_with(b"\r") {
+        return ", and the line ends with a carriage return: save the log with LF line ends";
+    }
+    if line.iter().any(|byte| *byte == b'\t') {
+        return ", and the line has a tab: words stand between spaces";
+    }
+    if line.iter().any(|byte| *byte == 0) {
+        return ", and the line has bytes that are zero, as a text in UTF-16 does: save the log as UTF-8";
+    }
+    match fault {
+        LineFault::Packet(PacketFault::Length) => {
+            ": the packet's length field, its fifth and sixth byte, isn't the number of bytes behind them less one"
+        }
+        _ => "",
     }
 }
 
@@ -46,7 +68,7 @@ impl StrangeLines {
         if self.count > MOST_TOLD {
             return Ok(());
         }
-        let hint = end_hint(front(piece, end));
+        let hint = line_hint(last_line(front(piece, end)), fault.fault);
         eprintln!(telling.rt; "{}, {fault}{hint}", telling.name).map_err(Fault::Write)
     }
 
