@@ -38,6 +38,14 @@ fn push_line(out: &mut Vec<u8>, text: &str) -> Result<(), AllocError> {
     out.extend_from_slice(b"\n")
 }
 
+/// Appends what an argument that is no option is called, in capital letters.
+fn push_capitals(out: &mut Vec<u8>, name: &str) -> Result<(), AllocError> {
+    for byte in name.as_bytes() {
+        push_page_byte(out, byte.to_ascii_uppercase())?;
+    }
+    out.extend_from_slice(b"\n")
+}
+
 /// Appends the names of an argument: `-o, --output`, or where it is no option, what it is called.
 fn push_names(out: &mut Vec<u8>, argument: &Arg<'_>) -> Result<(), AllocError> {
     if let Some(short) = argument.get_short() {
@@ -50,7 +58,7 @@ fn push_names(out: &mut Vec<u8>, argument: &Arg<'_>) -> Result<(), AllocError> {
             push_texts(out, &["\\-\\-"])?;
             push_line(out, long)
         }
-        None => push_line(out, argument.get_id()),
+        None => push_capitals(out, argument.get_id()),
     }
 }
 
