@@ -18,14 +18,13 @@ fn warn_of_entry<R: Eprint>(
     entry: u32,
     sums: Checksums,
 ) {
-    let Checksums { found, right } = sums;
     // There is no other place to tell it.
     let _told = match entry_line_number(placed, TableKind::MsgActs, entry) {
         Some(line) => eprintln!(rt;
-            "{name}: line {line}: warning: the checksum of entry {entry}'s command, its eighth byte, is {found:02X} and not {right:02X}, so that its application refuses it"
+            "{name}: line {line}: warning: the command of entry {entry} has a wrong checksum, so that its application refuses it: {sums}"
         ),
         None => eprintln!(rt;
-            "{name}: warning: the checksum of entry {entry}'s command, its eighth byte, is {found:02X} and not {right:02X}, so that its application refuses it"
+            "{name}: warning: the command of entry {entry} has a wrong checksum, so that its application refuses it: {sums}"
         ),
     };
 }

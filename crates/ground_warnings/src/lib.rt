@@ -3,6 +3,7 @@
 
 mod action_packets;
 mod sent_packets;
+mod sequence_packets;
 mod telling;
 mod warning_lines;
 

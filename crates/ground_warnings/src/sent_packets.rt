@@ -10,6 +10,7 @@ use packet_forms::message_ids::{
 use row_forms::{behind_key, read_block, split_word};
 use std::alloc::AllocError;
 use table_texts::{Line, next_line};
+use thiserror::Error;
 
 /// The digits of the packet that a line sends by its bytes, as a scenario has them or behind `packet=`; none of other lines.
 fn sent_digits<'a>(line: &Line<'a>) -> Option<&'a [u8]> {
@@ -37,7 +38,8 @@ pub(crate) fn is_wrong_command(packet: &Packet) -> bool {
 const CHECKSUM: usize = 7;
 
 /// A command's checksum as it is, and as it would be right.
-#[derive(Clone, Copy, Debug)]
+#[derive(Clone, Copy, Debug, Error)]
+#[error("its eighth byte is {found:02X}, and {right:02X} would be right")]
 pub(crate) struct Checksums {
     pub found: u8,
     pub right: u8,
@@ -76,10 +78,10 @@ fn warn_of_line<R: Eprint>(
     let Some(digits) = sent_digits(line) else {
         return Ok(());
     };
-    if let Some(Checksums { found, right }) = wrong_checksums(digits, bytes)? {
+    if let Some(sums) = wrong_checksums(digits, bytes)? {
         // There is no other place to tell it.
         let _told = eprintln!(rt;
-            "{name}: line {0}: warning: the command's checksum, its eighth byte, is {found:02X} and not {right:02X}, so that its application refuses it",
+            "{name}: line {0}: warning: the command has a wrong checksum, so that its application refuses it: {sums}",
             line.number
         );
     }

@@ -1,6 +1,7 @@
 //! Warnings of tables, in words.
 
 use crate::action_packets::warn_of_actions;
+use crate::sequence_packets::warned_checksums;
 use crate::warning_lines::warning_line;
 use entry_lines::entry_line;
 use memory_window::Map;
@@ -45,14 +46,30 @@ pub fn entry_line_number(
     Some(placed.before.saturating_add(line.number))
 }
 
-/// Tells a warning of a table's text with its line.
-fn tell_at_line<R: Eprint>(rt: &R, placed: &PlacedText<'_>, warning: Warning) {
-    let name = placed.name;
+/// Tells a warning of a file; of a command with a wrong checksum the right one, too.
+fn tell_of_file<R: Eprint>(rt: &R, name: &str, payload: &[u8], warning: &Warning) {
     // There is no other place to tell it.
-    let _told = match line_number(placed, warning) {
-        Some(number) => eprintln!(rt; "{name}: line {number}: warning: {warning}"),
+    let _told = match warned_checksums(payload, *warning) {
+        Some(sums) => eprintln!(rt; "{name}: warning: {warning}: {sums}"),
         None => eprintln!(rt; "{name}: warning: {warning}"),
     };
+}
+
+/// Tells a warning at a line.
+fn tell_at_line<R: Eprint>(rt: &R, name: &str, line: u32, payload: &[u8], warning: &Warning) {
+    // There is no other place to tell it.
+    let _told = match warned_checksums(payload, *warning) {
+        Some(sums) => eprintln!(rt; "{name}: line {line}: warning: {warning}: {sums}"),
+        None => eprintln!(rt; "{name}: line {line}: warning: {warning}"),
+    };
+}
+
+/// Tells a warning of a text with its line, where that is known.
+fn tell_placed<R: Eprint>(rt: &R, placed: &PlacedText<'_>, payload: &[u8], warning: &Warning) {
+    match line_number(placed, *warning) {
+        Some(line) => tell_at_line(rt, placed.name, line, payload, warning),
+        None => tell_of_file(rt, placed.name, payload, warning),
+    }
 }
 
 /// Tells warnings of a table: with the lines of its text, where it has one, and else by the name of its file.
@@ -60,15 +77,13 @@ fn tell_warnings<R: Eprint>(
     rt: &R,
     name: &str,
     placed: Option<PlacedText<'_>>,
+    payload: &[u8],
     warnings: &[Warning],
 ) {
     for warning in warnings {
         match placed {
-            Some(placed) => tell_at_line(rt, &placed, *warning),
-            None => {
-                // There is no other place to tell it.
-                let _told = eprintln!(rt; "{name}: warning: {warning}");
-            }
+            Some(placed) => tell_placed(rt, &placed, payload, warning),
+            None => tell_of_file(rt, name, payload, warning),
         }
     }
 }
@@ -87,17 +102,17 @@ pub fn warn_of_table<R: Eprint + AllocGlobal>(
         return Ok(());
     };
     let warnings = find_warnings(rt.alloc(), kind, payload)?;
-    tell_warnings(rt, name, placed, warnings.as_slice());
+    tell_warnings(rt, name, placed, payload, warnings.as_slice());
     if kind == TableKind::MsgActs {
         warn_of_actions(rt, name, placed, payload);
     }
     if let Some(names) = names {
         let unknown = find_unknown_names(rt.alloc(), kind, names, payload)?;
-        tell_warnings(rt, name, placed, unknown.as_slice());
+        tell_warnings(rt, name, placed, payload, unknown.as_slice());
     }
     if let Some(map) = map {
         let split = find_split_ranges(rt.alloc(), kind, map, payload)?;
-        tell_warnings(rt, name, placed, split.as_slice());
+        tell_warnings(rt, name, placed, payload, split.as_slice());
     }
     Ok(())
 }
