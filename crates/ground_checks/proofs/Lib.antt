@@ -1,4 +1,3 @@
-pub mod MapLemmas
 pub mod FaultLemmas
 pub mod FoundLemmas
 pub mod ReadLemmas

@@ -12,7 +12,7 @@ use Rattle.ground_checks.specs.declared.finding.FoundFault.TheVariants as faults
 use Rattle.ground_checks.specs.Faults.{read_refused, fault_by, fault_of}
 use Rattle.scenario.specs.Texts.{Given, Head, Whole, reading}
 use Rattle.rehearsal.specs.Outcome.{refused_read}
-use Rattle.ground_checks.specs.Maps.{regions_in, map_said}
+use Rattle.ground_faults.specs.HeaderMaps.{regions_in, map_said}
 use Rattle.ground_checks.specs.Loading.{AreLoaded, AreLoadedWith, AreFaultless}
 
 -- what the program asks of a file by itself

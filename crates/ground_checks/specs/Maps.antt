@@ -1,5 +1,5 @@
--- The map of memory that a scenario's header says.
-use Rattle.std.specs.Prelude.{◌≡◌, ◌⊎◌, ℕ, ◌+◌, ◌<◌, ◌≤◌, ◌^◌, Bool, true, List, [], ◌∷◌, ◌++◌, length, map, Option, Some, None, Ok}
+-- The map of memory that a scenario, a plan or a book says.
+use Rattle.std.specs.Prelude.{◌≡◌, ◌⊎◌, ℕ, ◌+◌, ◌≤◌, ◌^◌, true, List, length, map, Some, None, Ok}
 use Rattle.memory_window.specs.declared.regions.Region.{Region}
 use Rattle.telecommands.specs.declared.command.Command.{Command}
 use Rattle.telecommands.specs.Dictionary.{placed, dictionary}
@@ -8,32 +8,7 @@ use Rattle.load_texts.specs.Headers.{placed_field, all_fields}
 use Rattle.load_books.specs.declared.forms.BookForms.{BookForms}
 use Rattle.load_books.specs.Books.{BookMade, book_said, is_book_text}
 use Rattle.timed_plans.specs.Checks.{scenario_said}
-use Rattle.scenario.specs.declared.reader.Reader.{Reader}
-use Rattle.scenario.specs.Standing.{Stands}
-use Rattle.scenario.specs.Texts.{Given, Head, Whole, reading}
-
--- the regions of the header, which is the first item of a text
-abbrev pub regions_in : List Given → Option (List Region)
-regions_in [] = None
-regions_in (Head epoch regions ∷ items) = Some regions
-regions_in (Whole frame ∷ items) = None
-
--- the regions that a whole scenario's header says
-unfoldable pub map_said : List ℕ → Option (List Region)
-map_said text = regions_in (reading (record { bytes = text; closed = true })).items
-
--- a reader that was fed a first part of a text, and closed only behind all of it, gave items
-pub record HasGiven (r : Reader) (text : List ℕ) : Type 0 where
-  pub front : List ℕ
-  pub rest : List ℕ
-  pub closed : Bool
-  pub gave : List Given
-  pub parts : front ++ rest ≡ text
-  pub ended : closed ≡ true → rest ≡ []
-  pub stands : Stands r (record { bytes = front; closed = closed }) gave
-  pub some_items : 0 < length gave
-
--- ---- the map of a scenario, a plan or a book
+use Rattle.ground_faults.specs.HeaderMaps.{map_said}
 
 -- the forms by which books are read: the telecommands, the layouts of tables and the fields of loads that are documented
 pub record AreBookForms (forms : BookForms) : Type 0 where

@@ -9,7 +9,7 @@ ghost use Rattle.rehearsal.specs.Outcome.{refused_read};
 ghost use Rattle.load_books.specs.Books.{is_book_text};
 ghost use Rattle.ground_checks.specs.Checked.{AreTaken};
 ghost use Rattle.ground_checks.specs.Loading.{AreLoaded, AreLoadedWith, AreFaultless};
-ghost use Rattle.ground_checks.specs.Maps.{map_said};
+ghost use Rattle.ground_faults.specs.HeaderMaps.{map_said};
 
 /// Nothing is found in any file of a list exactly where the program takes all of them and loads their tables, and with a map exactly where
 /// the memory of that map gives their reads too.

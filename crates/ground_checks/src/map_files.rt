@@ -5,12 +5,15 @@ ghost use Rattle.ground_files.specs.declared.verb_status.Status.TheVariants as s
 ghost use Rattle.ground_files.specs.Workspaces.{Held, input_taken};
 ghost use Rattle.load_books.specs.Books.{is_book_text};
 ghost use Rattle.ground_checks.specs.Checked.{IsMapNamed, IsBookNamed, IsMaplessNamed};
-ghost use Rattle.ground_checks.specs.Maps.{map_said, IsPlanMap, IsBookMap, IsMapOf, IsMaplessText, IsMaplessBook};
+ghost use Rattle.ground_faults.specs.HeaderMaps.{map_said};
+ghost use Rattle.ground_checks.specs.Maps.{IsPlanMap, IsBookMap, IsMapOf, IsMaplessText, IsMaplessBook};
 
 use crate::book_checks::{is_book, tell_unread_book};
-use crate::map_texts::{MapFault, UNENDED, scenario_map};
 use crate::scenario_names::{Known, known_of};
-use ground_faults::{Hint, WantedText, hint_in_plan, line_cause, tell_kind, tell_line_ends};
+use ground_faults::{
+    Hint, MapFault, UNENDED, WantedText, hint_in_plan, line_cause, scenario_map, tell_kind,
+    tell_line_ends,
+};
 use ground_files::{Status, Workspace, input_name, read_input, tell_no_memory, tell_unread};
 use load_books::{book_forms, read_book};
 use memory_window::Map;

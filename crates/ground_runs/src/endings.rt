@@ -6,7 +6,9 @@ ghost use Rattle.ground_runs.specs.Endings.{status_at, is_kept, is_reported};
 use crate::asked_run::Run;
 use crate::scenario_lines::{find_line, read_beginning};
 use crate::second_looks::{can_be_read_again, read_again};
-use ground_faults::{LineCause, PAYLOAD, line_cause, tell_entry, tell_headers, tell_read};
+use ground_faults::{
+    LineCause, PAYLOAD, line_cause, scenario_map, tell_entry, tell_headers, tell_read,
+};
 use ground_files::{
     Status, Workspace, input_name, is_stream, output_name, tell_no_memory, tell_unwritten,
 };
@@ -53,16 +55,18 @@ fn tell_number<R: Eprint>(rt: &R, path: &str, entry: u32, reason: u8) -> io::Res
     )
 }
 
-/// Tells of an entry whose read the scenario's memory doesn't give, by what another look at its file finds.
+/// Tells of an entry whose read the memory of a scenario doesn't give, and why, by what another look at both finds.
 fn tell_refused_read<R: Eprint + AllocGlobal>(
     rt: &R,
+    beginning: &[u8],
     path: &str,
     file: &[u8],
     entry: u32,
 ) -> io::Result<()> {
     match read_file(file) {
         Ok(FileImage::Table { kind, payload }) => {
-            Ok(tell_read(rt, None, path, kind, payload, entry)?)
+            let map = scenario_map(rt.alloc(), beginning).ok();
+            Ok(tell_read(rt, map.as_ref(), path, kind, payload, entry)?)
         }
         Ok(FileImage::Load { at: _, bytes: _ }) | Err(_) => {
             tell_number(rt, path, entry, NOT_GIVEN)
@@ -78,9 +82,6 @@ fn tell_found<R: Eprint + AllocGlobal>(
     report: &Report,
 ) -> io::Result<()> {
     let reason = report.reason;
-    if reason == NOT_GIVEN {
-        return tell_refused_read(rt, path, file, report.line);
-    }
     match find_refusal(file) {
         Some(TableFault::Entry(kind, fault)) => {
             Ok(tell_entry(rt, path, kind, behind(file, PAYLOAD), fault)?)
@@ -95,6 +96,7 @@ fn tell_found<R: Eprint + AllocGlobal>(
 fn tell_file<R: Eprint + AllocGlobal, W: Workspace>(
     rt: &R,
     workspace: &mut W,
+    scenario: &str,
     path: &str,
     report: &Report,
 ) -> io::Result<()>
@@ -104,10 +106,14 @@ fn tell_file<R: Eprint + AllocGlobal, W: Workspace>(
     if reason == TOO_LONG {
         return eprintln!(rt; "{path}: it has over 65700 bytes (reason {reason})");
     }
-    match read_again(rt.alloc(), workspace, path) {
-        Ok(Some(file)) => tell_found(rt, path, file.as_slice(), report),
-        _ => tell_number(rt, path, report.line, reason),
+    let Ok(Some(file)) = read_again(rt.alloc(), workspace, path) else {
+        return tell_number(rt, path, report.line, reason);
+    };
+    if reason == NOT_GIVEN {
+        let beginning = beginning_of(rt.alloc(), workspace, scenario);
+        return tell_refused_read(rt, beginning.as_slice(), path, file.as_slice(), report.line);
     }
+    tell_found(rt, path, file.as_slice(), report)
 }
 
 /// The beginning of a scenario's text, as far as it can be read again.
@@ -235,7 +241,7 @@ impl CauseTeller for Run<'_> {
             End::WordsRefused => eprintln!(rt;
                 "the words are refused: `--workers` takes 1 to 16, and at most 100 files may follow"
             ),
-            End::FileRefused => tell_file(rt, workspace, path, report),
+            End::FileRefused => tell_file(rt, workspace, self.scenario, path, report),
             End::ScenarioRefused => tell_line(rt, workspace, path, report),
             End::ReadFailed => tell_unread(rt, workspace, path),
             End::NoMemory => eprintln!(rt; "memory ran out"),

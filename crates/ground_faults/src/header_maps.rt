@@ -2,15 +2,15 @@
 
 ghost use Rattle.std.specs.Prelude.{◌≡◌, ◌≢◌, [], false, Some, None, IfOk, IfErr, OnOk, OnErr};
 ghost use Rattle.scenario.specs.Standing.{Stands, is_finished};
-ghost use Rattle.ground_checks.specs.Maps.{HasGiven, map_said};
+ghost use Rattle.ground_faults.specs.HeaderMaps.{HasGiven, map_said};
 
 use memory_window::Map;
 use packet_forms::behind;
 use scenario::{Item, Reader};
 use std::alloc::Global;
 
-/// The reason of a text that ends too early (docs/SCENARIO.md).
-pub(crate) const UNENDED: u8 = 7;
+/// The number of the reason for which a text is refused that ends too early (docs/SCENARIO.md).
+pub const UNENDED: u8 = 7;
 
 /// Why a text gives no map.
 #[derive(Clone, Copy, Debug, PartialEq, Eq)]

@@ -1,5 +1,5 @@
-use Rattle.ground_checks.proofs.MapLemmas.{map_is}
-use Rattle.ground_checks.proofs.map_texts.scenario_map.Goals as goal
+use Rattle.ground_faults.proofs.HeaderMapLemmas.{map_is}
+use Rattle.ground_faults.proofs.header_maps.scenario_map.Goals as goal
 
 pub returns-in-Ok-read_header-clause-said : goal.returns-in-Ok-read_header-clause-said
 returns-in-Ok-read_header-clause-said c =

@@ -11,7 +11,7 @@ use Rattle.scenario.specs.Texts.{Text, Given, Head, Whole, Reading, Grows, readi
 use Rattle.scenario.specs.Answers.{answer_at_end}
 use Rattle.scenario.specs.Standing.{Stands, is_finished, fed, closed}
 use Rattle.scenario.specs.TextLaws.{texts_grow, given_first}
-use Rattle.ground_checks.specs.Maps.{regions_in, map_said, HasGiven}
+use Rattle.ground_faults.specs.HeaderMaps.{regions_in, map_said, HasGiven}
 
 some_more : (gave : List Given) (item : Given) → 0 < length (gave ++ item ∷ [])
 some_more gave item = let size = length-append gave (item ∷ []) in omega (arith, size)

@@ -1,8 +1,8 @@
 use Rattle.std.proofs.Common.{refl}
 use Rattle.scenario.specs.Standing.{is_finished}
 use Rattle.timed_plans.proofs.CheckLemmas.{empty_rest}
-use Rattle.ground_checks.proofs.MapLemmas.{heading_looked, heading_fed, heading_closed, no_header, has_given, no_map}
-use Rattle.ground_checks.proofs.map_texts.read_header.Goals as goal
+use Rattle.ground_faults.proofs.HeaderMapLemmas.{heading_looked, heading_fed, heading_closed, no_header, has_given, no_map}
+use Rattle.ground_faults.proofs.header_maps.read_header.Goals as goal
 
 pub returns-in-Header : goal.returns-in-Header
 returns-in-Header c =
