@@ -5,8 +5,8 @@ use crate::line_ends::{has_order_mark, is_wide};
 use packet_forms::{be32, behind, crc16, front};
 use std::io;
 use std::str::from_utf8;
-use table_files::FileFault;
-use table_forms::table_kind;
+use table_files::{FileFault, TableKind};
+use table_forms::{PayloadForm, table_kind, table_layouts};
 
 /// How many bytes the headers of a table have, and those of bytes to be loaded.
 const TABLE_HEADERS: usize = 116;
@@ -15,6 +15,13 @@ const LOAD_HEADERS: usize = 80;
 
 /// How many of the first bytes are looked at of a file whose beginning isn't known.
 const SEEN: usize = 16;
+
+/// How many bytes stand in front of a dwell table's entries, and how many sequences have at most.
+const HEAD: usize = 4;
+
+const MOST_ABSOLUTE: usize = 65_536;
+
+const MOST_RELATIVE: usize = 2_048;
 
 /// The subtype of a table.
 const TABLE: u32 = 8;
@@ -109,6 +116,36 @@ fn tell_name<R: Eprint>(rt: &R, name: &str, file: &[u8]) -> io::Result<()> {
     eprintln!(rt; "{name}: no table has the name {found:?} (reason {reason})")
 }
 
+/// How many bytes a table has.
+#[derive(Clone, Copy, Debug, PartialEq, Eq)]
+enum TableSize {
+    Exactly(usize),
+    AtMost(usize),
+}
+
+/// How many bytes the table of this name has behind its headers.
+fn wanted_size(table: &str) -> Option<TableSize> {
+    let kind = table_kind(table.as_bytes())?;
+    let size = match table_layouts().form(kind) {
+        PayloadForm::Entries(layout) => {
+            TableSize::Exactly(layout.count.saturating_mul(layout.size))
+        }
+        PayloadForm::Headed(layout) => {
+            TableSize::Exactly(
+                layout
+                    .count
+                    .saturating_mul(layout.size)
+                    .saturating_add(HEAD),
+            )
+        }
+        PayloadForm::Sequence(_, _) if matches!(kind, TableKind::Rts(_)) => {
+            TableSize::AtMost(MOST_RELATIVE)
+        }
+        PayloadForm::Sequence(_, _) => TableSize::AtMost(MOST_ABSOLUTE),
+    };
+    Some(size)
+}
+
 /// Tells why the number of a table's bytes is refused.
 fn tell_table_size<R: Eprint>(rt: &R, name: &str, file: &[u8]) -> io::Result<()> {
     let reason = FileFault::Size.number();
@@ -120,9 +157,15 @@ fn tell_table_size<R: Eprint>(rt: &R, name: &str, file: &[u8]) -> io::Result<()>
         );
     }
     let table = table_name(file);
-    eprintln!(rt;
-        "{name}: the table {table} hasn't {there} bytes (reason {reason}; docs/FILES.md says how many)"
-    )
+    match wanted_size(table) {
+        Some(TableSize::Exactly(wanted)) => eprintln!(rt;
+            "{name}: the table {table} has {wanted} bytes, and these are {there} (reason {reason})"
+        ),
+        Some(TableSize::AtMost(most)) => eprintln!(rt;
+            "{name}: the table {table} has at most {most} bytes, and these are {there} (reason {reason})"
+        ),
+        None => eprintln!(rt; "{name}: the table {table} hasn't {there} bytes (reason {reason})"),
+    }
 }
 
 /// Tells why the number of bytes to be loaded is refused.

@@ -4,7 +4,10 @@
 
 mod book_entries;
 mod book_parts;
+mod command_details;
+mod entry_details;
 mod entry_faults;
+mod expression_details;
 mod file_kinds;
 mod header_maps;
 mod headers;

@@ -1,5 +1,6 @@
 //! Refused entries of tables and of their texts, in words.
 
+use crate::entry_details::{Detail, detail_of};
 use crate::entry_faults::{PAYLOAD, clear_faults};
 use crate::said_entries::said_entry;
 use packet_forms::behind;
@@ -11,7 +12,27 @@ use table_reasons::tell_fault;
 /// What the number of a refused entry's reason is over its loader's.
 const ENTRY_REASONS: u32 = 10;
 
-/// Tells why an entry of a payload is refused.
+/// Tells a sentence of a refused entry, and what more is known of it.
+fn tell_sentence<R: Eprint>(
+    rt: &R,
+    name: &str,
+    words: &[u8],
+    detail: Option<Detail>,
+    fault: EntryFault,
+) {
+    let Ok(words) = from_utf8(words) else {
+        let reason = u32::from(fault.reason).saturating_add(ENTRY_REASONS);
+        let _told = eprintln!(rt; "{name}: entry {0}: reason {reason}", fault.entry);
+        return;
+    };
+    // There is no other place to tell it.
+    let _told = match detail {
+        Some(detail) => eprintln!(rt; "{name}: {words}: {detail}"),
+        None => eprintln!(rt; "{name}: {words}"),
+    };
+}
+
+/// Tells why an entry of a payload is refused, and what more is known of it than its sentence says.
 pub fn tell_entry<R: Eprint + AllocGlobal>(
     rt: &R,
     name: &str,
@@ -21,14 +42,13 @@ pub fn tell_entry<R: Eprint + AllocGlobal>(
 ) -> Result<(), AllocError> {
     let mut words = Vec::new(rt.alloc());
     tell_fault(kind, payload, fault, &mut words)?;
-    // There is no other place to tell it.
-    let _told = match from_utf8(words.as_slice()) {
-        Ok(words) => eprintln!(rt; "{name}: {words}"),
-        Err(_) => {
-            let reason = u32::from(fault.reason).saturating_add(ENTRY_REASONS);
-            eprintln!(rt; "{name}: entry {0}: reason {reason}", fault.entry)
-        }
-    };
+    tell_sentence(
+        rt,
+        name,
+        words.as_slice(),
+        detail_of(kind, payload, fault),
+        fault,
+    );
     Ok(())
 }
 
