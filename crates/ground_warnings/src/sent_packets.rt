@@ -39,7 +39,7 @@ const CHECKSUM: usize = 7;
 
 /// A command's checksum as it is, and as it would be right.
 #[derive(Clone, Copy, Debug, Error)]
-#[error("its eighth byte is {found:02X}, and {right:02X} would be right")]
+#[error("the packet's eighth byte is 0x{found:02X}, and 0x{right:02X} would be right")]
 pub(crate) struct Checksums {
     pub found: u8,
     pub right: u8,
