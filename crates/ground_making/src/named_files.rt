@@ -93,7 +93,7 @@ fn read_path<R: Eprint + AllocGlobal, W: Workspace>(
             Err(Status::FileRefused)
         }
         Err(error) => {
-            let _told = eprintln!(rt; "{name}: line {line}: {path} can't be read: {error}");
+            let _told = eprintln!(rt; "{name}: line {line}: {path:?} can't be read: {error}");
             Err(Status::ReadFailed)
         }
     }
