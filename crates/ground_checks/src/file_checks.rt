@@ -4,7 +4,7 @@ ghost use Rattle.std.specs.Prelude.{◌≡◌, ◌≢◌, ◌⊎◌, None, optio
 ghost use Rattle.ground_checks.specs.Faults.{fault_of};
 
 use crate::finding::{FoundFault, find_faults};
-use ground_faults::{PAYLOAD, tell_entry, tell_headers, tell_read};
+use ground_faults::{PAYLOAD, tell_entry, tell_headers, tell_long, tell_read};
 use ground_files::{Status, tell_no_memory};
 use ground_warnings::{PlacedText, entry_line_number, warn_of_table};
 use memory_window::Map;
@@ -60,7 +60,7 @@ fn tell_found<R: Eprint + AllocGlobal>(
     match (fault, kind_of(file)) {
         (FoundFault::Long, _) => {
             // There is no other place to tell it.
-            let _told = eprintln!(rt; "{name}: it has over 65700 bytes (reason 9)");
+            let _told = tell_long(rt, name, file);
             Ok(())
         }
         (FoundFault::Headers(fault), _) => {

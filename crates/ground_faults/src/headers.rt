@@ -231,6 +231,17 @@ fn tell_field<R: Eprint>(rt: &R, name: &str, file: &[u8], fault: FileFault) -> i
     }
 }
 
+/// The number of the reason for which a file is refused that is longer than any that is taken (docs/FILES.md).
+const TOO_LONG: u8 = 9;
+
+/// Tells that a file is longer than any that is taken, or what it is, where its beginning shows that it is no file of a table or of a load.
+pub fn tell_long<R: Eprint>(rt: &R, name: &str, beginning: &[u8]) -> io::Result<()> {
+    match text_hint(beginning) {
+        Some(hint) => eprintln!(rt; "{name}: {hint} (reason {TOO_LONG})"),
+        None => eprintln!(rt; "{name}: it has over 65700 bytes (reason {TOO_LONG})"),
+    }
+}
+
 /// Tells why the headers of a file are refused, by what stands in them, with the number of the reason (docs/FILES.md); of a text what makes
 /// the file of it.
 pub fn tell_headers<R: Eprint>(

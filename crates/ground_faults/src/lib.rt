@@ -31,7 +31,7 @@ pub use book_parts::{PartText, part_texts};
 pub use entry_faults::{PAYLOAD, blank_entry, clear_faults};
 pub use file_kinds::{WantedText, tell_kind};
 pub use header_maps::{MapFault, UNENDED, scenario_map};
-pub use headers::tell_headers;
+pub use headers::{tell_headers, tell_long};
 pub use hints::{hint_in_book, hint_in_load, hint_in_plan, hint_in_scenario, hint_in_table};
 pub use line_causes::{LineCause, line_cause};
 pub use line_ends::tell_line_ends;

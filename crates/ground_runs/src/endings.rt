@@ -7,7 +7,7 @@ use crate::asked_run::Run;
 use crate::scenario_lines::{find_line, read_beginning};
 use crate::second_looks::{can_be_read_again, read_again};
 use ground_faults::{
-    LineCause, PAYLOAD, line_cause, scenario_map, tell_entry, tell_headers, tell_read,
+    LineCause, PAYLOAD, line_cause, scenario_map, tell_entry, tell_headers, tell_long, tell_read,
 };
 use ground_files::{
     Status, Workspace, input_name, is_stream, output_name, tell_no_memory, tell_unwritten,
@@ -45,6 +45,9 @@ fn line_of<W: Workspace>(alloc: Global, workspace: &mut W, path: &str, number: u
 
 /// Tells of an entry that is refused, by its number and the program's number for the reason.
 fn tell_number<R: Eprint>(rt: &R, path: &str, entry: u32, reason: u8) -> io::Result<()> {
+    if reason == TOO_LONG {
+        return eprintln!(rt; "{path}: it has over 65700 bytes (reason {reason})");
+    }
     if reason == NOT_GIVEN {
         return eprintln!(rt;
             "{path}: entry {entry}: the memory of the scenario doesn't give what it reads (reason {reason})"
@@ -103,12 +106,12 @@ fn tell_file<R: Eprint + AllocGlobal, W: Workspace>(
     ensures { W.held workspace.new ≡ W.held workspace.old }
 {
     let reason = report.reason;
-    if reason == TOO_LONG {
-        return eprintln!(rt; "{path}: it has over 65700 bytes (reason {reason})");
-    }
     let Ok(Some(file)) = read_again(rt.alloc(), workspace, path) else {
         return tell_number(rt, path, report.line, reason);
     };
+    if reason == TOO_LONG {
+        return tell_long(rt, path, file.as_slice());
+    }
     if reason == NOT_GIVEN {
         let beginning = beginning_of(rt.alloc(), workspace, scenario);
         return tell_refused_read(rt, beginning.as_slice(), path, file.as_slice(), report.line);
