@@ -3,6 +3,7 @@
 ghost use Rattle.std.specs.Prelude.{◌<◌, ◌+◌, ◌^◌, length};
 
 use crate::line_causes::line_cause;
+use crate::line_words::begins_with;
 use crate::plan_causes::plan_cause;
 use crate::said_entries::{MOST_TEXT, fields_of};
 use crate::wanted::{Hint, Wanted, choices_of, packet_words};
@@ -71,7 +72,15 @@ fn begun_table(line: &[u8]) -> Option<BegunTable<'_>> {
     Some(BegunTable { kind, name })
 }
 
-/// The line of this number, with the last table that was begun before it.
+/// The table in whose text the lines behind this one stand, by the one in whose text it stands itself: a part of a book ends the text of a table.
+fn table_behind<'a>(line: &'a [u8], table: Option<BegunTable<'a>>) -> Option<BegunTable<'a>> {
+    if begins_with(line, b"part") {
+        return None;
+    }
+    begun_table(line).or(table)
+}
+
+/// The line of this number, with the table in whose text it stands.
 fn table_line(text: &[u8], wanted: u32) -> Option<TableLine<'_>>
     requires { 1 + length text.now < 2 ^ 32 }
 {
@@ -83,7 +92,7 @@ fn table_line(text: &[u8], wanted: u32) -> Option<TableLine<'_>>
             let bytes = line.bytes;
             return Some(TableLine { table, bytes });
         }
-        table = begun_table(line.bytes).or(table);
+        table = table_behind(line.bytes, table);
         rest = line.rest;
         next = line.number + 1;
     }
@@ -266,6 +275,7 @@ pub fn hint_in_table<'a>(text: &'a [u8], fault: &TableFault) -> Option<Hint<'a>>
 pub fn hint_in_load<'a>(text: &'a [u8], fault: &LoadFault) -> Option<Hint<'a>> {
     match *fault {
         LoadFault::Text(fault) => hint_of_line(text, fault),
+        LoadFault::Size(0) => Some(Hint::Wanted(Wanted::Bytes)),
         _ => None,
     }
 }

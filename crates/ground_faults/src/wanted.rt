@@ -52,6 +52,9 @@ pub enum Wanted<'a> {
     /// The head of a dwell table.
     #[error("such as `head enabled=1 spare=0`")]
     Head,
+    /// The bytes of a load.
+    #[error("lines of `bytes` and pairs of hexadecimal digits stand between `load` and `end`, or `file=PATH` in the second line names a file that has some")]
+    Bytes,
     /// The number of an entry.
     #[error("the entries of {0} are 1 to {1}")]
     Entries(&'a str, usize),
