@@ -110,7 +110,20 @@ impl<'f> Tables<'f> {
         self.files.kind(file)
     }
 
-    /// Makes the table of this FILE the active one of its kind. Its entries have no fault, so they aren't asked for one again.
+    /// Makes the table of this FILE the active one of its kind.
+    pub fn activate(&mut self, file: u32)
+        requires { (kind : TableKind) × (kind_at self.old.files file ≡ Some kind) }
+        ensures { self.new ≡ record self.old {
+          set = with_file self.old.set
+              (file_at self.old.files file);
+        } }
+    {
+        let files = self.files();
+        let _ = self.put_file(files.get(file));
+    }
+
+    /// Makes the table of this FILE the active one of its kind. No entry of any file has a fault, so entries of dwell tables and of sequences
+    /// aren't asked for one again.
     pub fn activate_checked(&mut self, file: u32)
         requires named { (kind : TableKind) × (kind_at self.old.files file ≡ Some kind) }
         requires well { tables_fault self.old.files ≡ None }
