@@ -5,6 +5,7 @@ pub mod Evaluating
 pub mod Ables
 pub mod Halves
 pub mod Taking
+pub mod Noting
 pub mod Rows
 pub mod Following
 pub mod Serving

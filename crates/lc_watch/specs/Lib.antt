@@ -1,6 +1,7 @@
 pub mod Messages
 pub mod Watchpoints
 pub mod Outcomes
+pub mod Newest
 pub mod Expressions
 pub mod Actionpoints
 pub mod Failing

@@ -11,6 +11,7 @@ mod instructions;
 pub mod laws;
 mod loading;
 mod messages;
+mod newest;
 mod outcomes;
 mod points;
 mod state;

@@ -1,10 +1,12 @@
 //! What watchpoints make of packets.
-ghost use Rattle.std.specs.Prelude.{◌≡◌, ◌≤◌, ◌+◌, ◌++◌, List, ℕ, length, true, false, nat_le, slice_index, if◌then◌else◌, Some, None};
+ghost use Rattle.std.specs.Prelude.{◌≡◌, ◌≤◌, ◌+◌, ◌++◌, [], List, ℕ, length, drop, filter_map, true, false, nat_le, slice_index, if◌then◌else◌, Some, None};
 ghost use Rattle.packet_forms.specs.Numbers.{be16_at, be32_at};
 ghost use Rattle.lc_watch.specs.Watchpoints.{is_used};
 ghost use Rattle.lc_watch.specs.Housekeeping.{code_of, codes_of};
-ghost use Rattle.lc_watch.specs.Outcomes.{size_of, value_at, compares, holds, reading, outcome_of, OutcomesStand};
+ghost use Rattle.lc_watch.specs.Outcomes.{size_of, value_at, compares, holds, reading, reading_in, outcome_of, OutcomesStand};
+ghost use Rattle.lc_watch.specs.Newest.{IsNewest};
 
+use crate::newest::Newest;
 use crate::watchpoints::{Operator, WATCHPOINTS, WatchRow};
 use packet_forms::{Packet, be16, be32};
 
@@ -35,10 +37,14 @@ pub(crate) fn take_telemetry(
     if telemetry.is_empty() {
         return changed;
     }
+    let newest = Newest::of(telemetry);
     for place in 0..WATCHPOINTS {
-        let next = outcome_after(&rows[place], telemetry, outcomes[place]);
-        changed = changed | differs(next, outcomes[place]);
+        let next = outcome_after(&rows[place], telemetry, &newest, outcomes[place]);
+        if !differs(next, outcomes[place]) {
+            continue;
+        }
         outcomes[place] = next;
+        changed = true;
     }
     changed
 }
@@ -53,23 +59,47 @@ fn differs(one: Outcome, other: Outcome) -> bool
 
 /// The outcome of a watchpoint after these packets.
 #[inline(always)]
-fn outcome_after(row: &WatchRow, telemetry: &[Packet], before: Outcome) -> Outcome
+fn outcome_after(row: &WatchRow, telemetry: &[Packet], newest: &Newest, before: Outcome) -> Outcome
+    requires { IsNewest telemetry.now newest.now }
     ensures { (seen : List (List ℕ)) → before ≡ outcome_of row.now seen
         → result ≡ outcome_of row.now (seen ++ telemetry.now) }
 {
     if !row.is_used() {
         return before;
     }
-    last_outcome(row, telemetry, before)
+    last_outcome(row, telemetry, newest, before)
 }
 
-/// The outcome of a watchpoint that is used after these packets, which are looked at from the last one on, until one has its id.
-fn last_outcome(row: &WatchRow, telemetry: &[Packet], before: Outcome) -> Outcome
-    requires { is_used row.now ≡ true }
+/// The outcome of a watchpoint that is used after these packets. The newest packet in the slot of its id mostly has the id itself; where
+/// another id shares the slot the packets are searched.
+#[inline(always)]
+fn last_outcome(row: &WatchRow, telemetry: &[Packet], newest: &Newest, before: Outcome) -> Outcome
+    requires used { is_used row.now ≡ true }
+    requires newest { IsNewest telemetry.now newest.now }
     ensures { (seen : List (List ℕ)) → before ≡ outcome_of row.now seen
         → result ≡ outcome_of row.now (seen ++ telemetry.now) }
 {
-    let count = telemetry.len();
+    let count = newest.up_to(row.id, telemetry);
+    if count == 0 {
+        return before;
+    }
+    let packet = &telemetry[count - 1];
+    if packet.mid() == row.id {
+        return reading(row, packet.bytes());
+    }
+    searched_outcome(row, telemetry, count, before)
+}
+
+/// The outcome of a watchpoint that is used after these packets, where only the first `count` of them can have its id. They are looked at
+/// from the last one back, until one has it.
+#[inline(never)]
+fn searched_outcome(row: &WatchRow, telemetry: &[Packet], count: usize, before: Outcome) -> Outcome
+    requires used { is_used row.now ≡ true }
+    requires within { count ≤ length telemetry.now }
+    requires others { filter_map (reading_in row.now) (drop count telemetry.now) ≡ [] }
+    ensures { (seen : List (List ℕ)) → before ≡ outcome_of row.now seen
+        → result ≡ outcome_of row.now (seen ++ telemetry.now) }
+{
     for back in 0..count {
         let packet = &telemetry[count - 1 - back];
         if packet.mid() == row.id {
@@ -80,6 +110,7 @@ fn last_outcome(row: &WatchRow, telemetry: &[Packet], before: Outcome) -> Outcom
 }
 
 /// The outcome of a watchpoint on a packet of its id.
+#[inline(always)]
 #[tactic(auto, unfolding(crate::specs::Outcomes::reading))]
 fn reading(row: &WatchRow, bytes: &[u8]) -> Outcome
     ensures { result ≡ reading row.now bytes.now }
