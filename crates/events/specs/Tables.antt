@@ -87,7 +87,7 @@ md_events =
     ∷ row (codes "MD") 4 Error (codes "no_table") (codes "a command was refused: the mask is 0 or over 15, or there is no such table")
     ∷ row (codes "MD") 5 Error (codes "no_entry") (codes "a command was refused: the entry isn't 1 to 25")
     ∷ row (codes "MD") 6 Error (codes "no_length") (codes "a command was refused: the length isn't 0, 1, 2 or 4")
-    ∷ row (codes "MD") 7 Error (codes "unreadable") (codes "a command was refused: memory doesn't give the read")
+    ∷ row (codes "MD") 7 Error (codes "unreadable") (codes "a command was refused: memory doesn't give the read: it isn't in one region, isn't aligned, or has a size that the region doesn't take")
     ∷ []
 
 -- the events of Checksum
@@ -205,7 +205,7 @@ md_refusals =
     ∷ refusal (codes "MD") 4 4 (codes "the table isn't 1 to 4")
     ∷ refusal (codes "MD") 4 5 (codes "the entry isn't 1 to 25")
     ∷ refusal (codes "MD") 4 6 (codes "the length isn't 0, 1, 2 or 4")
-    ∷ refusal (codes "MD") 4 7 (codes "memory doesn't give the read")
+    ∷ refusal (codes "MD") 4 7 (codes "memory doesn't give the read: it isn't in one region, isn't aligned, or has a size that the region doesn't take")
     ∷ []
 
 -- why commands of Checksum may be refused

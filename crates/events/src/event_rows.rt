@@ -393,7 +393,7 @@ static EVENTS: [Event; COUNT_OF_EVENTS] = [
         number: 7,
         kind: Error,
         name: "unreadable",
-        sentence: "a command was refused: memory doesn't give the read",
+        sentence: "a command was refused: memory doesn't give the read: it isn't in one region, isn't aligned, or has a size that the region doesn't take",
     },
     Event {
         application: "CS",

@@ -199,7 +199,7 @@ static REFUSALS: [Refusal; COUNT_OF_REFUSALS] = [
         application: "MD",
         code: 4,
         number: 7,
-        reason: "memory doesn't give the read",
+        reason: "memory doesn't give the read: it isn't in one region, isn't aligned, or has a size that the region doesn't take",
     },
     Refusal {
         application: "CS",
