@@ -2,6 +2,7 @@
 #![tactic(auto)]
 
 mod action_packets;
+mod command_sizes;
 mod sent_packets;
 mod sequence_packets;
 mod telling;

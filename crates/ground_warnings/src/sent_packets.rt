@@ -2,6 +2,7 @@
 
 ghost use Rattle.std.specs.Prelude.{◌<◌, ◌+◌, ◌^◌, length};
 
+use crate::command_sizes::{CommandSize, size_of};
 use crate::telling::MOST_TEXT;
 use packet_forms::Packet;
 use packet_forms::message_ids::{
@@ -37,12 +38,13 @@ pub(crate) fn is_wrong_command(packet: &Packet) -> bool {
 /// The place of a command's checksum.
 const CHECKSUM: usize = 7;
 
-/// A command's checksum as it is, and as it would be right.
+/// A command's checksum as it is, and as it would be right, and whether its length is.
 #[derive(Clone, Copy, Debug, Error)]
-#[error("the packet's eighth byte is 0x{found:02X}, and 0x{right:02X} would be right")]
+#[error("the packet's eighth byte is 0x{found:02X}, and 0x{right:02X} would be right{size}")]
 pub(crate) struct Checksums {
     pub found: u8,
     pub right: u8,
+    pub size: CommandSize,
 }
 
 /// The checksums of a command: all its bytes together, by exclusive or, are to be 0xFF.
@@ -53,7 +55,11 @@ pub(crate) fn checksums_of(packet: &Packet) -> Checksums {
     for byte in bytes {
         right = right ^ *byte;
     }
-    Checksums { found, right }
+    Checksums {
+        found,
+        right,
+        size: size_of(packet),
+    }
 }
 
 /// The checksums of the command that these digits write, where an application refuses it for its own.
