@@ -13,6 +13,12 @@ const FILE_MARK: &[u8] = b"cFE1";
 /// A byte order mark, which some editors put in front of a text.
 const ORDER_MARK: &[u8] = b"\xEF\xBB\xBF";
 
+/// The first four bytes of a capture.
+const CAPTURE_MARK: &[u8] = b"\xA1\xB2\xC3\xD4";
+
+/// What the rows of a log begin with.
+const ROWS_BEGIN: &[u8] = b"frame,kind,";
+
 /// What a text is by the first word of its first line.
 fn text_kind(word: &[u8]) -> Option<&'static str> {
     if word == b"epoch".as_slice() {
@@ -45,6 +51,12 @@ pub(crate) fn other_file(begin: &[u8]) -> Option<&'static str> {
         return Some(
             "it is the file of a table or of a load, where a log is wanted: `groundkit show` shows it",
         );
+    }
+    if begin.starts_with(CAPTURE_MARK) {
+        return Some("it is a capture of `groundkit pcap`, where the log itself is wanted");
+    }
+    if begin.starts_with(ROWS_BEGIN) {
+        return Some("it is rows of `groundkit csv`, where the log itself is wanted");
     }
     let line = next_line(front(begin, MOST_BYTES), 1)?;
     let (word, _) = split_word(line.bytes)?;
