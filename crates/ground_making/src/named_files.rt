@@ -11,6 +11,7 @@ ghost use Rattle.ground_making.specs.Named.{path_beside, asked_bytes, IsTooLarge
 ghost use Rattle.ground_making.specs.MadeFiles.{asked_by, IsOverAsked};
 
 use crate::made_files::Wanted;
+use ground_faults::tell_line_ends;
 use ground_files::{
     Status, Workspace, input_name, is_stream, replaces, tell_no_memory, tell_replaced,
 };
@@ -146,7 +147,13 @@ pub(crate) fn bytes_asked<R: Eprint + AllocGlobal, W: Workspace>(
         (AsksForUnloaded wanted.now.file.now before.files text.now) status) }
 {
     match asked_file(text) {
-        Some(asked) => named_bytes(rt, workspace, wanted, &asked),
+        Some(asked) => match named_bytes(rt, workspace, wanted, &asked) {
+            Ok(bytes) => Ok(bytes),
+            Err(status) => {
+                tell_line_ends(rt, input_name(wanted.file), text);
+                Err(status)
+            }
+        },
         None => Ok(Vec::new(rt.alloc())),
     }
 }
