@@ -26,6 +26,9 @@ const TOO_LONG: u8 = 9;
 /// The reason of an entry whose read the memory of the scenario doesn't give.
 const NOT_GIVEN: u8 = 10;
 
+/// How many FILEs a rehearsal takes.
+const MOST_FILES: usize = 100;
+
 /// How many bytes of a line are shown.
 const MOST_SHOWN: usize = 200;
 
@@ -107,7 +110,7 @@ fn tell_file<R: Eprint + AllocGlobal, W: Workspace>(
 {
     let reason = report.reason;
     let Ok(Some(file)) = read_again(rt.alloc(), workspace, path) else {
-        return tell_number(rt, path, report.line, reason);
+        return tell_number(rt, input_name(path), report.line, reason);
     };
     if reason == TOO_LONG {
         return tell_long(rt, path, file.as_slice());
@@ -162,15 +165,16 @@ fn tell_line<R: Eprint + AllocGlobal, W: Workspace>(
     let (number, reason) = (report.line, report.reason);
     let line = line_of(rt.alloc(), workspace, path, number);
     let cause = cause_at(rt.alloc(), workspace, path, report, line.as_slice());
+    let name = input_name(path);
     match std::str::from_utf8(front(line.as_slice(), MOST_SHOWN)) {
         Ok(text) if !text.is_empty() => {
-            eprintln!(rt; "{path}: line {number}: {cause} (reason {reason}): {text:?}")
+            eprintln!(rt; "{name}: line {number}: {cause} (reason {reason}): {text:?}")
         }
         _ if can_be_read_again(workspace, path).unwrap_or(false) => {
-            eprintln!(rt; "{path}: line {number}: {cause} (reason {reason})")
+            eprintln!(rt; "{name}: line {number}: {cause} (reason {reason})")
         }
         _ => eprintln!(rt;
-            "{path}: line {number}: {cause} (reason {reason}; of a scenario that is given by its path more is told: what comes through a pipe can't be read again)"
+            "{name}: line {number}: {cause} (reason {reason}; of a scenario that is given by its path more is told: what comes through a pipe can't be read again)"
         ),
     }
 }
@@ -219,6 +223,16 @@ fn status_of_end(end: End) -> Status
     }
 }
 
+/// Tells why the words of a rehearsal with so many FILEs are refused.
+fn tell_words<R: Eprint>(rt: &R, files: usize) -> io::Result<()> {
+    if files > MOST_FILES {
+        return eprintln!(rt;
+            "the words are refused: at most {MOST_FILES} files may follow the scenario, and these are {files}"
+        );
+    }
+    eprintln!(rt; "the words are refused: `--workers` takes 1 to 16")
+}
+
 /// Who tells why a rehearsal ended.
 pub trait CauseTeller {
     /// Tells why a rehearsal ended, but for a failed write.
@@ -241,9 +255,7 @@ impl CauseTeller for Run<'_> {
         let path = self.input_path(report.file);
         match report.status {
             End::Done | End::WriteFailed => Ok(()),
-            End::WordsRefused => eprintln!(rt;
-                "the words are refused: `--workers` takes 1 to 16, and at most 100 files may follow"
-            ),
+            End::WordsRefused => tell_words(rt, self.files.len()),
             End::FileRefused => tell_file(rt, workspace, self.scenario, path, report),
             End::ScenarioRefused => tell_line(rt, workspace, path, report),
             End::ReadFailed => tell_unread(rt, workspace, path),
