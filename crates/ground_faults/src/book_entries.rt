@@ -4,9 +4,11 @@ ghost use Rattle.std.specs.Prelude.{◌≡◌, ◌⊎◌};
 ghost use Rattle.ground_files.specs.declared.verb_status.Status.TheVariants as statuses;
 
 use crate::book_parts::{PartText, part_texts};
+use crate::command_details::CommandBefore;
 use crate::hints::hint_in_book;
-use crate::said_entries::{MOST_TEXT, said_entry};
-use crate::telling::tell_entry;
+use crate::line_words::begins_with;
+use crate::said_entries::{MOST_TEXT, SaidEntry, said_entry};
+use crate::telling::tell_said_entry;
 use crate::wanted::Hint;
 use ground_files::{Status, tell_no_memory};
 use load_books::{BookFault, book_forms};
@@ -57,19 +59,18 @@ fn tell_part_entry<R: Eprint + AllocGlobal>(
     rt: &R,
     name: &str,
     part: u32,
-    line: Option<Line<'_>>,
-    payload: &[u8],
+    said: &SaidEntry<'_>,
     refused: RefusedEntry,
 ) -> Result<(), AllocError> {
     let RefusedEntry { kind, fault } = refused;
-    let place = match line {
+    let place = match said.line {
         Some(line) => {
             let number = part.saturating_add(line.number);
             format!(in rt.alloc(); "{name}: line {number}")?
         }
         None => format!(in rt.alloc(); "{name}: part of line {part}")?,
     };
-    tell_entry(rt, place.as_str(), kind, payload, fault)
+    tell_said_entry(rt, place.as_str(), kind, said, fault)
 }
 
 /// Makes a line of a text a good head of a dwell table, where there is room. Answers whether it is one.
@@ -112,7 +113,21 @@ fn entry_place(text: &[u8], line: &Line<'_>) -> LinePlace {
     }
 }
 
-/// Tells a refused entry of a part's text, and answers where its line stands, if that is known.
+/// Whether a line may say several entries.
+fn holds_several(kind: TableKind, line: &[u8]) -> bool {
+    matches!(kind, TableKind::Ats(_) | TableKind::Rts(_)) && begins_with(line, b"raw")
+}
+
+/// The command before a refused one by its number in the text, where commands before it are comments now.
+fn later(before: Option<CommandBefore>, told: u32) -> Option<CommandBefore> {
+    let CommandBefore { entry, size } = before?;
+    Some(CommandBefore {
+        entry: entry.saturating_add(told),
+        size,
+    })
+}
+
+/// Tells a refused entry of a part's text, and answers where its line stands, if that is known and says it alone.
 fn tell_refused<R: Eprint + AllocGlobal>(
     rt: &R,
     name: &str,
@@ -122,15 +137,16 @@ fn tell_refused<R: Eprint + AllocGlobal>(
     text: &[u8],
 ) -> Result<Option<LinePlace>, AllocError> {
     let RefusedEntry { kind, fault } = found;
-    let said = said_entry(rt.alloc(), None, kind, fault.entry, text)?;
+    let mut said = said_entry(rt.alloc(), None, kind, fault, text)?;
+    said.before = later(said.before, told);
     let refused = RefusedEntry {
         kind,
         fault: numbered(kind, fault, told),
     };
-    tell_part_entry(rt, name, part, said.line, said.payload.as_slice(), refused)?;
+    tell_part_entry(rt, name, part, &said, refused)?;
     match said.line {
-        Some(line) => Ok(Some(entry_place(text, &line))),
-        None => Ok(None),
+        Some(line) if !holds_several(kind, line.bytes) => Ok(Some(entry_place(text, &line))),
+        _ => Ok(None),
     }
 }
 
@@ -209,11 +225,12 @@ fn tell_first<R: Eprint + AllocGlobal>(
     let RefusedEntry { kind, fault } = refused;
     for part in parts.as_slice() {
         if part.line == line {
-            let said = said_entry(rt.alloc(), None, kind, fault.entry, part.text)?;
-            return tell_part_entry(rt, name, line, said.line, said.payload.as_slice(), refused);
+            let said = said_entry(rt.alloc(), None, kind, fault, part.text)?;
+            return tell_part_entry(rt, name, line, &said, refused);
         }
     }
-    tell_part_entry(rt, name, line, None, &[], refused)
+    let unsaid = said_entry(rt.alloc(), None, kind, fault, &[])?;
+    tell_part_entry(rt, name, line, &unsaid, refused)
 }
 
 /// The status of a book that is refused, once that was told: that of a refused file, unless memory ran out.

@@ -3,11 +3,15 @@
 use crate::entry_details::Detail;
 use packet_forms::{be16, behind, front};
 use table_files::{EntryFault, TableKind};
+use thiserror::Error;
 
 /// The reasons of a packet that is none of a command, and of an entry that runs past the end.
 const NO_COMMAND: u8 = 3;
 
-const PAST_END: u8 = 4;
+pub(crate) const PAST_END: u8 = 4;
+
+/// The reason of a command's number in an absolute sequence.
+const NUMBER: u8 = 1;
 
 /// How many bytes stand in front of a packet in an entry of an absolute sequence, and of a relative one.
 const BEFORE_ABSOLUTE: usize = 6;
@@ -99,6 +103,12 @@ fn from_entry(payload: &[u8], before: usize, entry: u32) -> &[u8] {
     rest
 }
 
+/// Where the entry of this number begins in the bytes of a sequence.
+pub(crate) fn entry_start(kind: TableKind, payload: &[u8], entry: u32) -> usize {
+    let rest = from_entry(payload, before_packet(kind), entry);
+    payload.len().saturating_sub(rest.len())
+}
+
 /// What is wrong where an entry runs past the end of its sequence.
 fn past_detail(rest: &[u8], before: usize) -> Detail {
     let least = before.saturating_add(LEAST_PACKET);
@@ -117,8 +127,36 @@ pub(crate) fn command_detail(kind: TableKind, payload: &[u8], fault: EntryFault)
         return None;
     }
     match fault.reason {
+        NUMBER if rest.len() >= 2 => Some(Detail::Number(be16(rest, 0))),
         NO_COMMAND => packet_detail(behind(rest, before), MOST_COMMAND, true),
         PAST_END => Some(past_detail(rest, before)),
         _ => None,
     }
+}
+
+/// The command before one that is refused: where its length says too little or too much, the fault is found behind it.
+#[derive(Clone, Copy, Debug, PartialEq, Eq, Error)]
+#[error("the packet of entry {entry} before it has {size} bytes by its length field, its fifth and sixth byte: if that is wrong, no entry begins here")]
+pub(crate) struct CommandBefore {
+    pub entry: u32,
+    pub size: usize,
+}
+
+/// The command before the refused one of a sequence, where the fault may be its own.
+pub(crate) fn command_before(
+    kind: TableKind,
+    payload: &[u8],
+    fault: EntryFault,
+) -> Option<CommandBefore> {
+    if !matches!(kind, TableKind::Ats(_) | TableKind::Rts(_)) || fault.entry < 2 {
+        return None;
+    }
+    let entry = fault.entry - 1;
+    let before = before_packet(kind);
+    let rest = from_entry(payload, before, entry);
+    if rest.len() < before.saturating_add(TO_LENGTH) {
+        return None;
+    }
+    let size = said_size(behind(rest, before));
+    Some(CommandBefore { entry, size })
 }

@@ -14,6 +14,9 @@ const ACTION_PACKET: u8 = 4;
 
 const STARTED: u8 = 2;
 
+/// The reason of a dwell entry's address.
+const ALIGNMENT: u8 = 3;
+
 /// The reason of an expression.
 const EXPRESSION: u8 = 3;
 
@@ -40,6 +43,12 @@ pub(crate) enum Detail {
     /// How many bytes a packet has by its header, and how many it has at most.
     #[error("the packet's length field, its fifth and sixth byte, says {0} bytes in all, and it has 8 to {1}")]
     Size(usize, usize),
+    /// The number of a command.
+    #[error("it is {0}")]
+    Number(u16),
+    /// How many bytes the value of a dwell entry has.
+    #[error("its length is {0}")]
+    Dwell(u16),
     /// A byte of a name.
     #[error("the name has the byte 0x{0:02X}, which is no letter, digit or _")]
     NameByte(u8),
@@ -112,6 +121,14 @@ fn point_detail(reason: u8, entry: &[u8]) -> Option<Detail> {
     }
 }
 
+/// What is wrong with an entry of a dwell table, whose address isn't a multiple of its length.
+fn dwell_detail(reason: u8, entry: &[u8]) -> Option<Detail> {
+    if reason != ALIGNMENT || entry.len() < 2 {
+        return None;
+    }
+    Some(Detail::Dwell(be16(entry, 0)))
+}
+
 /// What more is known of an entry that has its bytes, by its table and the loader's reason.
 fn detail_in(kind: TableKind, reason: u8, entry: &[u8]) -> Option<Detail> {
     match kind {
@@ -120,9 +137,9 @@ fn detail_in(kind: TableKind, reason: u8, entry: &[u8]) -> Option<Detail> {
         }
         TableKind::MsgActs => message_detail(reason, entry),
         TableKind::Adt => point_detail(reason, entry),
+        TableKind::Dwell(_) => dwell_detail(reason, entry),
         TableKind::Ats(_)
         | TableKind::Rts(_)
-        | TableKind::Dwell(_)
         | TableKind::Eeprom
         | TableKind::Memory
         | TableKind::Wdt => None,

@@ -19,10 +19,30 @@ pub(crate) enum FileKind {
     Text,
     #[error("a scenario or a plan")]
     Scenario,
+    #[error("a scenario or a plan whose first line, `epoch N`, is missing")]
+    Unbegun,
     #[error("a book")]
     Book,
+    #[error("a book whose first line, `book NAME`, is missing")]
+    Parts,
     #[error("a log")]
     Log,
+    #[error("rows of `groundkit csv`")]
+    Rows,
+    #[error("a capture of `groundkit pcap`")]
+    Capture,
+}
+
+impl FileKind {
+    /// Whether it is a scenario or a plan, with its first line or without.
+    fn is_scenario(self) -> bool {
+        matches!(self, FileKind::Scenario | FileKind::Unbegun)
+    }
+
+    /// Whether it is a book, with its first line or without.
+    fn is_book(self) -> bool {
+        matches!(self, FileKind::Book | FileKind::Parts)
+    }
 }
 
 /// What text is wanted.
@@ -46,9 +66,9 @@ impl WantedText {
     fn may_be(self, kind: FileKind) -> bool {
         match self {
             WantedText::Table => kind == FileKind::Text,
-            WantedText::Plan | WantedText::Scenario => kind == FileKind::Scenario,
-            WantedText::Book => kind == FileKind::Book,
-            WantedText::Mapped => kind == FileKind::Scenario || kind == FileKind::Book,
+            WantedText::Plan | WantedText::Scenario => kind.is_scenario(),
+            WantedText::Book => kind.is_book(),
+            WantedText::Mapped => kind.is_scenario() || kind.is_book(),
         }
     }
 }
@@ -56,6 +76,16 @@ impl WantedText {
 /// Whether bytes begin as the file of a table or of a load does.
 pub(crate) fn is_image(bytes: &[u8]) -> bool {
     bytes.starts_with(FILE_START)
+}
+
+/// Whether bytes begin as a capture does.
+pub(crate) fn is_capture(bytes: &[u8]) -> bool {
+    bytes.starts_with(b"\xA1\xB2\xC3\xD4")
+}
+
+/// Whether bytes begin as the rows of a log do.
+pub(crate) fn is_rows(bytes: &[u8]) -> bool {
+    bytes.starts_with(b"frame,kind,")
 }
 
 /// Whether a word is a number in decimal.
@@ -95,7 +125,9 @@ fn line_kind(line: &[u8]) -> Option<FileKind> {
         b"table" | b"load" if is_in_manifest(rest) => Some(FileKind::Manifest),
         b"table" | b"load" => Some(FileKind::Text),
         b"epoch" => Some(FileKind::Scenario),
+        b"region" | b"start" => Some(FileKind::Unbegun),
         b"book" => Some(FileKind::Book),
+        b"part" => Some(FileKind::Parts),
         _ if is_in_log(word, rest) => Some(FileKind::Log),
         _ => None,
     }
@@ -105,6 +137,12 @@ fn line_kind(line: &[u8]) -> Option<FileKind> {
 pub(crate) fn file_kind(bytes: &[u8]) -> Option<FileKind> {
     if is_image(bytes) {
         return Some(FileKind::Image);
+    }
+    if is_capture(bytes) {
+        return Some(FileKind::Capture);
+    }
+    if is_rows(bytes) {
+        return Some(FileKind::Rows);
     }
     if bytes.len() > MOST_TEXT {
         return None;

@@ -2,6 +2,7 @@
 
 use crate::file_kinds::{FileKind, file_kind};
 use crate::line_ends::{has_order_mark, is_wide};
+use crate::wanted::Wanted;
 use packet_forms::{be32, behind, crc16, front};
 use std::io;
 use std::str::from_utf8;
@@ -23,8 +24,10 @@ const MOST_ABSOLUTE: usize = 65_536;
 
 const MOST_RELATIVE: usize = 2_048;
 
-/// The subtype of a table.
+/// The subtypes of a table and of a load.
 const TABLE: u32 = 8;
+
+const LOAD: u32 = 100;
 
 /// Where the name of a table stands, and how many bytes it has.
 const NAME: usize = 76;
@@ -46,9 +49,7 @@ fn unknown_hint(file: &[u8]) -> Option<&'static str> {
         return None;
     }
     if beginning.iter().any(|byte| *byte == b'\r') {
-        return Some(
-            "it is a text whose lines end with carriage returns: save it with LF line ends",
-        );
+        return Some("it is a text with carriage returns: save it with LF line ends");
     }
     if beginning.iter().any(|byte| *byte == b'\t') {
         return Some(
@@ -80,8 +81,18 @@ fn text_hint(file: &[u8]) -> Option<&'static str> {
         FileKind::Scenario => Some(
             "it is a scenario or a plan, where a file of a table or of a load is wanted",
         ),
+        FileKind::Unbegun => Some(
+            "it is a scenario or a plan whose first line, `epoch N`, is missing, where a file of a table or of a load is wanted",
+        ),
         FileKind::Book => Some("it is a book: `groundkit build` writes its files"),
+        FileKind::Parts => Some("it is a book whose first line, `book NAME`, is missing"),
         FileKind::Log => Some("it is a log, where a file of a table or of a load is wanted"),
+        FileKind::Rows => Some(
+            "it is rows of `groundkit csv`, where a file of a table or of a load is wanted",
+        ),
+        FileKind::Capture => Some(
+            "it is a capture of `groundkit pcap`, where a file of a table or of a load is wanted",
+        ),
     }
 }
 
@@ -94,14 +105,47 @@ fn number_at(file: &[u8], at: usize) -> u32 {
     be32(rest, 0)
 }
 
-/// The name of a table in its file.
-fn table_name(file: &[u8]) -> &str {
+/// The bytes of a table's name in its file, up to the first that is zero.
+fn name_bytes(file: &[u8]) -> &[u8] {
     let field = front(behind(file, NAME), NAME_BYTES);
     let end = field
         .iter()
         .position(|byte| *byte == 0)
         .unwrap_or(field.len());
-    from_utf8(front(field, end)).unwrap_or("")
+    front(field, end)
+}
+
+/// The name of a table in its file.
+fn table_name(file: &[u8]) -> &str {
+    from_utf8(name_bytes(file)).unwrap_or("")
+}
+
+/// The first byte of a name that is no printable character.
+fn strange_byte(name: &[u8]) -> Option<u8> {
+    for byte in name {
+        if !byte.is_ascii_graphic() && *byte != b' ' {
+            return Some(*byte);
+        }
+    }
+    None
+}
+
+/// Tells that the name in a file is no table's.
+fn tell_unknown<R: Eprint>(rt: &R, name: &str, file: &[u8]) -> io::Result<()> {
+    let reason = FileFault::Name.number();
+    let tables = Wanted::Table;
+    if let Some(byte) = strange_byte(name_bytes(file)) {
+        return eprintln!(rt;
+            "{name}: the name of a table in its header has the byte 0x{byte:02X}, which no name has: {tables} (reason {reason})"
+        );
+    }
+    let found = table_name(file);
+    if found.is_empty() {
+        return eprintln!(rt;
+            "{name}: its header has no name of a table: {tables} (reason {reason})"
+        );
+    }
+    eprintln!(rt; "{name}: no table has the name {found:?}: {tables} (reason {reason})")
 }
 
 /// Tells why the name of a table is refused: there is none, or other bytes stand behind its end.
@@ -113,7 +157,7 @@ fn tell_name<R: Eprint>(rt: &R, name: &str, file: &[u8]) -> io::Result<()> {
             "{name}: bytes that aren't zero stand behind the name {found} in its header (reason {reason})"
         );
     }
-    eprintln!(rt; "{name}: no table has the name {found:?} (reason {reason})")
+    tell_unknown(rt, name, file)
 }
 
 /// How many bytes a table has.
@@ -153,7 +197,7 @@ fn tell_table_size<R: Eprint>(rt: &R, name: &str, file: &[u8]) -> io::Result<()>
     let there = behind(file, TABLE_HEADERS).len();
     if said != there {
         return eprintln!(rt;
-            "{name}: its header says {said} bytes, and {there} stand behind the headers (reason {reason})"
+            "{name}: by its subtype, {TABLE}, it is a table, whose header says {said} bytes, and {there} stand behind the headers (reason {reason})"
         );
     }
     let table = table_name(file);
@@ -175,7 +219,7 @@ fn tell_load_size<R: Eprint>(rt: &R, name: &str, file: &[u8]) -> io::Result<()> 
     let there = behind(file, LOAD_HEADERS).len();
     if said != there {
         return eprintln!(rt;
-            "{name}: its header says {said} bytes, and {there} stand behind the headers (reason {reason})"
+            "{name}: by its subtype, {LOAD}, it is a load, whose header says {said} bytes, and {there} stand behind the headers (reason {reason})"
         );
     }
     eprintln!(rt; "{name}: 1 to 65536 bytes can be loaded, and these are {there} (reason {reason})")
@@ -191,16 +235,25 @@ fn tell_check<R: Eprint>(rt: &R, name: &str, file: &[u8]) -> io::Result<()> {
     )
 }
 
+/// Tells that a file ends within its headers.
+fn tell_short<R: Eprint>(rt: &R, name: &str, file: &[u8]) -> io::Result<()> {
+    let reason = FileFault::Short.number();
+    let there = file.len();
+    if number_at(file, 4) == TABLE {
+        return eprintln!(rt;
+            "{name}: by its subtype, {TABLE}, it is a table, whose headers have {TABLE_HEADERS} bytes, and it has {there} in all (reason {reason})"
+        );
+    }
+    eprintln!(rt;
+        "{name}: the file ends within its headers: it has {there} bytes, and the headers of a table have {TABLE_HEADERS}, those of a load {LOAD_HEADERS} (reason {reason})"
+    )
+}
+
 /// Tells a fault of headers, by what stands in them.
 fn tell_field<R: Eprint>(rt: &R, name: &str, file: &[u8], fault: FileFault) -> io::Result<()> {
     let reason = fault.number();
     match fault {
-        FileFault::Short => {
-            let there = file.len();
-            eprintln!(rt;
-                "{name}: {fault}: it has {there} bytes, and the headers of a table have {TABLE_HEADERS}, those of a load {LOAD_HEADERS} (reason {reason})"
-            )
-        }
+        FileFault::Short => tell_short(rt, name, file),
         FileFault::ContentType => {
             let found = number_at(file, 0);
             eprintln!(rt;

@@ -3,16 +3,16 @@
 ghost use Rattle.std.specs.Prelude.{◌<◌, ◌+◌, ◌^◌, length};
 
 use crate::line_causes::line_cause;
-use crate::line_words::begins_with;
+use crate::line_words::{begins_with, word_at};
 use crate::plan_causes::plan_cause;
 use crate::said_entries::{MOST_TEXT, fields_of};
 use crate::wanted::{Hint, Wanted, choices_of, packet_words};
 use load_books::BookFault;
-use load_texts::{LoadFault, header_fields};
+use load_texts::{LoadFault, asked_file, header_fields};
 use plan_text::{LineReason, PlanFault, PlanReason};
 use row_forms::{Field, Kind, Reason, RowFault, Spelling, Width, number, split_word};
 use std::str::from_utf8;
-use table_files::TableKind;
+use table_files::{FileFault, TableKind};
 use table_forms::{PayloadForm, TableFault, table_kind, table_layouts};
 use table_texts::{LineFault, TextFault, next_line};
 use telecommands::{Command, CommandFault, commands};
@@ -38,6 +38,14 @@ struct BegunTable<'a> {
     kind: TableKind,
     name: &'a [u8],
 }
+
+/// What `load=` takes.
+const LOAD_NAME: &str =
+    "`load=` takes the number of a load among the FILEs, or in a book's plan the name of its part: 1 to 64 letters, digits, `_`, `.` and `-`, the first of them a letter";
+
+/// What stands behind the name of a table or the address of a load.
+const WHOLE_HEADER: &str =
+    "here stand all words of a header, `length=` to `description=`, or none: the bytes are counted from the lines";
 
 /// What stands behind `load`.
 const ADDRESS: KeyedField = KeyedField {
@@ -187,6 +195,40 @@ fn wanted_in<'a>(
         Reason::Expression => Some(Wanted::Steps),
         Reason::Time => Some(Wanted::Time),
         Reason::Mask => Some(Wanted::Bits),
+        Reason::Number16 if field.key == "load" => Some(Wanted::Form(LOAD_NAME)),
+        _ => None,
+    }
+}
+
+/// What a line is that lacks a word behind its first one, or has one too many, where its keys don't say it.
+fn line_form(first: &[u8], wrong: WrongWord) -> Option<&'static str> {
+    match wrong.reason {
+        Reason::Missing if wrong.word == 2 => lone_form(first),
+        Reason::Missing | Reason::Extra if first == b"end".as_slice() => {
+            Some("`end`, or in a plan `end at TIME`")
+        }
+        Reason::Missing | Reason::Extra if first == b"epoch".as_slice() => {
+            Some("`epoch N`, or in a plan `epoch N is DATE`")
+        }
+        Reason::Missing | Reason::Key if first == b"load".as_slice() && wrong.word > 2 => {
+            Some(WHOLE_HEADER)
+        }
+        Reason::Missing | Reason::Key if first == b"table".as_slice() => Some(WHOLE_HEADER),
+        _ => None,
+    }
+}
+
+/// What a line is that has no second word, by its first one.
+fn lone_form(first: &[u8]) -> Option<&'static str> {
+    match first {
+        b"at" => Some(
+            "`at TIME`, as a second of the processor's clock, +H:MM:SS behind the epoch, or a date or a time of day where `epoch` has one",
+        ),
+        b"frame" => Some("`frame N`, with the number of a frame"),
+        b"send" => Some(
+            "`send NAME KEY=VALUE ..`, or the hexadecimal digits of a packet behind `send`",
+        ),
+        b"bytes" => Some("`bytes HEX`, with pairs of hexadecimal digits"),
         _ => None,
     }
 }
@@ -196,6 +238,9 @@ fn wanted_at<'a>(line: &TableLine<'a>, wrong: WrongWord) -> Option<Wanted<'a>> {
     let (first, _) = split_word(line.bytes)?;
     if first == b"load".as_slice() && wrong.word == 2 {
         return wanted_in(ADDRESS, None, wrong.reason);
+    }
+    if let Some(form) = line_form(first, wrong) {
+        return Some(Wanted::Form(form));
     }
     let row = row_with(line, wrong.word)?;
     if row.first > wrong.word {
@@ -221,13 +266,27 @@ fn hint_of_word(text: &[u8], line: u32, fault: RowFault) -> Option<Hint<'_>> {
     Some(Hint::Wanted(wanted_at(&found, wrong)?))
 }
 
+/// Whether a word is hexadecimal digits that aren't pairs.
+fn is_unpaired(word: &[u8]) -> bool {
+    word.len() > 1 && word.len() % 2 != 0 && word.iter().all(|byte| byte.is_ascii_hexdigit())
+}
+
+/// What is wanted where a word is no name of a command.
+fn hint_of_name(text: &[u8], line: u32, word: usize) -> Option<Hint<'_>> {
+    let found = line_at(text, line)?;
+    if is_unpaired(word_at(found.bytes, word.saturating_sub(1))) {
+        return Some(Hint::Wanted(Wanted::Pairs));
+    }
+    Some(Hint::Wanted(Wanted::Command))
+}
+
 /// What is wanted where the words of a command aren't taken.
 fn hint_of_command(text: &[u8], line: u32, fault: CommandFault) -> Option<Hint<'_>> {
     match fault {
         CommandFault::Row(fault) => hint_of_word(text, line, fault),
         CommandFault::Packet(_, fault) => Some(Hint::Wanted(Wanted::Packet(packet_words(fault)))),
-        CommandFault::Name(_) => Some(Hint::Wanted(Wanted::Command)),
-        CommandFault::Long => None,
+        CommandFault::Name(word) => hint_of_name(text, line, word),
+        CommandFault::Long => Some(Hint::Wanted(Wanted::Payload)),
     }
 }
 
@@ -251,12 +310,34 @@ fn hint_of_entry(text: &[u8], line: u32) -> Option<Hint<'_>> {
     }
 }
 
+/// How many bytes an entry of a table has, without the head that stands in front of them all.
+fn entry_bytes(kind: TableKind) -> Option<usize> {
+    match table_layouts().form(kind) {
+        PayloadForm::Entries(layout) | PayloadForm::Headed(layout) => Some(layout.size),
+        PayloadForm::Sequence(_, _) => None,
+    }
+}
+
+/// How many bytes an entry has in whose line other ones stand behind `raw`.
+fn hint_of_bytes(text: &[u8], line: u32) -> Option<Hint<'_>> {
+    let found = line_at(text, line)?;
+    let table = found.table?;
+    let wanted = entry_bytes(table.kind)?;
+    let there = word_at(found.bytes, 2).len() / 2;
+    match from_utf8(table.name) {
+        Ok(name) => Some(Hint::Wanted(Wanted::EntryBytes(name, wanted, there))),
+        Err(_) => None,
+    }
+}
+
 /// What helps to mend a fault in a line of a table's or a load's text.
 fn hint_of_line(text: &[u8], fault: TextFault) -> Option<Hint<'_>> {
     match fault.fault {
         LineFault::Row(row) => hint_of_word(text, fault.line, row),
         LineFault::Command(command) => hint_of_command(text, fault.line, command),
         LineFault::Entry => hint_of_entry(text, fault.line),
+        LineFault::Size => hint_of_bytes(text, fault.line),
+        LineFault::Long => Some(Hint::Wanted(Wanted::ActionPacket)),
         _ => None,
     }
 }
@@ -267,16 +348,59 @@ pub fn hint_in_table<'a>(text: &'a [u8], fault: &TableFault) -> Option<Hint<'a>>
         TableFault::Text(fault) => hint_of_line(text, fault),
         TableFault::Name(_) => Some(Hint::Wanted(Wanted::Table)),
         TableFault::Head(_) => Some(Hint::Wanted(Wanted::Head)),
+        TableFault::File(FileFault::Size) => Some(Hint::Wanted(Wanted::Sequence)),
         _ => None,
     }
+}
+
+/// The file whose bytes a text asks for.
+fn loaded_file(text: &[u8]) -> Option<Wanted<'_>> {
+    if text.len() > MOST_TEXT {
+        return None;
+    }
+    let asked = asked_file(text)?;
+    match from_utf8(asked.path) {
+        Ok(path) => Some(Wanted::Loaded(asked.line, path)),
+        Err(_) => None,
+    }
+}
+
+/// Where the bytes of a load come from, or should, that are too few or too many.
+fn hint_of_size(text: &[u8], size: usize) -> Option<Hint<'_>> {
+    if let Some(loaded) = loaded_file(text) {
+        return Some(Hint::Wanted(loaded));
+    }
+    if size == 0 {
+        return Some(Hint::Wanted(Wanted::Bytes));
+    }
+    None
 }
 
 /// What helps to mend a fault in the text of a load.
 pub fn hint_in_load<'a>(text: &'a [u8], fault: &LoadFault) -> Option<Hint<'a>> {
     match *fault {
         LoadFault::Text(fault) => hint_of_line(text, fault),
-        LoadFault::Size(0) => Some(Hint::Wanted(Wanted::Bytes)),
+        LoadFault::Size(size) => hint_of_size(text, size),
         _ => None,
+    }
+}
+
+/// Where a line of a plan stands that is out of its place.
+fn hint_of_place(text: &[u8], line: u32) -> Option<Hint<'_>> {
+    let found = line_at(text, line)?;
+    Some(Hint::Wanted(Wanted::Form(place_form(word_at(found.bytes, 0)))))
+}
+
+/// Where the lines of a plan stand that begin with a word.
+fn place_form(word: &[u8]) -> &'static str {
+    match word {
+        b"epoch" => "`epoch` stands once, before all other lines",
+        b"region" | b"start" => {
+            "`epoch`, the regions and one `start` stand in this order: `epoch` may be missing before this line"
+        }
+        _ => {
+            "it stands behind `epoch`, the regions and `start`: one of these may be missing before this line"
+        }
     }
 }
 
@@ -286,6 +410,7 @@ pub fn hint_in_plan<'a>(text: &'a [u8], fault: &PlanFault) -> Option<Hint<'a>> {
     match fault.reason {
         PlanReason::Row(row) => hint_of_word(text, line, row),
         PlanReason::Command(command) => hint_of_command(text, line, command),
+        PlanReason::Place => hint_of_place(text, line),
         PlanReason::Line(reason) => {
             let found = line_at(text, line)?;
             Some(Hint::Cause(line, plan_cause(text, line, reason, found.bytes)?))

@@ -22,6 +22,7 @@ mod packet_causes;
 mod plan_causes;
 mod region_faults;
 mod said_entries;
+mod said_raws;
 mod telling;
 mod wanted;
 mod word_causes;

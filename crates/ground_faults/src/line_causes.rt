@@ -2,7 +2,7 @@
 
 use crate::line_words::begins_with;
 use crate::number_causes::number_cause;
-use crate::other_texts::character_cause;
+use crate::other_texts::{character_cause, export_cause};
 use crate::packet_causes::packet_cause;
 use crate::region_faults::{RegionFault, end_before, region_fault};
 use crate::word_causes::word_cause;
@@ -53,6 +53,11 @@ fn form_cause(reason: u8, line: &[u8]) -> &'static str {
     }
 }
 
+/// Whether a line has a carriage return.
+fn has_return(line: &[u8]) -> bool {
+    line.iter().any(|byte| *byte == b'\r')
+}
+
 /// Why a line is refused, by its number of the reason and its text alone.
 fn words_of(reason: u8, line: &[u8]) -> &'static str {
     match reason {
@@ -60,6 +65,9 @@ fn words_of(reason: u8, line: &[u8]) -> &'static str {
         NO_MAP => map_cause(line),
         5 => "a frame has at most 64 lines `send`, `app`, `upset`, `hold` and `activate`",
         6 => "a line has at most 640 bytes, a scenario at most 16777216 bytes and 100000 frames",
+        7 if has_return(line) => {
+            "`end` is missing behind this line, which has carriage returns: save the file with LF line ends"
+        }
         7 => "`end` is missing behind this line",
         _ => "it is refused",
     }
@@ -68,12 +76,15 @@ fn words_of(reason: u8, line: &[u8]) -> &'static str {
 /// Why a line of a scenario is refused, by its number of the reason (docs/SCENARIO.md), the line and its number, and the scenario's text, of
 /// which the beginning suffices. Nothing may be known of either.
 pub fn line_cause(text: &[u8], number: u32, reason: u8, line: &[u8]) -> LineCause {
+    if let Some(cause) = export_cause(line) {
+        return LineCause::Words(cause);
+    }
     if reason == NO_MAP && begins_with(line, b"start") {
         if let Some(fault) = region_fault(text, number) {
             return LineCause::Regions(fault);
         }
     }
-    if reason == WORDS {
+    if reason == WORDS && !has_return(line) {
         if let Some(end) = end_before(text, number) {
             return LineCause::Behind(end);
         }

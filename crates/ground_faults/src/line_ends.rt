@@ -64,8 +64,27 @@ fn tell_blanks<R: Eprint>(rt: &R, name: &str, text: &[u8]) {
     }
 }
 
-/// Tells what of a refused text isn't seen, where it is so: that it is UTF-16, that a byte order mark stands in front of it, that its lines end
-/// with carriage returns, and what looks like a space: its words then aren't what they look like. Of the file of a table or of a load nothing is
+/// The first line that has a carriage return, of those that say something.
+fn line_with_return(text: &[u8]) -> Option<u32> {
+    if text.len() > MOST_TEXT {
+        return None;
+    }
+    line_with(text, b"\r")
+}
+
+/// Tells that a text has carriage returns, and in which line the first one.
+fn tell_returns<R: Eprint>(rt: &R, name: &str, text: &[u8]) {
+    // There is no other place to tell it.
+    let _told = match line_with_return(text) {
+        Some(line) => eprintln!(rt;
+            "{name}: line {line} has a carriage return, which belongs to its words: save the text with LF line ends"
+        ),
+        None => eprintln!(rt; "{name}: it has carriage returns: save it with LF line ends"),
+    };
+}
+
+/// Tells what of a refused text isn't seen, where it is so: that it is UTF-16, that a byte order mark stands in front of it, that it has carriage
+/// returns, and what looks like a space: its words then aren't what they look like. Of the file of a table or of a load nothing is
 /// told.
 pub fn tell_line_ends<R: Eprint>(rt: &R, name: &str, text: &[u8]) {
     if is_image(text) {
@@ -80,9 +99,7 @@ pub fn tell_line_ends<R: Eprint>(rt: &R, name: &str, text: &[u8]) {
         let _told = eprintln!(rt; "{name}: it begins with a byte order mark: save it without");
     }
     if has_bytes(text, b"\r") {
-        let _told = eprintln!(rt;
-            "{name}: its lines end with carriage returns: save it with LF line ends"
-        );
+        tell_returns(rt, name, text);
     }
     tell_blanks(rt, name, text);
 }

@@ -22,6 +22,8 @@ const CHECKSUM_ENTRY: usize = 12;
 struct WantedBytes {
     address: u32,
     size: u32,
+    /// Whether they are one value, as a dwell entry reads.
+    is_value: bool,
 }
 
 /// The bytes that an entry of a dwell table reads.
@@ -35,6 +37,7 @@ fn dwell_bytes(payload: &[u8], entry: u32) -> Option<WantedBytes> {
     Some(WantedBytes {
         address: be32(bytes, 4),
         size: u32::from(be16(bytes, 0)),
+        is_value: true,
     })
 }
 
@@ -48,6 +51,7 @@ fn checksum_bytes(payload: &[u8], entry: u32) -> Option<WantedBytes> {
     Some(WantedBytes {
         address: be32(bytes, 4),
         size: be32(bytes, 8),
+        is_value: false,
     })
 }
 
@@ -77,10 +81,23 @@ fn region_at(map: &Map, address: u32) -> Option<Region> {
     None
 }
 
+/// Why a region doesn't give a value of another length.
+fn value_cause(kind: Kind) -> &'static str {
+    match kind {
+        Kind::Mem8 => "in a MEM8 region a value has length=1",
+        Kind::Mem16 => "in a MEM16 region a value has length=2",
+        Kind::Mem32 => "in a MEM32 region a value has length=4",
+        Kind::Ram | Kind::Eeprom => "its region doesn't give it",
+    }
+}
+
 /// Why a region that has the first of these bytes doesn't give them.
 fn cause_in(region: Region, wanted: WantedBytes) -> &'static str {
     if u64::from(wanted.address) + u64::from(wanted.size) > region.end() {
         return "its region ends before them";
+    }
+    if wanted.is_value {
+        return value_cause(region.kind);
     }
     match region.kind {
         Kind::Mem8 => "a MEM8 region is read byte by byte",
@@ -122,7 +139,7 @@ fn tell_bytes<R: Eprint>(
     wanted: WantedBytes,
     cause: Option<&str>,
 ) -> io::Result<()> {
-    let WantedBytes { address, size } = wanted;
+    let (address, size) = (wanted.address, wanted.size);
     let bytes = if size == 1 { "byte" } else { "bytes" };
     match cause {
         Some(cause) => eprintln!(rt;

@@ -31,7 +31,10 @@ pub(crate) fn number_cause(line: &[u8]) -> &'static str {
         }
         b"upset" => upset_number(line),
         b"activate" => {
-            "`activate` takes the number of a FILE, counted from 1; a name stands in a book's plan"
+            "`activate` takes the number of a FILE, counted from 1, or in a book's plan the name of a part: 1 to 64 letters, digits, `_`, `.` and `-`, the first of them a letter"
+        }
+        b"" => {
+            "a number isn't 1 to 10 decimal digits or 0x and 1 to 8 hexadecimal digits, or is too large, or the line ends with a carriage return"
         }
         _ => {
             "a number isn't 1 to 10 decimal digits or 0x and 1 to 8 hexadecimal digits, or is too large"

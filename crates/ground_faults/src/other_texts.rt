@@ -1,5 +1,6 @@
 //! What is wrong with a text as a whole, as a line shows it that is refused.
 
+use crate::file_kinds::{is_capture, is_rows};
 use crate::line_words::word_at;
 use scenario::digits;
 
@@ -53,6 +54,17 @@ pub(crate) fn character_cause(line: &[u8]) -> Option<&'static str> {
     None
 }
 
+/// The file of an export that a line begins, where a scenario is wanted; none of other lines.
+pub(crate) fn export_cause(line: &[u8]) -> Option<&'static str> {
+    if is_capture(line) {
+        return Some("it is a capture of `groundkit pcap`, where a scenario is wanted");
+    }
+    if is_rows(line) {
+        return Some("it is rows of `groundkit csv`, where a scenario is wanted");
+    }
+    None
+}
+
 /// Whether this is what a line of a log says behind its frame.
 fn is_log_word(word: &[u8]) -> bool {
     matches!(word, b"pkt" | b"drop" | b"restart" | b"delete" | b"reset")
@@ -64,6 +76,11 @@ pub(crate) fn other_text(line: &[u8]) -> Option<&'static str> {
     if word == b"table".as_slice() || word == b"load".as_slice() {
         return Some(
             "it is the text of a table or of a load, or a manifest, where a scenario is wanted",
+        );
+    }
+    if word == b"part".as_slice() {
+        return Some(
+            "`part` stands in a book, whose first line, `book NAME`, may be missing before this line",
         );
     }
     if digits(10, 10, word).is_some() && is_log_word(word_at(line, 1)) {

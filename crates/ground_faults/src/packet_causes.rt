@@ -33,7 +33,7 @@ fn header_cause(word: &[u8]) -> &'static str {
 pub(crate) fn packet_cause(line: &[u8]) -> &'static str {
     let word = word_at(line, 1);
     if word.is_empty() {
-        return "the digits aren't pairs of hexadecimal digits, or their bytes are no space packet";
+        return "the digits aren't pairs of hexadecimal digits, their bytes are no space packet, or the line ends with a carriage return";
     }
     if !word.iter().all(|byte| byte.is_ascii_hexdigit()) {
         return "a character behind `send` is no hexadecimal digit: a command in words stands in a plan, of which `groundkit scenario` makes the scenario";

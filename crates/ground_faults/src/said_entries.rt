@@ -1,10 +1,13 @@
 //! What the line of an entry says in a table's text.
 
+use crate::command_details::CommandBefore;
+use crate::entry_details::{Detail, detail_of};
 use crate::entry_faults::entry_span;
+use crate::said_raws::raw_entry;
 use entry_lines::entry_line;
 use row_forms::{Field, ReadError, push_zeros, read_block, read_row, split_word};
 use std::alloc::{AllocError, Global};
-use table_files::TableKind;
+use table_files::{EntryFault, TableKind};
 use table_forms::{PayloadForm, table_layouts};
 use table_texts::Line;
 
@@ -58,11 +61,14 @@ fn read_line(
     }
 }
 
-/// An entry that a text says: its line, where that is known, and a payload that has the entry in its place.
+/// A refused entry that a text says: its line, where that is known, a payload that has the entry in its place, which is empty of a sequence,
+/// what more is known of it than its sentence says, and the command before it where the fault may be that one's.
 #[derive(Drop)]
 pub(crate) struct SaidEntry<'a> {
     pub line: Option<Line<'a>>,
     pub payload: Vec<u8>,
+    pub detail: Option<Detail>,
+    pub before: Option<CommandBefore>,
 }
 
 /// The line of an entry in a table's text.
@@ -73,27 +79,56 @@ fn line_of(kind: TableKind, entry: u32, text: &[u8]) -> Option<Line<'_>> {
     entry_line(kind, entry, text)
 }
 
-/// The entry of a number that the text of a table says.
+/// The refused entry of a sequence, which no line `command` says: the line `raw` in which it begins, if there is one.
+fn said_in_raw<'a>(
+    alloc: Global,
+    kind: TableKind,
+    fault: EntryFault,
+    text: &'a [u8],
+) -> Result<SaidEntry<'a>, AllocError> {
+    let payload = Vec::new(alloc);
+    match raw_entry(alloc, kind, fault, text)? {
+        Some(raw) => Ok(SaidEntry {
+            line: Some(raw.line),
+            payload,
+            detail: raw.detail,
+            before: raw.before,
+        }),
+        None => Ok(SaidEntry {
+            line: None,
+            payload,
+            detail: None,
+            before: None,
+        }),
+    }
+}
+
+/// The refused entry that the text of a table says.
 pub(crate) fn said_entry<'a>(
     alloc: Global,
     epoch: Option<u32>,
     kind: TableKind,
-    entry: u32,
+    fault: EntryFault,
     text: &'a [u8],
 ) -> Result<SaidEntry<'a>, AllocError> {
-    let mut payload = Vec::new(alloc);
-    let Some(line) = line_of(kind, entry, text) else {
-        return Ok(SaidEntry {
-            line: None,
-            payload,
-        });
+    let Some(line) = line_of(kind, fault.entry, text) else {
+        return said_in_raw(alloc, kind, fault, text);
     };
-    if let Some(span) = entry_span(kind, entry) {
+    let mut payload = Vec::new(alloc);
+    if let Some(span) = entry_span(kind, fault.entry) {
         push_zeros(span.start, &mut payload)?;
-        read_line(epoch, fields_of(kind, entry), line.bytes, &mut payload)?;
+        read_line(
+            epoch,
+            fields_of(kind, fault.entry),
+            line.bytes,
+            &mut payload,
+        )?;
     }
+    let detail = detail_of(kind, payload.as_slice(), fault);
     Ok(SaidEntry {
         line: Some(line),
         payload,
+        detail,
+        before: None,
     })
 }

@@ -1,8 +1,9 @@
 //! Refused entries of tables and of their texts, in words.
 
+use crate::command_details::{CommandBefore, command_before};
 use crate::entry_details::{Detail, detail_of};
 use crate::entry_faults::{PAYLOAD, clear_faults};
-use crate::said_entries::said_entry;
+use crate::said_entries::{SaidEntry, said_entry};
 use packet_forms::behind;
 use std::alloc::AllocError;
 use std::str::from_utf8;
@@ -32,6 +33,14 @@ fn tell_sentence<R: Eprint>(
     };
 }
 
+/// Tells the command before a refused one, where the fault may be its own.
+fn tell_before<R: Eprint>(rt: &R, name: &str, before: Option<CommandBefore>) {
+    if let Some(before) = before {
+        // There is no other place to tell it.
+        let _told = eprintln!(rt; "{name}: {before}");
+    }
+}
+
 /// Tells why an entry of a payload is refused, and what more is known of it than its sentence says.
 pub fn tell_entry<R: Eprint + AllocGlobal>(
     rt: &R,
@@ -42,13 +51,24 @@ pub fn tell_entry<R: Eprint + AllocGlobal>(
 ) -> Result<(), AllocError> {
     let mut words = Vec::new(rt.alloc());
     tell_fault(kind, payload, fault, &mut words)?;
-    tell_sentence(
-        rt,
-        name,
-        words.as_slice(),
-        detail_of(kind, payload, fault),
-        fault,
-    );
+    let detail = detail_of(kind, payload, fault);
+    tell_sentence(rt, name, words.as_slice(), detail, fault);
+    tell_before(rt, name, command_before(kind, payload, fault));
+    Ok(())
+}
+
+/// Tells why an entry that a text says is refused, by the place where it stands.
+pub(crate) fn tell_said_entry<R: Eprint + AllocGlobal>(
+    rt: &R,
+    place: &str,
+    kind: TableKind,
+    said: &SaidEntry<'_>,
+    fault: EntryFault,
+) -> Result<(), AllocError> {
+    let mut words = Vec::new(rt.alloc());
+    tell_fault(kind, said.payload.as_slice(), fault, &mut words)?;
+    tell_sentence(rt, place, words.as_slice(), said.detail, fault);
+    tell_before(rt, place, said.before);
     Ok(())
 }
 
@@ -77,12 +97,12 @@ pub fn tell_said<R: Eprint + AllocGlobal>(
     fault: EntryFault,
     text: &[u8],
 ) -> Result<(), AllocError> {
-    let said = said_entry(rt.alloc(), epoch, kind, fault.entry, text)?;
+    let said = said_entry(rt.alloc(), epoch, kind, fault, text)?;
     match said.line {
         Some(line) => {
             let place = format!(in rt.alloc(); "{name}: line {0}", line.number)?;
-            tell_entry(rt, place.as_str(), kind, said.payload.as_slice(), fault)
+            tell_said_entry(rt, place.as_str(), kind, &said, fault)
         }
-        None => tell_entry(rt, name, kind, said.payload.as_slice(), fault),
+        None => tell_said_entry(rt, name, kind, &said, fault),
     }
 }

@@ -55,6 +55,27 @@ pub enum Wanted<'a> {
     /// The bytes of a load.
     #[error("lines of `bytes` and pairs of hexadecimal digits stand between `load` and `end`, or `file=PATH` in the second line names a file that has some")]
     Bytes,
+    /// The line that names the file whose bytes are to be loaded, and that file.
+    #[error("line {0} loads the file {1:?}")]
+    Loaded(u32, &'a str),
+    /// The digits of a packet.
+    #[error("the hexadecimal digits of a packet are pairs: one is missing or too many")]
+    Pairs,
+    /// The fields of a command.
+    #[error("all fields together have at most 248 bytes, and a load takes 1 to 200 of them behind `bytes=`")]
+    Payload,
+    /// The bytes of a sequence.
+    #[error("a relative sequence has at most 2048 bytes, an absolute one 65536: those of each packet, with 2 in front of it or 6")]
+    Sequence,
+    /// The packet of a message action.
+    #[error("the packet of a message action has at most 64 bytes, 8 of them in front of its fields")]
+    ActionPacket,
+    /// How many bytes an entry of a table has, and how many there are.
+    #[error("an entry of {0} has {1}, two digits each, and these are {2}")]
+    EntryBytes(&'a str, usize, usize),
+    /// How a line is written, or where it stands.
+    #[error("{0}")]
+    Form(&'static str),
     /// The number of an entry.
     #[error("the entries of {0} are 1 to {1}")]
     Entries(&'a str, usize),

@@ -142,7 +142,7 @@ fn unknown_cause(line: &[u8]) -> &'static str {
 pub(crate) fn word_cause(line: &[u8]) -> &'static str {
     match word_at(line, 0) {
         b"" => {
-            "the line begins with no word of a scenario, stands out of its place, or has words missing, too many or out of form; of a plan, `groundkit scenario` makes the scenario"
+            "the line begins with no word of a scenario, stands out of its place, ends with a carriage return, or has words missing, too many or out of form; a book is given by its path, and of a plan `groundkit scenario` makes the scenario"
         }
         b"epoch" => epoch_cause(line),
         b"region" => region_cause(line),
