@@ -7,14 +7,14 @@ use Rattle.ground_files.specs.declared.verb_status.Status.{Status}
 use Rattle.ground_files.specs.declared.verb_status.Status.TheVariants as statuses
 use Rattle.ground_files.specs.Workspaces.{Held, input_bytes, input_taken}
 use Rattle.ground_files.specs.Verbs.{IsOver}
-use Rattle.load_texts.specs.Loaded.{Named, file_asked}
+use Rattle.load_texts.specs.Loaded.{Named}
 use Rattle.load_texts.specs.Loads.{is_load_text}
 use Rattle.ground_making.specs.declared.making.Making.{Making}
 use Rattle.ground_making.specs.declared.making.Making.TheVariants as makings
 use Rattle.ground_making.specs.Refused.{IsLong, IsRefusedAs}
 use Rattle.ground_making.specs.Causes.{IsCaused}
 use Rattle.ground_making.specs.Named.{path_beside, IsTooLarge, IsUnloaded, AsksForUnloaded, SaysNoLoad}
-use Rattle.ground_making.specs.MadeFiles.{Asked, IsRefusedAmong, IsRefusedIn, IsRefusedInput, IsOverAsked, IsOverIn, IsOverNamed, IsOverRead}
+use Rattle.ground_making.specs.MadeFiles.{Asked, IsRefusedAmong, IsRefusedIn, IsRefusedInput, IsOverIn, IsOverNamed, IsOverRead}
 
 -- ---- causes
 
@@ -49,15 +49,6 @@ named_caused (Err status) output name given path asked told same beside cause = 
     cause_map (IsOver output (path_beside name asked.path) before) (IsTooLarge (path_beside name asked.path) before.files) (IsOver output (path_beside name asked.path) before) (IsUnloaded name before.files asked) status
     (λ over. over) (λ large. inr large)
     (subst (λ (at : List ℕ). IsCaused (IsOver output at before) (IsTooLarge at before.files) status) (same ∙ beside) (cause before was))
-
--- the file that the text asks for
-pub asked_caused : {A : Type 0} (r : Result A Status) (asked : Asked) (text : List ℕ) (named : Named) (told : Option Held) → file_asked text ≡ Some named
-    → IfErr r (λ status. (before : Held) → told ≡ Some before → IsCaused (IsOver asked.output (path_beside asked.file named.path) before) (IsUnloaded asked.file before.files named) status)
-    → IfErr r (λ status. (before : Held) → told ≡ Some before → IsCaused (IsOverAsked asked before text) (AsksForUnloaded asked.file before.files text) status)
-asked_caused (Ok a) asked text named told is cause = cause
-asked_caused (Err status) asked text named told is cause = λ before was.
-    cause_map (IsOver asked.output (path_beside asked.file named.path) before) (IsUnloaded asked.file before.files named) (IsOverAsked asked before text) (AsksForUnloaded asked.file before.files text) status
-    (λ over. (named, is, over)) (λ unloaded. (named, is, unloaded)) (cause before was)
 
 -- ---- what was read and is refused
 
