@@ -18,7 +18,7 @@ use ground_files::{Status, Workspace, input_name, read_input, tell_no_memory, te
 use load_books::{book_forms, read_book};
 use memory_window::Map;
 use packet_forms::{behind, front};
-use plan_text::{PlanError, PlanFault};
+use plan_text::{PlanError, PlanFault, PlanReason};
 use std::alloc::{AllocError, Global};
 use std::str::from_utf8;
 use telecommands::commands;
@@ -48,6 +48,11 @@ fn known_with(alloc: Global, map: Map, text: &[u8]) -> Result<Known, TextFault>
     }
 }
 
+/// Whether a line is one of a plan that stands out of its place.
+fn is_misplaced(fault: &PlanFault) -> bool {
+    matches!(fault.reason, PlanReason::Place)
+}
+
 /// The map of a plan, where its header isn't a scenario's: its epoch is a date. `line` and `reason` are what is wrong with it as a scenario's.
 fn plan_map(alloc: Global, text: &[u8], line: u32, reason: u8) -> Result<Known, TextFault>
     requires { map_said text.now ≡ None }
@@ -64,8 +69,10 @@ fn plan_map(alloc: Global, text: &[u8], line: u32, reason: u8) -> Result<Known, 
             Err(MapFault::Memory) => Err(TextFault::Memory),
         },
         Err(PlanError::Memory(_)) => Err(TextFault::Memory),
-        // A text that is read farther as a plan is one.
-        Err(PlanError::Plan(fault)) if fault.line > line => Err(TextFault::Plan(fault)),
+        // A text that is read farther as a plan is one, and so is one whose line is a plan's in another place.
+        Err(PlanError::Plan(fault)) if fault.line > line || is_misplaced(&fault) => {
+            Err(TextFault::Plan(fault))
+        }
         Err(PlanError::Plan(_)) => Err(TextFault::Line { line, reason }),
     }
 }
