@@ -133,3 +133,16 @@ module _ (e : AppEntry) (checks : List (List Counter)) (counters : List Counter)
 pub counter_none : (counters : List Counter) (name : List ℕ) → (length counters == 0) ≡ true → None ≡ counter_in counters name
 unfolding counter_in
 counter_none counters name none = rw (no_packets counters none) refl
+
+-- where an entry stands behind these counters and didn't act, its last counter is what they leave
+pub last_kept : (e : AppEntry) (checks : List (List Counter)) (counters : List Counter) (w : Watched) → EntryStands e (checks ++ counters ∷ []) w → 0 < w.countdown → unwrap_or (counter_in counters e.name) w.last ≡ w.last
+last_kept e checks counters w stood runs = by_counter (counter_in counters e.name) refl
+  where
+    is : w.last ≡ unwrap_or (counter_in counters e.name) (last_counter e.name checks)
+    is =
+        stood.last (counting e.cycles (changes e.name (checks ++ counters ∷ [])) (let left = stood.countdown in omega (arith, left, runs)))
+        ∙ last_more e.name checks counters
+
+    by_counter : (o : Option ℕ) → counter_in counters e.name ≡ o → unwrap_or o w.last ≡ w.last
+    by_counter None found = refl
+    by_counter (Some value) found = sym (is ∙ ap (λ (o : Option ℕ). unwrap_or o (last_counter e.name checks)) found)

@@ -22,7 +22,7 @@ use Rattle.hs_actions.specs.State.{ActionsStand, is_cooling}
 use Rattle.hs_actions.proofs.Series.{more_none, items_none}
 use Rattle.hs_actions.proofs.Cooling.{stands_idle}
 use Rattle.hs_monitors.specs.Verdicts.{hs_protocol}
-use Rattle.hs_monitors.specs.Histories.{Input, HsEntry, Setup, apps_after, tables_after, packets_in}
+use Rattle.hs_monitors.specs.Histories.{Input, HsEntry, Setup, apps_after, events_after, tables_after, packets_in}
 use Rattle.hs_monitors.specs.Orders.{heard_at, ordered_at, orders_of, is_on, is_listening}
 use Rattle.hs_monitors.specs.Watches.{watch_of, watch_at}
 use Rattle.hs_monitors.specs.Monitors.{row_at, is_entry, places_of, attempt_where, app_attempt}
@@ -37,9 +37,9 @@ use Rattle.hs_monitors.specs.declared.state.Hs.{Hs}
 use Rattle.hs_monitors.proofs.Lists.{off_by_not}
 use Rattle.hs_monitors.proofs.Places.{given_front, none_used, no_entry, entry_none}
 use Rattle.hs_monitors.proofs.Following.{orders_woken, watch_woken, watch_unordered, past_unordered, past_woken}
-use Rattle.hs_monitors.proofs.Obeying.{entries_as}
+use Rattle.hs_monitors.proofs.Obeying.{entries_as, senders_as}
 use Rattle.hs_monitors.proofs.Passing.{none_acts, kept_passes}
-use Rattle.hs_monitors.proofs.Waking.{apps_woken}
+use Rattle.hs_monitors.proofs.Waking.{apps_woken, events_woken}
 
 -- the monitors are idle by what is kept
 pub idle_by : (setup : Setup) (history : List HsEntry) (on watch cooling : Bool) (places : ℕ) → on ≡ is_on (orders_of history ++ []) → places ≡ places_of (apps_after setup history) → watch ≡ (on && nat_lt 0 places)
@@ -113,16 +113,17 @@ module _ (setup : Setup) (history : List HsEntry) (input : Input) (quiet : input
   orders_next = sym (orders_woken history input ∙ ap (λ (orders : List Instruction). orders_of history ++ orders) (unordered history input quiet))
 
   -- what is kept of the entries may be another, and all else stays
-  pub quiet_stands : (hs next : Hs) → next.counts ≡ hs.counts → next.duty.monitoring ≡ hs.duty.monitoring → next.duty.listening ≡ hs.duty.listening → next.duty.places ≡ hs.duty.places → next.duty.actions ≡ hs.duty.actions
+  pub quiet_stands : (hs next : Hs) → next.counts ≡ hs.counts → next.duty.monitoring ≡ hs.duty.monitoring → next.duty.listening ≡ hs.duty.listening → next.duty.places ≡ hs.duty.places → next.duty.senders ≡ hs.duty.senders → next.duty.actions ≡ hs.duty.actions
       → KeptStands (apps_after setup (history ++ Woken input ∷ [])) (watch_at (history ++ Woken input ∷ []) []) next.duty.kept → Stands setup history hs → Stands setup (history ++ Woken input ∷ []) next
   unfolding Stands hs_heard
-  quiet_stands hs next counts monitoring listening places actions kept stood = record {
+  quiet_stands hs next counts monitoring listening places senders actions kept stood = record {
     counts = counts ∙ stood.counts ∙ ap counts_of (sym (heard_idle hs_protocol (λ (earlier : List HsEntry) (e : HsEntry). tt) packets_in history (Woken input) quiet));
     duty = record {
       monitoring = monitoring ∙ stood.duty.monitoring ∙ ap is_on orders_next;
       listening = listening ∙ stood.duty.listening ∙ ap is_listening orders_next;
       places = places ∙ stood.duty.places ∙ ap places_of (sym (apps_woken setup history input));
       kept = kept;
+      senders = senders_as (events_after setup history) (events_after setup (history ++ Woken input ∷ [])) hs.duty.senders next.duty.senders (sym (events_woken setup history input)) senders stood.duty.senders;
       actions =
           subst (ActionsStand setup.tables.acts (past_of setup (history ++ Woken input ∷ []))) (sym actions)
           (subst (λ (p : Past). ActionsStand setup.tables.acts p hs.duty.actions) (sym past_next)
@@ -178,7 +179,7 @@ module _ (setup : Setup) (history : List HsEntry) (input : Input) (quiet : input
 
   pub idle_stands : (hs : Hs) → Stands setup history hs → Stands setup (history ++ Woken input ∷ []) hs
   unfolding Stands
-  idle_stands hs stood = quiet_stands setup history input quiet cool nothing_attempted hs hs refl refl refl refl refl (kept_next hs.duty.kept stood.duty.kept) stood
+  idle_stands hs stood = quiet_stands setup history input quiet cool nothing_attempted hs hs refl refl refl refl refl refl (kept_next hs.duty.kept stood.duty.kept) stood
 
 -- a wakeup without packets and counters, where application monitoring is on, no cooldown runs and no countdown can end
 module _ (setup : Setup) (history : List HsEntry) (input : Input) (quiet : input.commands ≡ []) (silent : input.seen.events ≡ []) (alone : input.seen.counters ≡ []) (cool : is_cooling setup.tables.acts (past_of setup history) ≡ false)

@@ -7,7 +7,10 @@ pub mod Checks
 pub mod Places
 pub mod Rests
 pub mod Performing
+pub mod Noting
 pub mod Passing
+pub mod Renewing
+pub mod Listening
 pub mod Following
 pub mod Obeying
 pub mod Waking

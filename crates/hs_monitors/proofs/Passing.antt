@@ -1,5 +1,5 @@
 -- What is kept of all entries, at a check in which no countdown ends, and at one more entry.
-use Rattle.std.proofs.Common.{◌≡◌, ◌≢◌, ℕ, suc, ◌+◌, ◌-◌, ◌<◌, ◌≤◌, true, false, List, [], ◌∷◌, ◌++◌, length, set, inl, inr, Option, None, Some, refl, sym, ap, subst, ◌∙◌, arith, ne_eqb}
+use Rattle.std.proofs.Common.{◌≡◌, ◌≢◌, ℕ, suc, ◌+◌, ◌-◌, ◌<◌, ◌≤◌, true, false, List, [], ◌∷◌, ◌++◌, length, set, inl, inr, Option, None, Some, refl, sym, subst, ◌∙◌, arith, ne_eqb}
 use Rattle.std.specs.Prelude.{◌==◌, unwrap_or}
 use Rattle.std.specs.List.{flat_map}
 use Rattle.std.proofs.lemmas.Bool.{cases_eq, cases_lt}
@@ -10,12 +10,12 @@ use Rattle.hs_tables.specs.declared.apps.AppRow.{AppRow}
 use Rattle.hs_tables.specs.declared.apps.AppEntry.{AppEntry}
 use Rattle.hs_actions.specs.Happenings.{Happening}
 use Rattle.hs_monitors.specs.Acting.{counter_in, changes, acts_now}
-use Rattle.hs_monitors.specs.Monitors.{row_at, places_of, app_attempt}
+use Rattle.hs_monitors.specs.Monitors.{row_at, app_attempt}
 use Rattle.hs_monitors.specs.Entries.{EntryStands, EntriesStand, HeadsStand, KeptStands, watched_at, later, kept_with}
 use Rattle.hs_monitors.specs.declared.watches.Watched.{Watched}
+use Rattle.hs_monitors.specs.declared.heads.Heads.{Heads}
 use Rattle.hs_monitors.specs.declared.kept.Kept.{Kept}
 use Rattle.hs_monitors.proofs.Checks.{rested_stands, rested_acts, changed_stands, changed_acts, unchanged_stands, unchanged_acts, counter_none}
-use Rattle.hs_monitors.proofs.Places.{unused_behind, no_entry}
 use Rattle.hs_monitors.proofs.Performing.{row_quiet, entry_cycles}
 
 -- rows none of which attempts anything
@@ -44,6 +44,13 @@ module _ (e : AppEntry) (checks : List (List Counter)) (counters : List Counter)
         subst (λ (n : ℕ). EntryStands e (checks ++ counters ∷ []) (record { last = last; countdown = n })) whole
         (changed_stands e checks counters (later passed w) stood some (omega arith) last found found_is last_is other)
 
+  -- the check has no counter of its name
+  pub none_stands : (0 < w.countdown → passed + 1 < w.countdown) → None ≡ counter_in counters e.name → EntryStands e (checks ++ counters ∷ []) (later (passed + 1) w)
+  none_stands far none = elim (cases_lt 0 w.countdown) [
+    | inl runs ↦ same_stands (far runs) w.last None none refl refl
+    | inr ended ↦ over_stands (omega arith)
+  ]
+
   pub rests : (0 < w.countdown → passed + 1 < w.countdown) → false ≡ acts_now e.cycles (changes e.name (checks ++ counters ∷ []))
   rests far = elim (cases_lt 0 w.countdown) [
     | inl runs ↦ by_counter (far runs) (unwrap_or (counter_in counters e.name) w.last) refl
@@ -67,12 +74,8 @@ ends_later rows checks kept stood soon k within runs = let most : kept.least ≤
 -- all entries, at a check without counters
 module _ (rows : List AppRow) (checks : List (List Counter)) (counters : List Counter) (none : (length counters == 0) ≡ true) (old : Kept) (stood : KeptStands rows checks old) (soon : old.passed + 1 < old.least) where
   one_passes : (k : ℕ) (e : AppEntry) → k < 32 → entry_of (row_at rows k) ≡ Some e → EntryStands e (checks ++ counters ∷ []) (later (old.passed + 1) (watched_at old.watched k))
-  one_passes k e within is = elim (cases_lt 0 (watched_at old.watched k).countdown) [
-    | inl runs ↦
-        same_stands e checks counters (watched_at old.watched k) old.passed (entry_cycles (row_at rows k) e is) (stood.each k e within is) (ends_later rows checks old stood soon k within runs)
-        (watched_at old.watched k).last None (counter_none counters e.name none) refl refl
-    | inr ended ↦ over_stands e checks counters (watched_at old.watched k) old.passed (entry_cycles (row_at rows k) e is) (stood.each k e within is) (omega arith)
-  ]
+  one_passes k e within is =
+      none_stands e checks counters (watched_at old.watched k) old.passed (entry_cycles (row_at rows k) e is) (stood.each k e within is) (ends_later rows checks old stood soon k within) (counter_none counters e.name none)
 
   pub kept_passes : KeptStands rows (checks ++ counters ∷ []) (kept_with old.heads old.watched (old.passed + 1) old.least)
   kept_passes = record { whole = stood.whole; heads = stood.heads; each = one_passes; least = stood.least; within = soon }
@@ -97,6 +100,10 @@ set_more P kept i w inside before here k below = elim (cases_eq i k) [
       subst (P k) (sym (get_or-set_other kept i k w (record { last = 0; countdown = 0 }) (λ back. other (sym back)))) (before k (omega arith))
 ]
 
+-- a property of the places from one on
+pub set_more_from : (from : ℕ) (P : ℕ → Watched → Type 0) (kept : List Watched) (i : ℕ) (w : Watched) → i < length kept → ((k : ℕ) → from ≤ k → k < i → P k (watched_at kept k)) → P i w → (k : ℕ) → from ≤ k → k < i + 1 → P k (watched_at (set kept i w) k)
+set_more_from from P kept i w inside before here k past below = set_more (λ (j : ℕ) (x : Watched). from ≤ j → P j x) kept i w inside (λ j below_it past_it. before j past_it below_it) (λ past_it. here) k below past
+
 -- the least countdown of those below one, and of that one
 pub least_more : (kept : List Watched) (i old new : ℕ) → ((k : ℕ) → k < i → 0 < (watched_at kept k).countdown → old ≤ (watched_at kept k).countdown) → new ≤ old
     → (0 < (watched_at kept i).countdown → new ≤ (watched_at kept i).countdown) → (k : ℕ) → k < i + 1 → 0 < (watched_at kept k).countdown → new ≤ (watched_at kept k).countdown
@@ -109,7 +116,7 @@ least_more kept i old new before fewer here k below runs = elim (cases_eq i k) [
 ]
 
 -- where no check passed
-pub just_kept : (rows : List AppRow) (checks : List (List Counter)) (heads : List ℕ) (watched : List Watched) (least : ℕ) → length rows ≡ 32 → HeadsStand rows heads → EntriesStand rows (λ (k : ℕ). checks) watched → 0 < least
+pub just_kept : (rows : List AppRow) (checks : List (List Counter)) (heads : Heads) (watched : List Watched) (least : ℕ) → length rows ≡ 32 → HeadsStand rows heads → EntriesStand rows (λ (k : ℕ). checks) watched → 0 < least
     → ((k : ℕ) → k < 32 → 0 < (watched_at watched k).countdown → least ≤ (watched_at watched k).countdown) → KeptStands rows checks (kept_with heads watched 0 least)
 just_kept rows checks heads watched least whole headed stood some fewest = record {
   whole = whole;
@@ -120,34 +127,3 @@ just_kept rows checks heads watched least whole headed stood some fewest = recor
   least = fewest;
   within = some;
 }
-
--- a place behind one that is set
-pub set_rest : (kept old : List Watched) (i : ℕ) (w : Watched) → ((k : ℕ) → i ≤ k → watched_at kept k ≡ watched_at old k) → (k : ℕ) → i + 1 ≤ k → watched_at (set kept i w) k ≡ watched_at old k
-set_rest kept old i w before k past =
-    let apart : k ≢ i = omega arith in
-    get_or-set_other kept i k w (record { last = 0; countdown = 0 }) apart ∙ before k (omega arith)
-
--- once all used entries are looked at
-module _ (rows : List AppRow) (checks : List (List Counter)) (more : List Counter) (heads : List ℕ) (old new : List Watched) (passed least fewest i : ℕ) (stood : KeptStands rows checks (kept_with heads old passed least)) (past : places_of rows ≤ i)
-    (done : (k : ℕ) (e : AppEntry) → k < i → entry_of (row_at rows k) ≡ Some e → EntryStands e (checks ++ more ∷ []) (later (passed + 1) (watched_at new k)))
-    (low : (k : ℕ) → k < i → 0 < (watched_at new k).countdown → fewest ≤ (watched_at new k).countdown) (rest : (k : ℕ) → i ≤ k → watched_at new k ≡ watched_at old k) (fewer : fewest ≤ least) (within_all : passed + 1 < fewest) where
-  low_all : (k : ℕ) → k < 32 → 0 < (watched_at new k).countdown → fewest ≤ (watched_at new k).countdown
-  low_all k within runs = elim (cases_lt k i) [
-    | inl below ↦ low k below runs
-    | inr over ↦
-        let same : (watched_at new k).countdown ≡ (watched_at old k).countdown = ap (λ (w : Watched). w.countdown) (rest k over) in
-        let most : least ≤ (watched_at old k).countdown = stood.least k within (omega arith) in
-        omega arith
-  ]
-
-  pub renewed_stand : KeptStands rows (checks ++ more ∷ []) (kept_with heads new (passed + 1) fewest)
-  renewed_stand = record {
-    whole = stood.whole;
-    heads = stood.heads;
-    each = λ k e within is. elim (cases_lt k i) [
-      | inl below ↦ done k e below is
-      | inr over ↦ absurd (no_entry (entry_of (row_at rows k)) e (unused_behind rows k (omega arith)) is)
-    ];
-    least = low_all;
-    within = within_all;
-  }

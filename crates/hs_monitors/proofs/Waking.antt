@@ -20,23 +20,27 @@ use Rattle.hs_actions.specs.State.{ActionsStand}
 use Rattle.hs_actions.specs.Performs.{Performs}
 use Rattle.hs_actions.specs.declared.state.Actions.{Actions}
 use Rattle.hs_actions.proofs.Series.{performs_both}
-use Rattle.hs_monitors.specs.Histories.{Input, HsEntry, Setup, apps_in, apps_after, tables_after}
+use Rattle.hs_monitors.specs.Histories.{Input, HsEntry, Setup, apps_in, apps_after, events_in, events_after, tables_after}
 use Rattle.hs_monitors.specs.Orders.{heard_at, ordered_at, orders_of, is_on, is_listening}
 use Rattle.hs_monitors.specs.Watches.{watch_of, watch_at}
 use Rattle.hs_monitors.specs.Monitors.{places_of, app_attempt}
-use Rattle.hs_monitors.specs.Events.{event_attempts}
+use Rattle.hs_monitors.specs.Events.{SendersStand, event_attempts}
 use Rattle.hs_monitors.specs.Attempts.{by_monitors, past_of, past_in}
 use Rattle.hs_monitors.specs.Step.{turn_of, hs_answers, hs_items}
 use Rattle.hs_monitors.specs.Entries.{KeptStands}
 use Rattle.hs_monitors.specs.State.{DutyStands}
+use Rattle.hs_monitors.specs.declared.heads.Heads.{Heads}
 use Rattle.hs_monitors.specs.declared.kept.Kept.{Kept}
 use Rattle.hs_monitors.specs.declared.duty.Duty.{Duty}
 use Rattle.hs_monitors.proofs.Following.{orders_woken, watch_woken, watch_unordered, past_woken}
-use Rattle.hs_monitors.proofs.Obeying.{entries_as}
+use Rattle.hs_monitors.proofs.Obeying.{entries_as, senders_as}
 
 -- the application monitors in force behind a wakeup
 pub apps_woken : (setup : Setup) (history : List HsEntry) (input : Input) → apps_after setup (history ++ Woken input ∷ []) ≡ apps_after setup history
 apps_woken setup history input = in_force_woken apps_in setup.tables.apps history input
+
+pub events_woken : (setup : Setup) (history : List HsEntry) (input : Input) → events_after setup (history ++ Woken input ∷ []) ≡ events_after setup history
+events_woken setup history input = in_force_woken events_in setup.tables.events history input
 
 -- what both monitors attempt in wakeup k, by what is on and by the watch
 abbrev pub attempted : Bool → Bool → List (List Counter) → List Counter → List AppRow → List EventRow → List (List ℕ) → ℕ → List Happening
@@ -69,6 +73,7 @@ pub record Wakes (setup : Setup) (history : List HsEntry) (input : Input) (befor
   pub listening : after.listening ≡ before.listening
   pub places : after.places ≡ before.places
   pub kept : KeptStands (apps_after setup history) (cond before.monitoring (watch_at history (ordered_at input) ++ input.seen.counters ∷ []) (watch_at history (ordered_at input))) after.kept
+  pub senders : after.senders ≡ before.senders
   pub performs : Performs setup.tables.acts input.time (attempted before.monitoring before.listening (watch_at history (ordered_at input)) input.seen.counters (apps_after setup history) (tables_after setup history).events input.seen.events) before.actions after.actions mid end
 
 module _ (setup : Setup) (history : List HsEntry) (input : Input) (before after : Duty) (mid end : Held Out) (wakes : Wakes setup history input before after mid end) where
@@ -87,6 +92,7 @@ module _ (setup : Setup) (history : List HsEntry) (input : Input) (before after 
             entries_as (apps_after setup history) (apps_after setup (history ++ Woken input ∷ [])) (cond before.monitoring (checks ++ input.seen.counters ∷ []) checks) (watch_at (history ++ Woken input ∷ []) []) after.kept
             (sym (apps_woken setup history input))
             (ap (λ (b : Bool). cond b (checks ++ input.seen.counters ∷ []) checks) wakes.stood.monitoring ∙ sym (watch_unordered (history ++ Woken input ∷ []) ∙ watch_woken history input)) wakes.kept;
+        senders = senders_as (events_after setup history) (events_after setup (history ++ Woken input ∷ [])) before.senders after.senders (sym (events_woken setup history input)) wakes.senders wakes.stood.senders;
         actions =
             subst (λ (p : Past). ActionsStand setup.tables.acts p after.actions)
             (ap (with_more (past_in setup history (ordered_at input))) is_by ∙ sym (past_woken setup history input))
@@ -126,3 +132,6 @@ kept_in_force setup history tables checks kept in_force stood = subst (λ (t : H
 
 pub places_on : (setup : Setup) (history : List HsEntry) (tables : HsTables) (places : ℕ) → tables ≡ tables_after setup history → places ≡ places_of (apps_after setup history) → places ≡ places_of tables.apps
 places_on setup history tables places in_force is = is ∙ sym (ap (λ (t : HsTables). places_of t.apps) in_force)
+
+pub senders_on : (setup : Setup) (history : List HsEntry) (tables : HsTables) (old new : Heads) → tables ≡ tables_after setup history → new ≡ old → SendersStand (events_after setup history) old → SendersStand tables.events new
+senders_on setup history tables old new in_force same stood = senders_as (events_after setup history) tables.events old new (ap (λ (t : HsTables). t.events) (sym in_force)) same stood

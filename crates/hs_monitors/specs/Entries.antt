@@ -1,13 +1,14 @@
 -- When what is kept of the application monitors stands for the checks of their watch.
-use Rattle.std.specs.Prelude.{◌≡◌, ◌<◌, ◌≤◌, ◌-◌, ℕ, false, List, length, slice_index_or, bit_xor, Some}
-use Rattle.packet_forms.specs.Numbers.{be32_at}
+use Rattle.std.specs.Prelude.{◌≡◌, ◌<◌, ◌≤◌, ◌-◌, ℕ, false, List, length, slice_index_or, Some}
 use Rattle.packet_forms.specs.declared.name.Counter.{Counter}
 use Rattle.hs_tables.specs.Apps.{entry_of}
 use Rattle.hs_tables.specs.declared.apps.AppRow.{AppRow}
 use Rattle.hs_tables.specs.declared.apps.AppEntry.{AppEntry}
 use Rattle.hs_monitors.specs.Acting.{last_counter, changes, has_acted, countdown_of}
-use Rattle.hs_monitors.specs.Monitors.{row_at}
+use Rattle.hs_monitors.specs.Monitors.{row_at, name_at}
+use Rattle.hs_monitors.specs.Heads.{AreHeaded}
 use Rattle.hs_monitors.specs.declared.watches.Watched.{Watched}
+use Rattle.hs_monitors.specs.declared.heads.Heads.{Heads}
 use Rattle.hs_monitors.specs.declared.kept.Kept.{Kept}
 
 -- What is kept of an entry stands for some checks. Where it acted nothing is said of the last counter.
@@ -28,18 +29,14 @@ abbrev pub later : ℕ → Watched → Watched
 later passed w = record { last = w.last; countdown = w.countdown - passed }
 
 -- What is kept of all entries, by its parts.
-abbrev pub kept_with : List ℕ → List Watched → ℕ → ℕ → Kept
+abbrev pub kept_with : Heads → List Watched → ℕ → ℕ → Kept
 kept_with heads watched passed least = record { heads = heads; watched = watched; passed = passed; least = least }
 
--- The head of a name: its first eight bytes, put together into four.
-unfoldable pub head_of : List ℕ → ℕ
-head_of name = bit_xor (be32_at name 0) (be32_at name 4)
+-- The names of all used entries are noted.
+abbrev pub HeadsStand : List AppRow → Heads → Type 0
+HeadsStand rows heads = AreHeaded (name_at rows) 32 heads
 
--- The heads of the names of all used entries.
-pub record HeadsStand (rows : List AppRow) (heads : List ℕ) : Type 0 where
-  pub each : (k : ℕ) (e : AppEntry) → k < 32 → entry_of (row_at rows k) ≡ Some e → slice_index_or heads k 0 ≡ head_of e.name
-
--- What is kept of all entries stands for some checks: the heads are those of their names, what is kept of each does once the passed checks are taken off, and no countdown that
+-- What is kept of all entries stands for some checks: their names are noted, what is kept of each does once the passed checks are taken off, and no countdown that
 -- isn't over is less than the least, which is more than the passed checks.
 pub record KeptStands (rows : List AppRow) (checks : List (List Counter)) (kept : Kept) : Type 0 where
   pub whole : length rows ≡ 32

@@ -11,18 +11,36 @@ use Rattle.hs_actions.specs.Happenings.{Happening, attempt_by}
 use Rattle.hs_actions.specs.Happenings.Happening.{Attempts}
 use Rattle.hs_actions.specs.declared.action.Source.TheVariants.{EventMonitor}
 use Rattle.hs_monitors.specs.Acting.{is_same}
+use Rattle.hs_monitors.specs.Heads.{AreHeaded}
+use Rattle.hs_monitors.specs.declared.heads.Heads.{Heads}
 
 -- An event message: a packet of its id with 44 bytes. Its sender's name and its event id stand behind the header of 12.
 unfoldable pub is_event : List ℕ → Bool
 is_event p = (message_id p == event_id) && (length p == 44)
 
+-- The name of an event message's sender.
+abbrev pub event_sender : List ℕ → List ℕ
+event_sender p = take 20 (drop 12 p)
+
 -- Whether an entry has the name and the id of an event message.
 unfoldable pub is_matched : List ℕ → EventEntry → Bool
-is_matched p e = is_same (take 20 (drop 12 p)) e.name && (be16_at p 32 == e.id)
+is_matched p e = is_same (event_sender p) e.name && (be16_at p 32 == e.id)
 
 -- The row in a place of the table, from 0.
 abbrev pub row_at : List EventRow → ℕ → EventRow
 row_at rows place = slice_index_or rows place blank_row
+
+-- The name of the entry in a place, where it is used.
+abbrev pub sender_where : Option EventEntry → Option (List ℕ)
+sender_where None = None
+sender_where (Some e) = Some e.name
+
+abbrev pub sender_at : List EventRow → ℕ → Option (List ℕ)
+sender_at rows place = sender_where (entry_of (row_at rows place))
+
+-- The names of all used entries are noted.
+abbrev pub SendersStand : List EventRow → Heads → Type 0
+SendersStand rows senders = AreHeaded (sender_at rows) 16 senders
 
 -- The attempt of an entry in wakeup k, at an event message.
 abbrev pub attempt_of : ℕ → List ℕ → EventEntry → List Happening

@@ -61,11 +61,15 @@ counts_in (Counts rows) = Some rows
 abbrev pub apps_after : Setup → List HsEntry → List AppRow
 apps_after setup entries = in_force apps_in setup.tables.apps entries
 
+-- The event monitors in force behind them.
+abbrev pub events_after : Setup → List HsEntry → List EventRow
+events_after setup entries = in_force events_in setup.tables.events entries
+
 -- All tables in force behind these entries. Message actions are never activated.
 abbrev pub tables_after : Setup → List HsEntry → HsTables
 tables_after setup entries = record {
   apps = apps_after setup entries;
-  events = in_force events_in setup.tables.events entries;
+  events = events_after setup entries;
   counts = in_force counts_in setup.tables.counts entries;
   acts = setup.tables.acts;
 }

@@ -11,7 +11,9 @@ pub mod Attempts
 pub mod Housekeeping
 pub mod Step
 pub mod Cooldowns
+pub mod Heads
 pub mod Entries
+pub mod Renewing
 pub mod State
 pub mod Rows
 pub mod Decoded

@@ -18,6 +18,14 @@ row_at rows place = slice_index_or rows place blank_row
 abbrev pub is_entry : AppRow → Bool
 is_entry row = is_some (entry_of row)
 
+-- The name of the entry in a place, where it is used.
+abbrev pub name_where : Option AppEntry → Option (List ℕ)
+name_where None = None
+name_where (Some e) = Some e.name
+
+abbrev pub name_at : List AppRow → ℕ → Option (List ℕ)
+name_at rows place = name_where (entry_of (row_at rows place))
+
 -- How many places there are up to the last used entry.
 unfoldable pub places_of : List AppRow → ℕ
 places_of [] = 0

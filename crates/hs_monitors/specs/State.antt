@@ -7,11 +7,12 @@ use Rattle.hs_tables.specs.declared.actions.ActRow.{ActRow}
 use Rattle.hs_tables.specs.declared.tables.HsTables.{HsTables}
 use Rattle.hs_actions.specs.Outcomes.{Past}
 use Rattle.hs_actions.specs.State.{ActionsStand, is_cooling}
-use Rattle.hs_monitors.specs.Histories.{HsEntry, Setup, Activation, apps_after}
+use Rattle.hs_monitors.specs.Histories.{HsEntry, Setup, Activation, apps_after, events_after}
 use Rattle.hs_monitors.specs.Histories.Activation.{Apps, Events, Counts}
 use Rattle.hs_monitors.specs.Orders.{orders_of, is_on, is_listening}
 use Rattle.hs_monitors.specs.Watches.{watch_at}
 use Rattle.hs_monitors.specs.Monitors.{places_of}
+use Rattle.hs_monitors.specs.Events.{SendersStand}
 use Rattle.hs_monitors.specs.Attempts.{past_of}
 use Rattle.hs_monitors.specs.Step.{hs_heard}
 use Rattle.hs_monitors.specs.Entries.{KeptStands}
@@ -25,6 +26,7 @@ pub record DutyStands (setup : Setup) (history : List HsEntry) (orders : List In
   pub listening : duty.listening ≡ is_listening (orders_of history ++ orders)
   pub places : duty.places ≡ places_of (apps_after setup history)
   pub kept : KeptStands (apps_after setup history) (watch_at history orders) duty.kept
+  pub senders : SendersStand (events_after setup history) duty.senders
   pub actions : ActionsStand setup.tables.acts past duty.actions
 
 -- The state stands for what it was set up with and a history.

@@ -6,9 +6,11 @@ ghost use Rattle.packet_forms.specs.declared.name.Counter.{Counter};
 ghost use Rattle.hs_tables.specs.Apps.{entry_of};
 ghost use Rattle.hs_tables.specs.declared.apps.AppEntry.{AppEntry};
 ghost use Rattle.hs_actions.specs.Performs.{Performs};
-ghost use Rattle.hs_monitors.specs.Monitors.{row_at, is_entry, places_of, attempt_of, app_attempt};
-ghost use Rattle.hs_monitors.specs.Entries.{EntryStands, EntriesStand};
+ghost use Rattle.hs_monitors.specs.Monitors.{row_at, name_at, is_entry, places_of, attempt_of, app_attempt};
+ghost use Rattle.hs_monitors.specs.Heads.{AreHeaded};
+ghost use Rattle.hs_monitors.specs.Entries.{EntryStands, EntriesStand, HeadsStand};
 
+use crate::heads::Heads;
 use crate::watches::Watched;
 use bus_pipes::Outbox;
 use hs_actions::{Actions, Source};
@@ -37,6 +39,28 @@ fn places_with(apps: &AppMon, place: u32, places: u8) -> u8
     match apps.entry(place + 1) {
         Some(_) => place as u8 + 1,
         None => places,
+    }
+}
+
+/// Where the names of all used entries stand.
+pub(crate) fn heads_of(apps: &AppMon) -> Heads
+    ensures { HeadsStand apps.now result }
+{
+    let mut heads = Heads::none();
+    for place in 0..apps.len() {
+        note(apps, place as u8, &mut heads);
+    }
+    heads
+}
+
+/// Notes the name of the entry in a place, where it is used.
+fn note(apps: &AppMon, place: u8, heads: &mut Heads)
+    requires { place < 32 }
+    ensures { AreHeaded (name_at apps.now) place heads.old
+        → AreHeaded (name_at apps.now) (place + 1) heads.new }
+{
+    if let Some(entry) = apps.entry(place as u32 + 1) {
+        heads.note(place, &entry.name);
     }
 }
 

@@ -7,7 +7,7 @@ ghost use Rattle.hs_tables.specs.declared.tables.HsTables.{HsTables};
 ghost use Rattle.hs_actions.specs.Performs.{Performs};
 ghost use Rattle.hs_monitors.specs.Histories.{HsEntry, Setup, apps_after, setup_of};
 ghost use Rattle.hs_monitors.specs.Monitors.{places_of, app_attempt};
-ghost use Rattle.hs_monitors.specs.Events.{event_attempts};
+ghost use Rattle.hs_monitors.specs.Events.{SendersStand, event_attempts};
 ghost use Rattle.hs_monitors.specs.Attempts.{past_of, past_in};
 ghost use Rattle.hs_monitors.specs.Housekeeping.{watching_bits};
 ghost use Rattle.hs_monitors.specs.Entries.{KeptStands};
@@ -15,23 +15,26 @@ ghost use Rattle.hs_monitors.specs.State.{DutyStands, OnlyCounts, are_idle};
 ghost use Rattle.hs_monitors.specs.declared.instructions.Instruction.{Instruction};
 
 use crate::apps::places_in;
-use crate::events::hear_all;
+use crate::events::{hear_all, senders_of};
+use crate::heads::Heads;
 use crate::housekeeping::{Shown, watching_bits};
 use crate::instructions::Instruction;
 use crate::kept::Kept;
 use bus_pipes::Outbox;
 use hs_actions::Actions;
-use hs_tables::{AppMon, HsTables};
+use hs_tables::{AppMon, EventMon, HsTables};
 use packet_forms::{Counter, Packet};
 
 /// What Health and Safety has to do beside answering: whether application monitoring and event monitoring are on, how many places of the
-/// application monitors there are up to the last used entry and what is kept of each, and the actions.
+/// application monitors there are up to the last used entry and what is kept of each, where the names of the event monitors stand, and the
+/// actions.
 #[derive(Clone, Copy, Debug, PartialEq, Eq)]
 pub(crate) struct Duty {
     monitoring: bool,
     listening: bool,
     places: u8,
     pub(crate) kept: Kept,
+    senders: Heads,
     pub(crate) actions: Actions,
 }
 
@@ -46,6 +49,7 @@ impl Duty {
             listening: true,
             places: places_in(&tables.apps),
             kept: Kept::begun(&tables.apps),
+            senders: senders_of(&tables.events),
             actions: Actions::start(made, max),
         }
     }
@@ -81,6 +85,7 @@ impl Duty {
         ensures monitoring { self.new.monitoring ≡ on }
         ensures listening { self.new.listening ≡ self.old.listening }
         ensures places { self.new.places ≡ self.old.places }
+        ensures senders { self.new.senders ≡ self.old.senders }
         ensures actions { self.new.actions ≡ self.old.actions }
         ensures kept { (checks : List (List Counter))
             → KeptStands apps.now checks self.old.kept
@@ -98,11 +103,20 @@ impl Duty {
         ensures monitoring { self.new.monitoring ≡ self.old.monitoring }
         ensures listening { self.new.listening ≡ self.old.listening }
         ensures places { self.new.places ≡ places_of apps.now }
+        ensures senders { self.new.senders ≡ self.old.senders }
         ensures actions { self.new.actions ≡ self.old.actions }
         ensures kept { KeptStands apps.now [] self.new.kept }
     {
         self.places = places_in(apps);
         self.kept = Kept::begun(apps);
+    }
+
+    /// Takes another table of event monitors.
+    pub(crate) fn take_events(&mut self, events: &EventMon)
+        ensures same { self.new ≡ record self.old { senders = self.new.senders } }
+        ensures senders { SendersStand events.now self.new.senders }
+    {
+        self.senders = senders_of(events);
     }
 
     /// Checks the application monitors, where application monitoring is on.
@@ -115,7 +129,8 @@ impl Duty {
     )
         requires room { length out.old.items + 64 ≤ out.old.room }
         ensures same { (self.new.monitoring ≡ self.old.monitoring)
-            × (self.new.listening ≡ self.old.listening) × (self.new.places ≡ self.old.places) }
+            × (self.new.listening ≡ self.old.listening) × (self.new.places ≡ self.old.places)
+            × (self.new.senders ≡ self.old.senders) }
         ensures kept { (checks : List (List Counter)) → self.old.places ≡ places_of tables.now.apps
             → KeptStands tables.now.apps checks self.old.kept
             → KeptStands tables.now.apps (if self.old.monitoring then checks
@@ -150,8 +165,9 @@ impl Duty {
         requires room { length out.old.items + 1024 ≤ out.old.room }
         ensures same { (self.new.monitoring ≡ self.old.monitoring)
             × (self.new.listening ≡ self.old.listening) × (self.new.places ≡ self.old.places)
-            × (self.new.kept ≡ self.old.kept) }
-        ensures performs { Performs tables.now.acts now (λ k. if self.old.listening
+            × (self.new.kept ≡ self.old.kept) × (self.new.senders ≡ self.old.senders) }
+        ensures performs { SendersStand tables.now.events self.old.senders
+            → Performs tables.now.acts now (λ k. if self.old.listening
             then flat_map (event_attempts k tables.now.events) events.now
             else []) self.old.actions self.new.actions out.old out.new }
         ensures counted { AllPass is_item_counted out.old.items
@@ -162,7 +178,7 @@ impl Duty {
         if !self.listening {
             return;
         }
-        hear_all(tables, events, now, &mut self.actions, out);
+        hear_all(tables, &self.senders, events, now, &mut self.actions, out);
     }
 
     /// What housekeeping shows of them.

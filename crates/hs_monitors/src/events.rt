@@ -3,21 +3,46 @@ ghost use Rattle.std.specs.Prelude.{◌≡◌, ◌+◌, ◌<◌, ◌≤◌, leng
 ghost use Rattle.std.specs.List.{flat_map, AllPass};
 ghost use Rattle.bus_pipes.specs.Counted.{is_item_counted};
 ghost use Rattle.hs_actions.specs.Performs.{Performs};
-ghost use Rattle.hs_monitors.specs.Events.{is_event, is_matched, row_at, event_attempt, event_attempts};
+ghost use Rattle.hs_monitors.specs.Heads.{head_of, AreHeaded};
+ghost use Rattle.hs_monitors.specs.Events.{is_event, event_sender, is_matched, row_at, sender_at, SendersStand, event_attempt, event_attempts};
 
+use crate::heads::{Heads, head_in};
 use crate::watches::is_same;
 use bus_pipes::Outbox;
 use hs_actions::{Actions, Source};
-use hs_tables::{EventEntry, HsTables};
+use hs_tables::{EventEntry, EventMon, HsTables};
 use packet_forms::message_ids::EVENT;
 use packet_forms::{Packet, be16};
 
 /// How many bytes an event message has.
 const EVENT_BYTES: usize = 44;
 
+/// Where the names of all used entries stand.
+pub(crate) fn senders_of(events: &EventMon) -> Heads
+    ensures { SendersStand events.now result }
+{
+    let mut heads = Heads::none();
+    for place in 0..events.len() {
+        note(events, place as u8, &mut heads);
+    }
+    heads
+}
+
+/// Notes the name of the entry in a place, where it is used.
+fn note(events: &EventMon, place: u8, heads: &mut Heads)
+    requires { place < 16 }
+    ensures { AreHeaded (sender_at events.now) place heads.old
+        → AreHeaded (sender_at events.now) (place + 1) heads.new }
+{
+    if let Some(entry) = events.entry(place as u32 + 1) {
+        heads.note(place, &entry.name);
+    }
+}
+
 /// Compares the packets of the event pipe, at most 32, with the entries, and performs the actions of those that match.
 pub(crate) fn hear_all(
     tables: &HsTables,
+    senders: &Heads,
     events: &[Packet],
     now: u32,
     actions: &mut Actions,
@@ -25,7 +50,8 @@ pub(crate) fn hear_all(
 )
     requires few { length events.now ≤ 32 }
     requires room { length out.old.items + 1024 ≤ out.old.room }
-    ensures performs { Performs tables.now.acts now
+    ensures performs { SendersStand tables.now.events senders.now
+        → Performs tables.now.acts now
         (λ k. flat_map (event_attempts k tables.now.events) events.now) actions.old actions.new
         out.old out.new }
     ensures counted { AllPass is_item_counted out.old.items
@@ -37,15 +63,23 @@ pub(crate) fn hear_all(
         return;
     }
     for packet in events {
-        hear(tables, packet, now, actions, out);
+        hear(tables, senders, packet, now, actions, out);
     }
 }
 
 /// Compares a packet of the event pipe with the entries, where it is an event message.
 #[tactic(auto, unfolding(crate::specs::Events::event_attempts))]
-fn hear(tables: &HsTables, packet: &Packet, now: u32, actions: &mut Actions, out: &mut Outbox)
+fn hear(
+    tables: &HsTables,
+    senders: &Heads,
+    packet: &Packet,
+    now: u32,
+    actions: &mut Actions,
+    out: &mut Outbox,
+)
     requires room { length out.old.items + 32 ≤ out.old.room }
-    ensures performs { Performs tables.now.acts now
+    ensures performs { SendersStand tables.now.events senders.now
+        → Performs tables.now.acts now
         (λ k. event_attempts k tables.now.events packet.now) actions.old actions.new
         out.old out.new }
     ensures counted { AllPass is_item_counted out.old.items
@@ -56,12 +90,13 @@ fn hear(tables: &HsTables, packet: &Packet, now: u32, actions: &mut Actions, out
     if !is_event(packet) {
         return;
     }
-    compare_all(tables, packet, now, actions, out);
+    compare_all(tables, senders, packet, now, actions, out);
 }
 
-/// Compares an event message with all entries.
+/// Compares an event message with the entries that may have its sender's name.
 fn compare_all(
     tables: &HsTables,
+    senders: &Heads,
     packet: &Packet,
     now: u32,
     actions: &mut Actions,
@@ -69,7 +104,8 @@ fn compare_all(
 )
     requires message { is_event packet.now ≡ true }
     requires room { length out.old.items + 32 ≤ out.old.room }
-    ensures performs { Performs tables.now.acts now
+    ensures performs { SendersStand tables.now.events senders.now
+        → Performs tables.now.acts now
         (λ k. flat_map (event_attempt k packet.now) tables.now.events) actions.old actions.new
         out.old out.new }
     ensures counted { AllPass is_item_counted out.old.items
@@ -77,9 +113,21 @@ fn compare_all(
     ensures few { length out.new.items ≤ length out.old.items + 32 }
     ensures room { out.new.room ≡ out.old.room }
 {
-    for place in 0..tables.events.len() {
+    let stretch = senders.stretch(sender_head(packet));
+    let end = u32::from(stretch.end).min(tables.events.len());
+    let start = u32::from(stretch.from).min(end);
+    for place in start..end {
         compare(tables, place, packet, now, actions, out);
     }
+}
+
+/// The head of the name of an event message's sender.
+#[inline(always)]
+fn sender_head(packet: &Packet) -> u32
+    requires { length packet.now ≡ 44 }
+    ensures { result ≡ head_of (event_sender packet.now) }
+{
+    head_in(&packet.bytes()[12..32])
 }
 
 /// Compares an event message with the entry in a place, where it is used.

@@ -1,5 +1,5 @@
 //! What is kept of all application monitors together, and their checks.
-ghost use Rattle.std.specs.Prelude.{◌≡◌, ℕ, ◌+◌, ◌<◌, ◌≤◌, List, [], ◌∷◌, ◌++◌, length, Some, nat_lt};
+ghost use Rattle.std.specs.Prelude.{◌≡◌, ℕ, ◌+◌, ◌<◌, ◌≤◌, true, false, List, [], ◌∷◌, ◌++◌, length, Some, nat_lt};
 ghost use Rattle.std.specs.List.{flat_map, AllPass};
 ghost use Rattle.bus_pipes.specs.Counted.{is_item_counted};
 ghost use Rattle.packet_forms.specs.declared.name.Counter.{Counter};
@@ -8,10 +8,11 @@ ghost use Rattle.hs_tables.specs.declared.apps.AppRow.{AppRow};
 ghost use Rattle.hs_tables.specs.declared.apps.AppEntry.{AppEntry};
 ghost use Rattle.hs_actions.specs.Performs.{Performs};
 ghost use Rattle.hs_monitors.specs.Monitors.{row_at, places_of, app_attempt};
-ghost use Rattle.hs_monitors.specs.Entries.{EntryStands, EntriesStand, KeptStands, watched_at, head_of, later, kept_with};
+ghost use Rattle.hs_monitors.specs.Entries.{EntryStands, EntriesStand, KeptStands, watched_at, later, kept_with};
+ghost use Rattle.hs_monitors.specs.Renewing.{IsNth, Renewing};
 
-use crate::apps::{PLACES, begin_all, check_all};
-use crate::heads::{heads_of, is_headed};
+use crate::apps::{PLACES, begin_all, check_all, heads_of};
+use crate::heads::{Heads, head_of};
 use crate::watches::{Watched, counter_in};
 use bus_pipes::Outbox;
 use hs_actions::Actions;
@@ -21,8 +22,8 @@ use packet_forms::Counter;
 /// What is kept of all entries. A check in which no countdown can end takes none of them down and is only counted.
 #[derive(Clone, Copy, Debug, PartialEq, Eq)]
 pub(crate) struct Kept {
-    /// The heads of the entries' names.
-    heads: [u32; PLACES],
+    /// Where the names of the entries stand.
+    heads: Heads,
     /// What is kept of each entry, with a countdown that is too high by the checks that passed.
     watched: [Watched; PLACES],
     /// How many checks passed since the countdowns were taken down.
@@ -71,7 +72,7 @@ impl Kept {
         ensures room { out.new.room ≡ out.old.room }
     {
         if self.passed as u32 + 1 < self.least as u32 {
-            self.pass(&tables.apps, places, counters);
+            self.pass(&tables.apps, counters);
             return;
         }
         self.check_each(tables, places, counters, now, actions, out);
@@ -97,10 +98,9 @@ impl Kept {
 
     /// A check in which no countdown ends: those of entries whose counters changed begin anew.
     #[inline(always)]
-    fn pass(&mut self, apps: &AppMon, places: u8, counters: &[Counter])
+    fn pass(&mut self, apps: &AppMon, counters: &[Counter])
         requires { self.old.passed + 1 < self.old.least }
-        ensures { (checks : List (List Counter)) → places ≡ places_of apps.now
-            → KeptStands apps.now checks self.old
+        ensures { (checks : List (List Counter)) → KeptStands apps.now checks self.old
             → KeptStands apps.now (checks ++ counters.now ∷ []) self.new }
     {
         let passed = self.passed;
@@ -110,7 +110,6 @@ impl Kept {
         }
         self.least = renew_all(
             apps,
-            places,
             &self.heads,
             &mut self.watched,
             counters,
@@ -166,55 +165,94 @@ impl Kept {
 /// is below.
 fn renew_all(
     apps: &AppMon,
-    places: u8,
-    heads: &[u32; PLACES],
+    heads: &Heads,
     watched: &mut [Watched; PLACES],
     counters: &[Counter],
     passed: u16,
     least: u16,
 ) -> u16
     requires { passed + 1 < least }
-    ensures { (checks : List (List Counter)) → places ≡ places_of apps.now
+    ensures { (checks : List (List Counter))
         → KeptStands apps.now checks (kept_with heads.now watched.old passed least)
         → KeptStands apps.now (checks ++ counters.now
         ∷ []) (kept_with heads.now watched.new (passed + 1) result) }
 {
     let mut fewest = least;
-    let end = u32::from(places).min(apps.len());
-    for place in 0..end {
-        let (head, before) = (heads[place as usize], watched[place as usize]);
-        let one = renew(apps, place, head, before, counters, passed);
+    for counter in counters {
+        fewest = renew_named(apps, heads, watched, counter, counters, passed, fewest);
+    }
+    fewest
+}
+
+/// Begins the countdowns of the entries anew that have the name of one of the counters, where their counter changed. Gives a number that no
+/// countdown is below.
+fn renew_named(
+    apps: &AppMon,
+    heads: &Heads,
+    watched: &mut [Watched; PLACES],
+    counter: &Counter,
+    counters: &[Counter],
+    passed: u16,
+    least: u16,
+) -> u16
+    requires { 0 < least }
+    ensures some { 0 < result }
+    ensures renewing { (checks : List (List Counter)) (n most : ℕ) (from : List Watched)
+        → KeptStands apps.now checks (kept_with heads.now from passed most) → passed + 1 < most
+        → IsNth counters.now n counter.now
+        → Renewing apps.now checks counters.now n passed from watched.old least
+        → Renewing apps.now checks counters.now (n + 1) passed from watched.new result }
+{
+    let head = head_of(&counter.name);
+    let stretch = heads.stretch(head);
+    let mut fewest = least;
+    for place in stretch.from..stretch.end.min(PLACES as u8) {
+        let before = watched[place as usize];
+        let one = renew(
+            apps,
+            place,
+            heads.has(place, head),
+            before,
+            counters,
+            passed,
+        );
         watched[place as usize] = one;
         fewest = least_with(fewest, one.countdown);
     }
     fewest
 }
 
-/// Begins the countdown of the entry in a place anew, where its counter changed and it didn't act.
+/// Begins the countdown of the entry in a place anew, where it may have the name of a counter, its counter changed and it didn't act.
 fn renew(
     apps: &AppMon,
-    place: u32,
-    head: u32,
+    place: u8,
+    may: bool,
     watched: Watched,
     counters: &[Counter],
     passed: u16,
 ) -> Watched
     requires { place < 32 }
-    ensures stands { (checks : List (List Counter)) (e : AppEntry)
-        → entry_of (row_at apps.now place) ≡ Some e → head ≡ head_of e.name
+    ensures other { may ≡ false → result ≡ watched }
+    ensures stands { (checks : List (List Counter)) (e : AppEntry) → may ≡ true
+        → entry_of (row_at apps.now place) ≡ Some e
         → (0 < watched.countdown → passed + 1 < watched.countdown)
         → EntryStands e checks (later passed watched)
+        → EntryStands e (checks ++ counters.now ∷ []) (later (passed + 1) result) }
+    ensures again { (checks : List (List Counter)) (e : AppEntry)
+        → entry_of (row_at apps.now place) ≡ Some e
+        → (0 < watched.countdown → passed + 1 < watched.countdown)
+        → EntryStands e (checks ++ counters.now ∷ []) (later (passed + 1) watched)
         → EntryStands e (checks ++ counters.now ∷ []) (later (passed + 1) result) }
     ensures far { (0 < watched.countdown → passed + 1 < watched.countdown)
         → 0 < result.countdown → passed + 1 < result.countdown }
 {
+    if !may {
+        return watched;
+    }
     if watched.countdown == 0 {
         return watched;
     }
-    if !is_headed(counters, head) {
-        return watched;
-    }
-    match apps.entry(place + 1) {
+    match apps.entry(place as u32 + 1) {
         None => watched,
         Some(entry) => renewed(&entry, watched, counters, passed),
     }
@@ -226,6 +264,9 @@ fn renewed(entry: &AppEntry, watched: Watched, counters: &[Counter], passed: u16
     ensures stands { (checks : List (List Counter)) → passed + 1 < watched.countdown
         → EntryStands entry.now checks (later passed watched)
         → EntryStands entry.now (checks ++ counters.now ∷ []) (later (passed + 1) result) }
+    ensures again { (checks : List (List Counter)) → passed + 1 < watched.countdown
+        → EntryStands entry.now (checks ++ counters.now ∷ []) (later (passed + 1) watched)
+        → result ≡ watched }
     ensures far { passed + 1 < watched.countdown → passed + 1 < result.countdown }
 {
     let last = counter_in(counters, &entry.name).unwrap_or(watched.last);

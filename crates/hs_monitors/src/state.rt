@@ -42,7 +42,7 @@ impl Hs {
     {
         match kind {
             TableKind::AppMon => self.duty.take_apps(&tables.apps),
-            TableKind::EventMon => {}
+            TableKind::EventMon => self.duty.take_events(&tables.events),
             TableKind::ExeCount => {}
             TableKind::MsgActs
             | TableKind::Ats(_)

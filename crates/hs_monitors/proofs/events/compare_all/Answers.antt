@@ -1,16 +1,27 @@
-use Rattle.std.proofs.Common.{◌<◌, ◌∙◌, length, refl, arith}
+use Rattle.std.proofs.Common.{◌≡◌, ◌<◌, ◌∙◌, length, take, refl, ap, arith}
+use Rattle.std.specs.List.{flat_map}
 use Rattle.std.proofs.lemmas.List.{get_or_default}
 use Rattle.hs_tables.specs.Events.{blank_row}
-use Rattle.hs_actions.proofs.Series.{performs_begin, performs_front}
-use Rattle.hs_monitors.specs.Events.{row_at, event_attempt}
+use Rattle.hs_actions.proofs.Series.{performs_none, performs_front, performs_same}
+use Rattle.hs_monitors.specs.Heads.{head_of, slot_stretch}
+use Rattle.hs_monitors.specs.Events.{row_at, event_sender, event_attempt}
+use Rattle.hs_monitors.specs.declared.heads.Stretch.{Stretch}
+use Rattle.hs_monitors.proofs.Listening.{unheard_before, unheard_behind}
+use Rattle.hs_monitors.proofs.Performing.{event_long}
 use Rattle.hs_monitors.proofs.events.compare_all.Goals as goal
+
+pub sender_head-requires : goal.sender_head-requires
+sender_head-requires c = event_long c.args.packet.now c.requires.message
 
 pub loop-place-init : goal.loop-place-init
 loop-place-init c = record {
   few = omega arith;
   room = refl;
   counted = λ before. before;
-  performs = performs_begin c.args.tables.now.acts c.args.now (λ k. event_attempt k c.args.packet.now) c.args.tables.now.events c.args.actions.now c.args.out.now;
+  performs = λ stood. performs_none c.args.tables.now.acts c.args.now (λ k. flat_map (event_attempt k c.args.packet.now) (take c.min-start.result c.args.tables.now.events)) c.args.actions.now c.args.out.now (λ k.
+      let stretch_is = c.stretch-stretch.ensures ∙ ap (slot_stretch c.args.senders.now) c.sender_head.ensures in
+      let from : c.stretch-stretch.result.from ≡ (slot_stretch c.args.senders.now (head_of (event_sender c.args.packet.now))).from = ap (λ (s : Stretch). s.from) stretch_is in
+      unheard_before c.args.tables.now.events c.args.senders.now c.args.packet.now stood k c.min-start.result (omega arith) (omega arith) (omega (arith, from)));
 }
 
 pub loop-place-preserved : goal.loop-place-preserved
@@ -22,7 +33,15 @@ loop-place-preserved c =
       few = omega arith;
       room = c.compare.ensures.room ∙ held.room;
       counted = λ before. c.compare.ensures.counted (held.counted before);
-      performs =
+      performs = λ stood.
           performs_front c.args.tables.now.acts c.args.now (λ k. event_attempt k c.args.packet.now) rows c.loop-place.place (row_at rows c.loop-place.place) c.args.actions.now c.loop-place.actions c.compare.new.actions
-          c.args.out.now c.loop-place.out c.compare.new.out within (get_or_default rows c.loop-place.place blank_row (row_at rows c.loop-place.place) within) held.performs c.compare.ensures.performs;
+          c.args.out.now c.loop-place.out c.compare.new.out within (get_or_default rows c.loop-place.place blank_row (row_at rows c.loop-place.place) within) (held.performs stood) c.compare.ensures.performs;
     }
+
+pub returns-clause-performs : goal.returns-clause-performs
+returns-clause-performs c = λ stood. performs_same c.args.tables.now.acts c.args.now (λ k. flat_map (event_attempt k c.args.packet.now) (take c.loop-place.place c.args.tables.now.events)) (λ k. flat_map (event_attempt k c.args.packet.now) c.args.tables.now.events)
+    c.args.actions.now c.loop-place.actions c.args.out.now c.loop-place.out
+    (λ k. unheard_behind c.args.tables.now.events c.args.senders.now c.args.packet.now stood k c.loop-place.place (omega arith) (λ j past within.
+    let stretch_is = c.stretch-stretch.ensures ∙ ap (slot_stretch c.args.senders.now) c.sender_head.ensures in
+    let end : c.stretch-stretch.result.end ≡ (slot_stretch c.args.senders.now (head_of (event_sender c.args.packet.now))).end = ap (λ (s : Stretch). s.end) stretch_is in
+    omega (arith, end, past, within))) (c.loop-place.invariant.performs stood)

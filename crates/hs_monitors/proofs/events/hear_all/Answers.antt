@@ -9,7 +9,7 @@ loop-packet-init c = record {
   few = omega arith;
   room = refl;
   counted = λ before. before;
-  performs = performs_begin c.args.tables.now.acts c.args.now (λ k. event_attempts k c.args.tables.now.events) c.args.events.now c.args.actions.now c.args.out.now;
+  performs = λ stood. performs_begin c.args.tables.now.acts c.args.now (λ k. event_attempts k c.args.tables.now.events) c.args.events.now c.args.actions.now c.args.out.now;
 }
 
 pub loop-packet-preserved : goal.loop-packet-preserved
@@ -19,12 +19,12 @@ loop-packet-preserved c =
       few = omega arith;
       room = c.hear.ensures.room ∙ held.room;
       counted = λ before. c.hear.ensures.counted (held.counted before);
-      performs =
+      performs = λ stood.
           performs_front c.args.tables.now.acts c.args.now (λ k. event_attempts k c.args.tables.now.events) c.args.events.now c.loop-packet.packet-index c.packet-item.result c.args.actions.now c.loop-packet.actions c.hear.new.actions
-          c.args.out.now c.loop-packet.out c.hear.new.out c.loop-packet-test.true c.packet-item.is held.performs c.hear.ensures.performs;
+          c.args.out.now c.loop-packet.out c.hear.new.out c.loop-packet-test.true c.packet-item.is (held.performs stood) (c.hear.ensures.performs stood);
     }
 
 pub returns-then-not-has_entries-clause-performs : goal.returns-then-not-has_entries-clause-performs
-returns-then-not-has_entries-clause-performs c =
+returns-then-not-has_entries-clause-performs c = λ stood.
     performs_none c.args.tables.now.acts c.args.now _ c.args.actions.now c.args.out.now
     (λ k. nothing_heard k c.args.tables.now.events c.args.events.now (sym c.has_entries.ensures ∙ c.if-not-has_entries.true))

@@ -8,7 +8,7 @@ use Rattle.hs_monitors.specs.Entries.{KeptStands}
 use Rattle.hs_monitors.specs.State.{Stands}
 use Rattle.hs_monitors.specs.declared.kept.Kept.{Kept}
 use Rattle.hs_monitors.proofs.Following.{heard_woken}
-use Rattle.hs_monitors.proofs.Waking.{Wakes, woken_stand, woken_items, performs_on, kept_on, kept_in_force, places_on}
+use Rattle.hs_monitors.proofs.Waking.{Wakes, woken_stand, woken_items, performs_on, kept_on, kept_in_force, places_on, senders_on}
 use Rattle.hs_monitors.proofs.state.Hs.advance.Goals as goal
 use Rattle.hs_monitors.proofs.state.Hs.advance.Goals.{After-hear_events}
 
@@ -32,12 +32,13 @@ waking c setup history in_force stood =
       monitoring = c.hear_events.ensures.same.0 ∙ same.0;
       listening = c.hear_events.ensures.same.1 ∙ same.1;
       places = c.hear_events.ensures.same.2 ∙ same.2;
+      senders = c.hear_events.ensures.same.4 ∙ same.3;
       kept =
           subst (λ (ws : Kept). KeptStands (apps_after setup history) (cond before.monitoring (checks ++ counters ∷ []) checks) ws) (sym c.hear_events.ensures.same.3)
           (kept_in_force setup history tables (cond before.monitoring (checks ++ counters ∷ []) checks) middle.kept in_force (c.check_apps.ensures.kept checks places kept));
       performs =
           performs_on setup history tables c.args.now before.monitoring before.listening middle.listening checks counters c.args.input.now.events.now before.actions middle.actions c.hear_events.new.self.actions
-          c.handle_all.new.out c.check_apps.new.out c.hear_events.new.out in_force same.1 (c.check_apps.ensures.performs checks places kept) c.hear_events.ensures.performs;
+          c.handle_all.new.out c.check_apps.new.out c.hear_events.new.out in_force same.1 (c.check_apps.ensures.performs checks places kept) (c.hear_events.ensures.performs (senders_on setup history tables before.senders middle.senders in_force same.3 at.senders));
     }
 
 pub returns-clause-stands : goal.returns-clause-stands

@@ -15,7 +15,7 @@ returns-clause-stands c = λ setup history i quiet silent alone stood.
     let cool = c.requires.cool setup.tables.acts (past_of setup history) stood.duty.actions in
     let on = sym stood.duty.monitoring ∙ c.requires.on in
     let none = counted_attempts setup history i quiet silent alone cool on kept stood.duty.kept c.requires.soon in
-    quiet_stands setup history i quiet cool none c.args.self.now _ refl refl refl refl refl
+    quiet_stands setup history i quiet cool none c.args.self.now _ refl refl refl refl refl refl
     (subst (KeptStands (apps_after setup (history ++ Woken i ∷ [])) (watch_at (history ++ Woken i ∷ []) [])) (sym c.count.ensures)
     (counted_kept setup history i quiet silent alone cool on kept stood.duty.kept c.requires.soon))
     stood

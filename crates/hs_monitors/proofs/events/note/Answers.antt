@@ -1,0 +1,19 @@
+use Rattle.std.proofs.Common.{◌≡◌, ℕ, ◌+◌, ◌-◌, sym, ap, ◌∙◌, arith}
+use Rattle.hs_tables.specs.Events.{entry_of}
+use Rattle.hs_monitors.specs.Events.{row_at, sender_where, sender_at}
+use Rattle.hs_monitors.proofs.Noting.{noted_unnamed}
+use Rattle.hs_monitors.proofs.events.note.Goals as goal
+
+pub returns-in-Some : goal.returns-in-Some
+returns-in-Some c = λ stood.
+    let rows = c.args.events.now in
+    let back : c.args.place + 1 - 1 ≡ c.args.place = omega arith in
+    let found = c.entry.ensures.entry ∙ ap (λ (n : ℕ). entry_of (row_at rows n)) back in
+    c.note.ensures (sender_at rows) (ap sender_where (sym found ∙ c.in-Some.is)) stood
+
+pub returns-in_default : goal.returns-in_default
+returns-in_default c = λ stood.
+    let rows = c.args.events.now in
+    let back : c.args.place + 1 - 1 ≡ c.args.place = omega arith in
+    let found = c.entry.ensures.entry ∙ ap (λ (n : ℕ). entry_of (row_at rows n)) back in
+    noted_unnamed (sender_at rows) c.args.place c.args.heads.now (ap sender_where (sym found ∙ c.in_default.is)) stood
