@@ -1,5 +1,5 @@
 -- The entries that an event message needn't be compared with.
-use Rattle.std.proofs.Common.{◌≡◌, ◌≢◌, ◌⊎◌, ℕ, zero, suc, ◌<◌, ◌≤◌, Bool, false, ◌&&◌, List, [], ◌∷◌, ◌++◌, length, take, inl, inr, Option, Some, None, refl, sym, ap, subst, arith}
+use Rattle.std.proofs.Common.{◌≡◌, ◌≢◌, ◌⊎◌, ℕ, zero, suc, ◌<◌, ◌≤◌, Bool, false, ◌&&◌, List, [], ◌∷◌, ◌++◌, length, take, get_or, inl, inr, Option, Some, None, refl, sym, ap, subst, ◌∙◌, arith}
 use Rattle.std.specs.Prelude.{◌==◌}
 use Rattle.std.specs.List.{flat_map}
 use Rattle.packet_forms.specs.Numbers.{be16_at}
@@ -29,26 +29,32 @@ quiet_rest f (row ∷ rows) (suc i) quiet = ap (λ (more : List Happening). f ro
 
 -- the places in which no entry has the name of an event's sender
 module _ (rows : List EventRow) (senders : Heads) (p : List ℕ) (stood : SendersStand rows senders) (k : ℕ) where
-  outside : (j : ℕ) → j < 16 → (j < (slot_stretch senders (head_of (event_sender p))).from) ⊎ ((slot_stretch senders (head_of (event_sender p))).end ≤ j) → event_attempt k p (row_at rows j) ≡ []
+  -- an entry whose name has another head
+  quiet_at : (j : ℕ) → ((e : EventEntry) → entry_of (row_at rows j) ≡ Some e → head_of (event_sender p) ≢ head_of e.name) → event_attempt k p (row_at rows j) ≡ []
   unfolding is_matched
-  outside j within out = by_entry (entry_of (row_at rows j)) refl
+  quiet_at j apart = by_entry (entry_of (row_at rows j)) refl
     where
-      apart : (e : EventEntry) → entry_of (row_at rows j) ≡ Some e → head_of (event_sender p) ≢ head_of e.name
-      apart e is same =
-          let noted = stood.each j e.name within (ap sender_where is) in
-          let low = subst (λ (h : ℕ). (slot_stretch senders h).from ≤ j) (sym same) noted.from in
-          let high = subst (λ (h : ℕ). j < (slot_stretch senders h).end) (sym same) noted.end in
-          elim out [
-            | inl before ↦ omega (arith, before, low)
-            | inr behind ↦ omega (arith, behind, high)
-          ]
-
       other : (e : EventEntry) → entry_of (row_at rows j) ≡ Some e → is_matched p e ≡ false
       other e is = ap (λ (b : Bool). b && (be16_at p 32 == e.id)) (others_differ head_of (event_sender p) e.name (apart e is))
 
       by_entry : (found : Option EventEntry) → entry_of (row_at rows j) ≡ found → event_attempt k p (row_at rows j) ≡ []
       by_entry None is = event_none (row_at rows j) None p k (sym is) refl
       by_entry (Some e) is = event_other (row_at rows j) (Some e) e p (is_matched p e) k (sym is) refl refl (other e is)
+
+  -- by the heads that are noted
+  pub unheard_at : (j : ℕ) → j < 16 → get_or senders.heads j 0 ≢ head_of (event_sender p) → event_attempt k p (row_at rows j) ≡ []
+  unheard_at j within apart = quiet_at j (λ e is same. apart ((stood.each j e.name within (ap sender_where is)).head ∙ sym same))
+
+  -- by the places of the sender's slot
+  outside : (j : ℕ) → j < 16 → (j < (slot_stretch senders (head_of (event_sender p))).from) ⊎ ((slot_stretch senders (head_of (event_sender p))).end ≤ j) → event_attempt k p (row_at rows j) ≡ []
+  outside j within out = quiet_at j (λ e is same.
+      let noted = stood.each j e.name within (ap sender_where is) in
+      let low = subst (λ (h : ℕ). (slot_stretch senders h).from ≤ j) (sym same) noted.from in
+      let high = subst (λ (h : ℕ). j < (slot_stretch senders h).end) (sym same) noted.end in
+      elim out [
+        | inl before ↦ omega (arith, before, low)
+        | inr behind ↦ omega (arith, behind, high)
+      ])
 
   -- before the first place
   pub unheard_before : (i : ℕ) → i ≤ length rows → i ≤ 16 → i ≤ (slot_stretch senders (head_of (event_sender p))).from → flat_map (event_attempt k p) (take i rows) ≡ []

@@ -13,7 +13,7 @@ abbrev pub noted_in : List ℕ → List Stretch → Heads
 noted_in heads stretches = record { heads = heads; stretches = stretches }
 
 -- no place
-pub noted_none : (named : ℕ → Option (List ℕ)) (heads : Heads) → length heads.heads ≡ 32 → length heads.stretches ≡ 61 → AreHeaded named 0 heads
+pub noted_none : (named : ℕ → Option (List ℕ)) (heads : Heads) → length heads.heads ≡ 32 → length heads.stretches ≡ 251 → AreHeaded named 0 heads
 noted_none named heads long wide = record { long = (long, wide); each = λ k name below is. absurd (omega arith) }
 
 -- a place without a name
@@ -32,7 +32,7 @@ noted_unnamed named place heads none stood = record {
     apart name e = cc
 
 -- one with a name, by the places that its slot has then
-module _ (named : ℕ → Option (List ℕ)) (place : ℕ) (name : List ℕ) (old : Heads) (is : named place ≡ Some name) (below : place < 32) (slot : ℕ) (slot_is : slot ≡ head_of name % 61) (within : slot < 61)
+module _ (named : ℕ → Option (List ℕ)) (place : ℕ) (name : List ℕ) (old : Heads) (is : named place ≡ Some name) (below : place < 32) (slot : ℕ) (slot_is : slot ≡ head_of name % 251) (within : slot < 251)
     (stretch : Stretch) (from : stretch.from ≤ place) (end : place < stretch.end) (others : (k : ℕ) → (stretch_at old.stretches slot).from ≤ k → k < (stretch_at old.stretches slot).end → (stretch.from ≤ k) × (k < stretch.end))
     (stood : AreHeaded named place old) where
   stretches : List Stretch
@@ -50,8 +50,8 @@ module _ (named : ℕ → Option (List ℕ)) (place : ℕ) (name : List ℕ) (ol
   earlier : (k : ℕ) (known : List ℕ) → k ≢ place → IsHeaded old k known → IsHeaded (noted_in (set old.heads place (head_of name)) stretches) k known
   earlier k known apart noted = record {
     head = get_or-set_other old.heads place k (head_of name) 0 apart ∙ noted.head;
-    from = (places (head_of known % 61) noted.from noted.end).0;
-    end = (places (head_of known % 61) noted.from noted.end).1;
+    from = (places (head_of known % 251) noted.from noted.end).0;
+    end = (places (head_of known % 251) noted.from noted.end).1;
   }
     where
       places : (at : ℕ) → (stretch_at old.stretches at).from ≤ k → k < (stretch_at old.stretches at).end → ((stretch_at stretches at).from ≤ k) × (k < (stretch_at stretches at).end)
@@ -65,7 +65,7 @@ module _ (named : ℕ → Option (List ℕ)) (place : ℕ) (name : List ℕ) (ol
   -- this one
   here : IsHeaded (noted_in (set old.heads place (head_of name)) stretches) place name
   here =
-      let same = in_slot (head_of name % 61) (sym slot_is) in
+      let same = in_slot (head_of name % 251) (sym slot_is) in
       record {
         head = get_or-set_same old.heads place (head_of name) 0 (let long = stood.long.0 in omega arith);
         from = subst (λ (s : Stretch). s.from ≤ place) (sym same) from;

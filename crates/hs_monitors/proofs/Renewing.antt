@@ -1,5 +1,5 @@
 -- The countdowns that begin anew, counter by counter.
-use Rattle.std.proofs.Common.{◌≡◌, ◌≢◌, ℕ, ◌+◌, ◌<◌, ◌≤◌, List, [], ◌∷◌, ◌++◌, length, get_or, set, inl, inr, Some, refl, sym, ap, subst, ◌∙◌, arith}
+use Rattle.std.proofs.Common.{◌≡◌, ℕ, ◌+◌, ◌<◌, ◌≤◌, List, [], ◌∷◌, ◌++◌, length, get_or, set, inl, inr, Some, refl, sym, ap, subst, ◌∙◌, arith}
 use Rattle.std.proofs.lemmas.Bool.{cases_eq}
 use Rattle.std.proofs.lemmas.List.{get_or-set_same, get_or-set_other}
 use Rattle.packet_forms.specs.declared.name.Counter.{Counter}
@@ -55,7 +55,7 @@ module _ (rows : List AppRow) (checks : List (List Counter)) (counters : List Co
   }
 
   -- the head that is noted of an entry
-  noted_head : (k : ℕ) (e : AppEntry) → k < 32 → entry_of (row_at rows k) ≡ Some e → get_or heads.heads k 0 ≡ head_of e.name
+  pub noted_head : (k : ℕ) (e : AppEntry) → k < 32 → entry_of (row_at rows k) ≡ Some e → get_or heads.heads k 0 ≡ head_of e.name
   noted_head k e within is = (stood.heads.each k e.name within (ap name_where is)).head
 
   -- one entry more, at a counter
@@ -67,17 +67,13 @@ module _ (rows : List AppRow) (checks : List (List Counter)) (counters : List Co
         let far = turning.above in
         omega (arith, most_of, far)
 
-    module _ (place : ℕ) (one : Watched) (next head : ℕ) (long : length before ≡ 32) (inside : place < 32) (less : next ≤ fewest) (here : 0 < one.countdown → next ≤ one.countdown) (above : passed + 1 < next)
-        (other : get_or heads.heads place 0 ≢ head → one ≡ watched_at before place)
-        (stands : (e : AppEntry) → get_or heads.heads place 0 ≡ head → entry_of (row_at rows place) ≡ Some e → Before e (watched_at before place) → Stood e one)
+    module _ (place : ℕ) (one : Watched) (next : ℕ) (long : length before ≡ 32) (inside : place < 32) (less : next ≤ fewest) (here : 0 < one.countdown → next ≤ one.countdown) (above : passed + 1 < next)
+        (stands : (e : AppEntry) → entry_of (row_at rows place) ≡ Some e → Before e (watched_at before place) → Stood e one)
         (again : (e : AppEntry) → entry_of (row_at rows place) ≡ Some e → Stood e (watched_at before place) → Stood e one) where
-      turned_here : (e : AppEntry) → entry_of (row_at rows place) ≡ Some e → Turned checks counters n passed e (watched_at from place) one
+      pub turned_here : (e : AppEntry) → entry_of (row_at rows place) ≡ Some e → Stood e one
       turned_here e is = elim (turning.each place e inside is) [
-        | inl done ↦ inl (again e is done)
-        | inr left ↦ elim (cases_eq (get_or heads.heads place 0) head) [
-          | inl headed ↦ inl (stands e headed is (subst (Before e) (sym left.0) (stood.each place e inside is)))
-          | inr apart ↦ inr (other apart ∙ left.0, left.1)
-        ]
+        | inl done ↦ again e is done
+        | inr left ↦ stands e is (subst (Before e) (sym left.0) (stood.each place e inside is))
       ]
 
       pub renewing_more : Renewing rows checks counters n passed from (set before place one) next
@@ -85,7 +81,7 @@ module _ (rows : List AppRow) (checks : List (List Counter)) (counters : List Co
         each = λ k e within is. elim (cases_eq place k) [
           | inl same ↦
               subst (λ (j : ℕ). entry_of (row_at rows j) ≡ Some e → Turned checks counters n passed e (watched_at from j) (watched_at (set before place one) j)) same
-              (λ known. subst (Turned checks counters n passed e (watched_at from place)) (sym (get_or-set_same before place one no_watch (omega arith))) (turned_here e known)) is
+              (λ known. subst (Turned checks counters n passed e (watched_at from place)) (sym (get_or-set_same before place one no_watch (omega arith))) (inl (turned_here e known))) is
           | inr apart ↦
               subst (Turned checks counters n passed e (watched_at from k)) (sym (get_or-set_other before place k one no_watch (λ back. apart (sym back)))) (turning.each k e within is)
         ];
@@ -99,13 +95,6 @@ module _ (rows : List AppRow) (checks : List (List Counter)) (counters : List Co
         ];
         above = above;
       }
-
-      -- an entry of the counter's name
-      pub named_here : (e : AppEntry) → head_of e.name ≡ head → entry_of (row_at rows place) ≡ Some e → Stood e one
-      named_here e headed is = elim (turning.each place e inside is) [
-        | inl done ↦ again e is done
-        | inr left ↦ stands e (noted_head place e inside is ∙ headed) is (subst (Before e) (sym left.0) (stood.each place e inside is))
-      ]
 
     -- once all places of the counter's name were looked at
     pub renewing_next : (c : Counter) → IsNth counters n c

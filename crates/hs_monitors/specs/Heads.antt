@@ -14,7 +14,7 @@ stretch_at stretches slot = slice_index_or stretches slot (record { from = 0; en
 
 -- Those of the slot of a head.
 abbrev pub slot_stretch : Heads → ℕ → Stretch
-slot_stretch heads head = stretch_at heads.stretches (head % 61)
+slot_stretch heads head = stretch_at heads.stretches (head % 251)
 
 -- The name in a place is noted: its head stands there, and the places of its slot have the place.
 pub record IsHeaded (heads : Heads) (place : ℕ) (name : List ℕ) : Type 0 where
@@ -24,5 +24,5 @@ pub record IsHeaded (heads : Heads) (place : ℕ) (name : List ℕ) : Type 0 whe
 
 -- The names in the first places are noted, and no places behind these.
 pub record AreHeaded (named : ℕ → Option (List ℕ)) (places : ℕ) (heads : Heads) : Type 0 where
-  pub long : (length heads.heads ≡ 32) × (length heads.stretches ≡ 61)
+  pub long : (length heads.heads ≡ 32) × (length heads.stretches ≡ 251)
   pub each : (k : ℕ) (name : List ℕ) → k < places → named k ≡ Some name → IsHeaded heads k name

@@ -113,10 +113,14 @@ fn compare_all(
     ensures few { length out.new.items ≤ length out.old.items + 32 }
     ensures room { out.new.room ≡ out.old.room }
 {
-    let stretch = senders.stretch(sender_head(packet));
+    let head = sender_head(packet);
+    let stretch = senders.stretch(head);
     let end = u32::from(stretch.end).min(tables.events.len());
     let start = u32::from(stretch.from).min(end);
     for place in start..end {
+        if !senders.has(place as u8, head) {
+            continue;
+        }
         compare(tables, place, packet, now, actions, out);
     }
 }

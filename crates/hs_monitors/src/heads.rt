@@ -8,7 +8,7 @@ use packet_forms::{Name, be32};
 const PLACES: usize = 32;
 
 /// How many slots there are. A name's slot is what its head leaves, divided by their number, which is a prime.
-const SLOTS: usize = 61;
+const SLOTS: usize = 251;
 
 /// Places of a table: `from` and those behind it, before `end`.
 #[derive(Clone, Copy, Debug, PartialEq, Eq)]
@@ -108,7 +108,7 @@ pub(crate) fn head_in(bytes: &[u8]) -> u32
 /// The slot of a head.
 #[inline(always)]
 fn slot_of(head: u32) -> usize
-    ensures slot { result ≡ head % 61 }
+    ensures slot { result ≡ head % 251 }
     ensures within { result < SLOTS }
 {
     head as usize % SLOTS

@@ -207,33 +207,20 @@ fn renew_named(
     let stretch = heads.stretch(head);
     let mut fewest = least;
     for place in stretch.from..stretch.end.min(PLACES as u8) {
-        let before = watched[place as usize];
-        let one = renew(
-            apps,
-            place,
-            heads.has(place, head),
-            before,
-            counters,
-            passed,
-        );
+        if !heads.has(place, head) {
+            continue;
+        }
+        let one = renew(apps, place, watched[place as usize], counters, passed);
         watched[place as usize] = one;
         fewest = least_with(fewest, one.countdown);
     }
     fewest
 }
 
-/// Begins the countdown of the entry in a place anew, where it may have the name of a counter, its counter changed and it didn't act.
-fn renew(
-    apps: &AppMon,
-    place: u8,
-    may: bool,
-    watched: Watched,
-    counters: &[Counter],
-    passed: u16,
-) -> Watched
+/// Begins the countdown of the entry in a place anew, where its counter changed and it didn't act.
+fn renew(apps: &AppMon, place: u8, watched: Watched, counters: &[Counter], passed: u16) -> Watched
     requires { place < 32 }
-    ensures other { may ≡ false → result ≡ watched }
-    ensures stands { (checks : List (List Counter)) (e : AppEntry) → may ≡ true
+    ensures stands { (checks : List (List Counter)) (e : AppEntry)
         → entry_of (row_at apps.now place) ≡ Some e
         → (0 < watched.countdown → passed + 1 < watched.countdown)
         → EntryStands e checks (later passed watched)
@@ -246,9 +233,6 @@ fn renew(
     ensures far { (0 < watched.countdown → passed + 1 < watched.countdown)
         → 0 < result.countdown → passed + 1 < result.countdown }
 {
-    if !may {
-        return watched;
-    }
     if watched.countdown == 0 {
         return watched;
     }

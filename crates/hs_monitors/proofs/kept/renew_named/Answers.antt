@@ -1,4 +1,5 @@
-use Rattle.std.proofs.Common.{◌≡◌, ◌≢◌, ◌<◌, ◌≤◌, ◌+◌, ℕ, [], ◌∷◌, ◌++◌, Some, get_or, sym, ap, subst, ◌∙◌, arith, ne_eqb, eq-eqb}
+use Rattle.std.proofs.Common.{◌≡◌, ◌≢◌, ◌<◌, ◌≤◌, ◌+◌, ℕ, [], ◌∷◌, ◌++◌, Some, get_or, inl, inr, sym, ap, subst, ◌∙◌, arith}
+use Rattle.std.proofs.lemmas.Bool.{cases_eq, eqb-false}
 use Rattle.std.proofs.lemmas.List.{length-set}
 use Rattle.hs_tables.specs.Apps.{entry_of}
 use Rattle.hs_tables.specs.declared.apps.AppEntry.{AppEntry}
@@ -8,7 +9,7 @@ use Rattle.hs_monitors.specs.Entries.{EntryStands, watched_at, later}
 use Rattle.hs_monitors.specs.declared.heads.Stretch.{Stretch}
 use Rattle.hs_monitors.specs.declared.watches.Watched.{Watched}
 use Rattle.hs_monitors.proofs.Passing.{set_more_from}
-use Rattle.hs_monitors.proofs.Renewing.{far_off, renewing_more, named_here, renewing_next}
+use Rattle.hs_monitors.proofs.Renewing.{far_off, noted_head, renewing_more, turned_here, renewing_next}
 use Rattle.hs_monitors.proofs.kept.renew_named.Goals as goal
 
 pub loop-place-init : goal.loop-place-init
@@ -21,6 +22,28 @@ loop-place-init c = record {
         let first : c.stretch-stretch.result.from ≡ (slot_stretch c.args.heads.now c.head_of-head.result).from = ap (λ (s : Stretch). s.from) c.stretch-stretch.ensures in
         absurd (omega (arith, first, low, below))),
   );
+}
+
+pub loop-place-preserved-then-not-has : goal.loop-place-preserved-then-not-has
+loop-place-preserved-then-not-has c = record {
+  long = c.loop-place.invariant.long;
+  some = c.loop-place.invariant.some;
+  renewing = λ checks n most from stood soon nth turning.
+      let heads = c.args.heads.now in
+      let place = c.loop-place.place in
+      let head = c.head_of-head.result in
+      let held = c.loop-place.invariant.renewing checks n most from stood soon nth turning in
+      let apart : get_or heads.heads place 0 ≢ head = eqb-false (get_or heads.heads place 0) head (sym c.has.ensures ∙ c.if-not-has.true) in (
+        held.0,
+        (λ k e low below headed is. elim (cases_eq k place) [
+          | inl same ↦
+              let inside : k < 32 = omega (arith, same) in
+              absurd (apart (sym (ap (λ (j : ℕ). get_or heads.heads j 0) same) ∙ noted_head c.args.apps.now checks c.args.counters.now c.args.passed most heads from stood soon k e inside is ∙ headed))
+          | inr other ↦
+              let other_place : k ≢ place = other in
+              held.1 k e low (omega (arith, other_place, below)) headed is
+        ]),
+      );
 }
 
 pub loop-place-preserved : goal.loop-place-preserved
@@ -37,23 +60,21 @@ loop-place-preserved c = record {
       let fewest = c.loop-place.fewest in
       let one = c.renew-one.result in
       let next = c.least_with-fewest.result in
-      let head = c.head_of-head.result in
       let inside : place < 32 = omega arith in
       let held = c.loop-place.invariant.renewing checks n most from stood soon nth turning in
       let far = far_off rows checks counters passed most heads from stood soon n before fewest held.0 place inside in
       let above = c.least_with-fewest.ensures.above (passed + 1) held.0.above (c.renew-one.ensures.far far) in
-      let other : get_or heads.heads place 0 ≢ head → one ≡ watched_at before place = λ apart. c.renew-one.ensures.other (c.has.ensures ∙ ne_eqb (get_or heads.heads place 0) head apart) in
-      let stands : (e : AppEntry) → get_or heads.heads place 0 ≡ head → entry_of (row_at rows place) ≡ Some e → EntryStands e checks (later passed (watched_at before place)) → EntryStands e (checks ++ counters ∷ []) (later (passed + 1) one) =
-      λ e headed is. c.renew-one.ensures.stands checks e (c.has.ensures ∙ eq-eqb (get_or heads.heads place 0) head headed) is far
+      let stands : (e : AppEntry) → entry_of (row_at rows place) ≡ Some e → EntryStands e checks (later passed (watched_at before place)) → EntryStands e (checks ++ counters ∷ []) (later (passed + 1) one) =
+      λ e is. c.renew-one.ensures.stands checks e is far
       in
       let again : (e : AppEntry) → entry_of (row_at rows place) ≡ Some e → EntryStands e (checks ++ counters ∷ []) (later (passed + 1) (watched_at before place)) → EntryStands e (checks ++ counters ∷ []) (later (passed + 1) one) =
       λ e is. c.renew-one.ensures.again checks e is far
       in (
-        renewing_more rows checks counters passed most heads from stood soon n before fewest held.0 place one next head c.loop-place.invariant.long inside c.least_with-fewest.ensures.before c.least_with-fewest.ensures.here above other stands again,
+        renewing_more rows checks counters passed most heads from stood soon n before fewest held.0 place one next c.loop-place.invariant.long inside c.least_with-fewest.ensures.before c.least_with-fewest.ensures.here above stands again,
         (λ k e low below headed is.
-            set_more_from (slot_stretch heads head).from (λ (j : ℕ) (w : Watched). entry_of (row_at rows j) ≡ Some e → EntryStands e (checks ++ counters ∷ []) (later (passed + 1) w)) before place one (omega (arith, c.loop-place.invariant.long, inside))
+            set_more_from (slot_stretch heads c.head_of-head.result).from (λ (j : ℕ) (w : Watched). entry_of (row_at rows j) ≡ Some e → EntryStands e (checks ++ counters ∷ []) (later (passed + 1) w)) before place one (omega (arith, c.loop-place.invariant.long, inside))
             (λ j from_on before_it known. held.1 j e from_on before_it headed known)
-            (λ known. named_here rows checks counters passed most heads from stood soon n before fewest held.0 place one next head c.loop-place.invariant.long inside c.least_with-fewest.ensures.before c.least_with-fewest.ensures.here above other stands again e headed known)
+            (turned_here rows checks counters passed most heads from stood soon n before fewest held.0 place one next c.loop-place.invariant.long inside c.least_with-fewest.ensures.before c.least_with-fewest.ensures.here above stands again e)
             k low below is),
       );
 }
