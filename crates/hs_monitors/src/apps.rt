@@ -42,46 +42,33 @@ fn places_with(apps: &AppMon, place: u32, places: u8) -> u8
     }
 }
 
-/// Where the names of all used entries stand.
-pub(crate) fn heads_of(apps: &AppMon) -> Heads
-    ensures { HeadsStand apps.now result }
-{
-    let mut heads = Heads::none();
-    for place in 0..apps.len() {
-        note(apps, place as u8, &mut heads);
-    }
-    heads
-}
-
-/// Notes the name of the entry in a place, where it is used.
-fn note(apps: &AppMon, place: u8, heads: &mut Heads)
-    requires { place < 32 }
-    ensures { AreHeaded (name_at apps.now) place heads.old
-        → AreHeaded (name_at apps.now) (place + 1) heads.new }
-{
-    if let Some(entry) = apps.entry(place as u32 + 1) {
-        heads.note(place, &entry.name);
-    }
-}
-
-/// What is kept of all entries before the first check of a watch.
-pub(crate) fn begin_all(apps: &AppMon) -> [Watched; PLACES]
-    ensures stands { EntriesStand apps.now (λ place. []) result }
+/// What is kept of all entries before the first check of a watch, and where their names stand.
+pub(crate) fn begin_all(apps: &AppMon) -> ([Watched; PLACES], Heads)
+    ensures stands { EntriesStand apps.now (λ place. []) result.0 }
+    ensures heads { HeadsStand apps.now result.1 }
     ensures whole { length apps.now ≡ 32 }
 {
     let mut kept = [Watched::UNUSED; PLACES];
+    let mut heads = Heads::none();
     for place in 0..apps.len() {
-        kept[place as usize] = begin(apps, place);
+        kept[place as usize] = begin(apps, place as u8, &mut heads);
     }
-    kept
+    (kept, heads)
 }
 
-fn begin(apps: &AppMon, place: u32) -> Watched
+/// What is kept of the entry in a place; its name is noted, where it is used.
+fn begin(apps: &AppMon, place: u8, heads: &mut Heads) -> Watched
     requires { place < 32 }
-    ensures { (e : AppEntry) → entry_of (row_at apps.now place) ≡ Some e → EntryStands e [] result }
+    ensures stands { (e : AppEntry) → entry_of (row_at apps.now place) ≡ Some e
+        → EntryStands e [] result }
+    ensures heads { AreHeaded (name_at apps.now) place heads.old
+        → AreHeaded (name_at apps.now) (place + 1) heads.new }
 {
-    match apps.entry(place + 1) {
-        Some(entry) => Watched::begun(&entry),
+    match apps.entry(place as u32 + 1) {
+        Some(entry) => {
+            heads.note(place, &entry.name);
+            Watched::begun(&entry)
+        }
         None => Watched::UNUSED,
     }
 }

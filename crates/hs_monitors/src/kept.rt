@@ -11,7 +11,7 @@ ghost use Rattle.hs_monitors.specs.Monitors.{row_at, places_of, app_attempt};
 ghost use Rattle.hs_monitors.specs.Entries.{EntryStands, EntriesStand, KeptStands, watched_at, later, kept_with};
 ghost use Rattle.hs_monitors.specs.Renewing.{IsNth, Renewing};
 
-use crate::apps::{PLACES, begin_all, check_all, heads_of};
+use crate::apps::{PLACES, begin_all, check_all};
 use crate::heads::{Heads, head_of};
 use crate::watches::{Watched, counter_in};
 use bus_pipes::Outbox;
@@ -37,10 +37,10 @@ impl Kept {
     pub(crate) fn begun(apps: &AppMon) -> Kept
         ensures { KeptStands apps.now [] result }
     {
-        let watched = begin_all(apps);
+        let (watched, heads) = begin_all(apps);
         let least = least_of(&watched);
         Kept {
-            heads: heads_of(apps),
+            heads,
             watched,
             passed: 0,
             least,

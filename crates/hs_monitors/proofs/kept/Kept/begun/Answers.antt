@@ -3,4 +3,4 @@ use Rattle.hs_monitors.proofs.kept.Kept.begun.Goals as goal
 
 pub returns : goal.returns
 returns c =
-    just_kept c.args.apps.now _ c.heads_of.result c.begin_all-watched.result c.least_of-least.result c.begin_all-watched.ensures.whole c.heads_of.ensures c.begin_all-watched.ensures.stands c.least_of-least.ensures.some c.least_of-least.ensures.least
+    just_kept c.args.apps.now _ c.begin_all.result.1 c.begin_all.result.0 c.least_of-least.result c.begin_all.ensures.whole c.begin_all.ensures.heads c.begin_all.ensures.stands c.least_of-least.ensures.some c.least_of-least.ensures.least
